@@ -1,0 +1,6 @@
+pub mod Facts
+pub mod Digits
+pub mod Order
+pub mod Choice
+pub mod Total
+pub mod RowLaws

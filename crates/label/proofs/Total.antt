@@ -1,0 +1,267 @@
+-- Labels whose digits are 1 to 5 and of which no three close a ring are in a total order, with their stations (document 01, 13; the paper's Lemma 4.2).
+use mathlib.Core.Path.{_≡_, refl, sym, _∙_, ap}
+use mathlib.Core.Logic.{_≢_, _⊎_, inl, inr, by-cases}
+use mathlib.Core.Bool.{Bool, true, false, not, _&&_, _||_, true≢false}
+use Prim.Native.Nat.{ℕ, zero, suc, _-_, _≤_, _<_}
+use native.Mathlib.Decide.{ℕ-discrete}
+use native.Mathlib.Omega.{arith}
+use lib.Dec.{ltb, eqb}
+use borrow.Author.Tests.{ltb-true, eqb-true, lt-ltb, le-ltb, eq-eqb, ne-eqb, not-true, not-false}
+use mathlib.Core.List.{List, [], _∷_}
+use Rattle.label.specs.Tests.{every, newest, inserted, ordered, All}
+use Rattle.label.specs.Labels.{Label, below, agrees, firstDifference, labelBelow, labelBefore}
+use Rattle.label.proofs.Facts.{tf, both, and-both, every-all, every-at, First, first, inserted-all, ordered-all}
+use Rattle.label.proofs.Digits.{Tri, lt, eq, gt, compare, Below, below-small}
+use Rattle.label.proofs.Order.{Agree, agrees-true, agree-agrees, Lt, before-less, before-same}
+
+pub record Ringless (m : ℕ) (t : ℕ → Label) : Type 0 where
+  pub valid : (i p : ℕ) → i ≤ m → p < m → (1 ≤ t i p) × (t i p ≤ 5)
+  pub free : (i j k p : ℕ) → i ≤ m → j ≤ m → k ≤ m → p < m → Agree p (t i) (t j) → Agree p (t j) (t k) → t i p ≡ 3 → t j p ≡ 4 → t k p ≡ 5 → ⊥
+
+-- a test on pairs of stations that orders the first n of them
+pub record Total (n : ℕ) (b : ℕ → ℕ → Bool) : Type 0 where
+  pub irrefl : (i : ℕ) → i < n → b i i ≡ false
+  pub trans : (i j k : ℕ) → i < n → j < n → k < n → b i j ≡ true → b j k ≡ true → b i k ≡ true
+  pub connex : (i j : ℕ) → i < n → j < n → i ≢ j → (b i j ≡ true) ⊎ (b j i ≡ true)
+
+pub or-cases : (x y : Bool) → (x || y) ≡ true → (x ≡ true) ⊎ (y ≡ true)
+or-cases true y e = inl refl
+or-cases false y e = inr e
+
+or-right : (x y : Bool) → y ≡ true → (x || y) ≡ true
+or-right true y e = refl
+or-right false y e = e
+
+-- DIGITS, by computing
+
+pairs : every 6 (λ a. every 6 (λ b. eqb a 0 || (eqb b 0 || (eqb a b || (below a b || below b a))))) ≡ true
+unfolding every below
+pairs = refl
+
+pub digit-tri : (a b : ℕ) → (1 ≤ a) × (a ≤ 5) → (1 ≤ b) × (b ≤ 5) → a ≢ b → Below a b ⊎ Below b a
+digit-tri a b h k d = go (or-cases (below a b) (below b a) (rw (ne-eqb a 0 (omega arith), ne-eqb b 0 (omega arith), ne-eqb a b d) at
+    (every-at 6 _ (every-at 6 _ pairs a (omega arith)) b (omega arith))))
+  where
+    go : (below a b ≡ true) ⊎ (below b a ≡ true) → Below a b ⊎ Below b a
+    go (inl e) = inl (record { fact = e })
+    go (inr e) = inr (record { fact = e })
+
+abbrev turn : ℕ → ℕ → ℕ → Bool
+turn a b c = (eqb a 3 && eqb b 4 && eqb c 5)
+
+triples : every 6 (λ a. every 6 (λ b. every 6 (λ c. not (below a b && below b c) || (below a c || (turn a b c || (turn b c a || turn c a b)))))) ≡ true
+unfolding every below
+triples = refl
+
+pub data Next (a b c : ℕ) : Type 0 where
+  on : Below a c → Next a b c
+  ring₁ : a ≡ 3 → b ≡ 4 → c ≡ 5 → Next a b c
+  ring₂ : b ≡ 3 → c ≡ 4 → a ≡ 5 → Next a b c
+  ring₃ : c ≡ 3 → a ≡ 4 → b ≡ 5 → Next a b c
+
+turn-true : (a b c : ℕ) → turn a b c ≡ true → (a ≡ 3) × (b ≡ 4) × (c ≡ 5)
+turn-true a b c e =
+    let h = and-both (eqb a 3 && eqb b 4) (eqb c 5) e in
+    let k = and-both (eqb a 3) (eqb b 4) (h .0) in
+    (eqb-true a 3 (k .0), eqb-true b 4 (k .1), eqb-true c 5 (h .1))
+
+digit-next : (a b c : ℕ) → Below a b → Below b c → Next a b c
+digit-next a b c h k =
+    let s = below-small h in
+    let u = below-small k in
+    first₁ (or-cases (below a c) _ (implied (below a b && below b c) _ (every-at 6 _ (every-at 6 _ (every-at 6 _ triples a (s .0)) b (s .1)) c (u .1)) (both (h .fact) (k .fact))))
+  where
+    implied : (x y : Bool) → (not x || y) ≡ true → x ≡ true → y ≡ true
+    implied true y p q = p
+    implied false y p q = absurd (true≢false (sym q))
+
+    third : (turn b c a ≡ true) ⊎ (turn c a b ≡ true) → Next a b c
+    third (inl e) = let w = turn-true b c a e in ring₂ (w .0) (w .1) (w .2)
+    third (inr e) = let w = turn-true c a b e in ring₃ (w .0) (w .1) (w .2)
+
+    second : (turn a b c ≡ true) ⊎ ((turn b c a || turn c a b) ≡ true) → Next a b c
+    second (inl e) = let w = turn-true a b c e in ring₁ (w .0) (w .1) (w .2)
+    second (inr e) = third (or-cases (turn b c a) (turn c a b) e)
+
+    first₁ : (below a c ≡ true) ⊎ ((turn a b c || (turn b c a || turn c a b)) ≡ true) → Next a b c
+    first₁ (inl e) = on (record { fact = e })
+    first₁ (inr e) = second (or-cases (turn a b c) (turn b c a || turn c a b) e)
+
+-- LABELS
+
+-- what a passed test says
+below-true : (m : ℕ) (a b : Label) → labelBelow m a b ≡ true → Lt m a b
+unfolding labelBelow firstDifference
+below-true m a b e =
+    let h = and-both (ltb (firstDifference m a b) m) (below (a (firstDifference m a b)) (b (firstDifference m a b))) e in record {
+      at = firstDifference m a b;
+      inside = ltb-true (firstDifference m a b) m (h .0);
+      same = λ q l. eqb-true (a q) (b q) (not-false _ (f .earlier q (omega arith) l));
+      below = record { fact = h .1 };
+    }
+  where
+    f : First m 0 (λ p. not (eqb (a p) (b p))) (firstDifference m a b)
+    f = first m 0 (λ p. not (eqb (a p) (b p)))
+
+abbrev Before : ℕ → Label → ℕ → Label → ℕ → Type 0
+Before m a i b j = Lt m a b ⊎ (Agree m a b × (i < j))
+
+pub before-true : (m : ℕ) (a : Label) (i : ℕ) (b : Label) (j : ℕ) → labelBefore m a i b j ≡ true → Before m a i b j
+unfolding labelBefore
+before-true m a i b j e = go (or-cases (labelBelow m a b) (agrees m a b && ltb i j) e)
+  where
+    go : (labelBelow m a b ≡ true) ⊎ ((agrees m a b && ltb i j) ≡ true) → Before m a i b j
+    go (inl h) = inl (below-true m a b h)
+    go (inr h) = let k = and-both (agrees m a b) (ltb i j) h in inr (agrees-true m a b (k .0), ltb-true i j (k .1))
+
+pub before-of : (m : ℕ) (a : Label) (i : ℕ) (b : Label) (j : ℕ) → Before m a i b j → labelBefore m a i b j ≡ true
+before-of m a i b j (inl l) = before-less m a i b j l
+before-of m a i b j (inr h) = unfold labelBefore in or-right (labelBelow m a b) (agrees m a b && ltb i j) (both (agree-agrees m a b (h .0)) (lt-ltb i j (h .1)))
+
+module _ {m : ℕ} {t : ℕ → Label} (r : Ringless m t) where
+  lt-trans : (i j k : ℕ) → i ≤ m → j ≤ m → k ≤ m → Lt m (t i) (t j) → Lt m (t j) (t k) → Lt m (t i) (t k)
+  lt-trans i j k li lj lk x y = go (compare (x .at) (y .at))
+    where
+      go : Tri (x .at < y .at) (x .at ≡ y .at) (y .at < x .at) → Lt m (t i) (t k)
+      go (lt h) = record { at = x .at; inside = x .inside; same = λ q l. x .same q l ∙ y .same q (omega arith); below = rw (← y .same (x .at) h) (x .below) }
+      go (gt h) = record { at = y .at; inside = y .inside; same = λ q l. x .same q (omega arith) ∙ y .same q l; below = rw (x .same (y .at) h) (y .below) }
+      go (eq e) = at (digit-next (t i (x .at)) (t j (x .at)) (t k (x .at)) (x .below) (rw (← e) at (y .below)))
+        where
+          jk : Agree (x .at) (t j) (t k)
+          jk q l = y .same q (omega arith)
+
+          at : Next (t i (x .at)) (t j (x .at)) (t k (x .at)) → Lt m (t i) (t k)
+          at (on b) = record { at = x .at; inside = x .inside; same = λ q l. x .same q l ∙ jk q l; below = b }
+          at (ring₁ a b c) = absurd (r .free i j k (x .at) li lj lk (x .inside) (x .same) jk a b c)
+          at (ring₂ a b c) = absurd (r .free j k i (x .at) lj lk li (x .inside) jk (λ q l. sym (x .same q l ∙ jk q l)) a b c)
+          at (ring₃ a b c) = absurd (r .free k i j (x .at) lk li lj (x .inside) (λ q l. sym (x .same q l ∙ jk q l)) (x .same) a b c)
+
+  label-tri : (i j : ℕ) → i ≤ m → j ≤ m → Tri (Lt m (t i) (t j)) (Agree m (t i) (t j)) (Lt m (t j) (t i))
+  unfolding firstDifference
+  label-tri i j li lj = go (compare (firstDifference m (t i) (t j)) m)
+    where
+      p : ℕ
+      p = firstDifference m (t i) (t j)
+
+      f : First m 0 (λ p. not (eqb (t i p) (t j p))) p
+      f = first m 0 (λ p. not (eqb (t i p) (t j p)))
+
+      same : (q : ℕ) → q < p → t i q ≡ t j q
+      same q l = eqb-true (t i q) (t j q) (not-false _ (f .earlier q (omega arith) l))
+
+      at : p < m → Below (t i p) (t j p) ⊎ Below (t j p) (t i p) → Tri (Lt m (t i) (t j)) (Agree m (t i) (t j)) (Lt m (t j) (t i))
+      at l (inl b) = lt (record { at = p; inside = l; same = same; below = b })
+      at l (inr b) = gt (record { at = p; inside = l; same = λ q h. sym (same q h); below = b })
+
+      go : Tri (p < m) (p ≡ m) (m < p) → Tri (Lt m (t i) (t j)) (Agree m (t i) (t j)) (Lt m (t j) (t i))
+      go (lt l) = at l (digit-tri (t i p) (t j p) (r .valid i p li l) (r .valid j p lj l)
+          (λ e. tf (eq-eqb (t i p) (t j p) e) (not-true _ (f .found (omega arith)))))
+      go (eq e) = eq (λ q l. same q (omega arith))
+      go (gt l) = eq (λ q h. same q (omega arith))
+
+  -- "stands before" is a total order of the stations
+  pub total : (n : ℕ) → n ≡ suc m → Total n (λ i j. labelBefore m (t i) i (t j) j)
+  total n e = record {
+    irrefl = λ i l. before-same m (t i) i i ∙ le-ltb i i (omega arith);
+    trans = λ i j k li lj lk x y. before-of m (t i) i (t k) k
+        (joined i j k (omega arith) (omega arith) (omega arith) (before-true m (t i) i (t j) j x) (before-true m (t j) j (t k) k y));
+    connex = λ i j li lj d. sides i j d (label-tri i j (omega arith) (omega arith)) (compare i j);
+  }
+    where
+      joined : (i j k : ℕ) → i ≤ m → j ≤ m → k ≤ m → Before m (t i) i (t j) j → Before m (t j) j (t k) k → Before m (t i) i (t k) k
+      joined i j k li lj lk (inl x) (inl y) = inl (lt-trans i j k li lj lk x y)
+      joined i j k li lj lk (inl x) (inr y) = inl (record {
+        at = x .at;
+        inside = x .inside;
+        same = λ q l. x .same q l ∙ y .0 q (omega (arith, x .inside));
+        below = rw (← y .0 (x .at) (x .inside)) (x .below);
+      })
+      joined i j k li lj lk (inr x) (inl y) = inl (record {
+        at = y .at;
+        inside = y .inside;
+        same = λ q l. x .0 q (omega (arith, y .inside)) ∙ y .same q l;
+        below = rw (x .0 (y .at) (y .inside)) (y .below);
+      })
+      joined i j k li lj lk (inr x) (inr y) = inr ((λ q l. x .0 q l ∙ y .0 q l), omega (arith, x .1, y .1))
+
+      sides : (i j : ℕ) → i ≢ j → Tri (Lt m (t i) (t j)) (Agree m (t i) (t j)) (Lt m (t j) (t i)) → Tri (i < j) (i ≡ j) (j < i)
+          → (labelBefore m (t i) i (t j) j ≡ true) ⊎ (labelBefore m (t j) j (t i) i ≡ true)
+      sides i j d (lt l) o = inl (before-of m (t i) i (t j) j (inl l))
+      sides i j d (gt l) o = inr (before-of m (t j) j (t i) i (inl l))
+      sides i j d (eq s) (lt h) = inl (before-of m (t i) i (t j) j (inr (s, h)))
+      sides i j d (eq s) (eq h) = absurd (d h)
+      sides i j d (eq s) (gt h) = inr (before-of m (t j) j (t i) i (inr ((λ q l. sym (s q l)), h)))
+
+-- THE NEWEST: in a total order some station has no other after it, and `newest` is that one
+
+highest : (n : ℕ) (b : ℕ → ℕ → Bool) → Total n b → (k : ℕ) → suc k ≤ n → (i : ℕ) × (i ≤ k) × ((j : ℕ) → j ≤ k → b i j ≡ false)
+highest n b o zero l = (0, omega arith, λ j h. let e : j ≡ 0 = omega arith in rw e (o .irrefl 0 (omega arith)))
+highest n b o (suc k) l = go (highest n b o k (omega arith))
+  where
+    go : (i : ℕ) × (i ≤ k) × ((j : ℕ) → j ≤ k → b i j ≡ false) → (i : ℕ) × (i ≤ suc k) × ((j : ℕ) → j ≤ suc k → b i j ≡ false)
+    go (i, li, h) = pick (b i (suc k)) refl
+      where
+        not-up : b i (suc k) ≡ true → (j : ℕ) → j ≤ k → (x : Bool) → b (suc k) j ≡ x → x ≡ false
+        not-up e j lj true p = absurd (tf (o .trans i (suc k) j (omega arith) (omega arith) (omega arith) e p) (h j lj))
+        not-up e j lj false p = refl
+
+        pick : (x : Bool) → b i (suc k) ≡ x → (i : ℕ) × (i ≤ suc k) × ((j : ℕ) → j ≤ suc k → b i j ≡ false)
+        pick false e = (i, omega arith, λ j lj. by-cases (ℕ-discrete j (suc k)) (λ q. rw q e) (λ q. h j (omega arith)))
+        pick true e = (suc k, omega arith, λ j lj. by-cases (ℕ-discrete j (suc k)) (λ q. rw q (o .irrefl (suc k) (omega arith))) (λ q. not-up e j (omega arith) (b (suc k) j) refl))
+
+pub newest-inside : (n : ℕ) (b : ℕ → ℕ → Bool) → Total n b → 1 ≤ n → newest n b < n
+unfolding newest
+newest-inside n b o l = go (compare (newest n b) n) (highest n b o (n - 1) (omega arith))
+  where
+    test : ℕ → Bool
+    test i = every n (λ j. not (b i j))
+
+    f : First n 0 test (newest n b)
+    f = first n 0 test
+
+    go : Tri (newest n b < n) (newest n b ≡ n) (n < newest n b) → (i : ℕ) × (i ≤ n - 1) × ((j : ℕ) → j ≤ n - 1 → b i j ≡ false) → newest n b < n
+    go (lt h) w = h
+    go (eq h) w = absurd (tf (every-all n _ (λ j lj. ap not (w .2 j (omega arith)))) (f .earlier (w .0) (omega arith) (omega (arith, w .1))))
+    go (gt h) w = absurd (omega (arith, f .upto))
+
+-- every other station stands before it
+pub newest-last : (n : ℕ) (b : ℕ → ℕ → Bool) → Total n b → 1 ≤ n → (j : ℕ) → j < n → j ≢ newest n b → b j (newest n b) ≡ true
+unfolding newest
+newest-last n b o l j lj d = go (o .connex j (newest n b) lj (newest-inside n b o l) d)
+  where
+    f : First n 0 (λ i. every n (λ j. not (b i j))) (newest n b)
+    f = first n 0 (λ i. every n (λ j. not (b i j)))
+
+    go : (b j (newest n b) ≡ true) ⊎ (b (newest n b) j ≡ true) → b j (newest n b) ≡ true
+    go (inl e) = e
+    go (inr e) = absurd (tf e (not-true _ (every-at n _ (f .found (omega (arith, newest-inside n b o l))) j lj)))
+
+-- OLDEST FIRST: in a total order each station of `ordered` stands before all later ones
+
+abbrev pub Sorted : (ℕ → ℕ → Bool) → List ℕ → Type 0
+Sorted b [] = Unit {0}
+Sorted b (i ∷ l) = All (λ j. b i j ≡ true) l × Sorted b l
+
+all-map₂ : (P Q R : ℕ → Type 0) → ((j : ℕ) → P j → Q j → R j) → (l : List ℕ) → All P l → All Q l → All R l
+all-map₂ P Q R f [] a c = tt
+all-map₂ P Q R f (j ∷ l) a c = (f j (a .0) (c .0), all-map₂ P Q R f l (a .1) (c .1))
+
+module _ (n : ℕ) (b : ℕ → ℕ → Bool) (o : Total n b) where
+  inserted-sorted : (i : ℕ) (l : List ℕ) → i < n → All (λ j. (j < n) × (j ≢ i)) l → Sorted b l → Sorted b (inserted b i l)
+  unfolding inserted
+  inserted-sorted i [] li a s = (tt, tt)
+  inserted-sorted i (j ∷ l) li a s = go (inserted-sorted i l li (a .1) (s .1)) (b i j) refl
+    where
+      go : Sorted b (inserted b i l) → (x : Bool) → b i j ≡ x → Sorted b (elim x [ true ↦ i ∷ j ∷ l | false ↦ j ∷ inserted b i l ])
+      go r true e = ((e, all-map₂ (λ k. (k < n) × (k ≢ i)) (λ k. b j k ≡ true) (λ k. b i k ≡ true) (λ k h u. o .trans i j k li (a .0 .0) (h .0) e u) l (a .1) (s .0)), s)
+      go r false e = (inserted-all (λ k. b j k ≡ true) b i l (pick (o .connex j i (a .0 .0) li (a .0 .1))) (s .0), r)
+        where
+          pick : (b j i ≡ true) ⊎ (b i j ≡ true) → b j i ≡ true
+          pick (inl h) = h
+          pick (inr h) = absurd (tf h e)
+
+  pub ordered-sorted : (k : ℕ) → k ≤ n → Sorted b (ordered k b)
+  unfolding ordered
+  ordered-sorted zero l = tt
+  ordered-sorted (suc k) l = inserted-sorted k (ordered k b) (omega arith)
+      (ordered-all (λ j. (j < n) × (j ≢ k)) b k (λ j h. (omega arith, λ e. omega arith))) (ordered-sorted k (omega arith))

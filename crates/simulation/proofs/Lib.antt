@@ -1,0 +1,9 @@
+pub mod Judged
+pub mod Follow
+pub mod Entries
+pub mod Sync
+pub mod Numbers
+pub mod Invariant
+pub mod Snap
+pub mod Update
+pub mod Simulation

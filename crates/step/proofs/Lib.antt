@@ -1,0 +1,5 @@
+pub mod View
+pub mod Reachable
+pub mod Theorem
+pub mod Never
+pub mod Samples

@@ -1,0 +1,220 @@
+-- Tables that pass 13: what the test says, and that every step from a fresh table keeps it.
+use Prim.Native.Nat.{ℕ, suc, _+_, _-_, _≤_, _<_}
+use native.Mathlib.Omega.{arith}
+use mathlib.Core.Path.{_≡_, refl, sym, ap, subst, _∙_}
+use mathlib.Core.Bool.{Bool, true, false, _&&_, cond}
+use lib.ListN.{length, getD, replicate, length-replicate, length-set}
+use lib.Seq.{getD-set-same, getD-set-other}
+use lib.Dec.{eqb}
+use borrow.Author.Tests.{eqb-true, eqb-false, eq-eqb}
+use Rattle.label.specs.Tests.{within, every, newest}
+use Rattle.label.specs.Labels.{newLabel}
+use Rattle.label.specs.Rows.{row, rowFits, noRing}
+use Rattle.label.proofs.RowLaws.{digit-row, fresh-row, label-fits, fits-digit, ringless, no-ring-of}
+use Rattle.table.specs.Results.{blank, resultFits}
+use Rattle.table.proofs.ResultLaws.{stored-fits, same-entry}
+use Rattle.label.proofs.Facts.{both, and-both, within-true, within-of, every-all, every-at}
+use Rattle.label.proofs.Order.{Within, follow-within}
+use Rattle.label.proofs.Total.{Ringless, total, newest-inside}
+use Rattle.simulation.specs.Calls.{Call, place, Move, judge}
+use Rattle.simulation.proofs.Judged.{Accepted, accepted-place}
+use Rattle.simulation.specs.Machine as Machine
+use Rattle.simulation.specs.Machine.{digits}
+use Rattle.simulation.proofs.Entries.{Entries, by-here}
+use Rattle.simulation.proofs.Sync.{no-ring}
+use Rattle.simulation.proofs.Simulation.{Ready, newest-labels, fresh-ready, ready-step}
+use Rattle.table.specs.Tables.{freshStation, freshTable, at, labels, store, stands, newestOf}
+use Rattle.table.specs.WellFormed.{stationFits, isFresh, wellFormed}
+use Rattle.table.specs.Tables.{pendingAfter, scanOf}
+use Rattle.step.specs.Steps.{carryOut, move, stepOf}
+use Rattle.step.proofs.View.{view, viewAnswer, Led, new-behind, view-carried, at-fresh, view-fresh}
+use Rattle.table.specs.declared.Station.{Station}
+use Rattle.table.specs.declared.Table.{Table}
+
+-- WHAT THE TEST SAYS
+
+pub record Passed (t : Table) : Type 0 where
+  pub low : 2 ≤ t .count
+  pub high : t .count ≤ 32
+  pub ringless : Ringless (t .count - 1) (labels t)
+
+pub passed : (t : Table) → wellFormed t ≡ true → Passed t
+unfolding wellFormed stationFits
+passed t e = record {
+  low = size .0;
+  high = size .1;
+  ringless = ringless (n - 1) (labels t) (e₀ .1)
+      (λ i p li lp. fits-digit 31 (n - 1) (at t i .label) (and-both _ _ (and-both _ _ (every-at n _ (e₂ .1) i (omega (arith, size .0))) .0) .0) p lp);
+}
+  where
+    n : ℕ
+    n = t .count
+
+    e₀ : ((within 2 32 n && every n (λ i. stationFits n (at t i)) && every (32 - n) (λ i. isFresh n (at t (n + i)))) ≡ true) × (noRing (n - 1) (labels t) ≡ true)
+    e₀ = and-both _ _ e
+
+    e₁ : ((within 2 32 n && every n (λ i. stationFits n (at t i))) ≡ true) × (every (32 - n) (λ i. isFresh n (at t (n + i))) ≡ true)
+    e₁ = and-both _ _ (e₀ .0)
+
+    e₂ : (within 2 32 n ≡ true) × (every n (λ i. stationFits n (at t i)) ≡ true)
+    e₂ = and-both _ _ (e₁ .0)
+
+    size : (2 ≤ n) × (n ≤ 32)
+    size = within-true 2 32 n (e₂ .0)
+
+-- so on every table that passes, "stands before" is a total order of its stations, and there is a newest one
+pub stands-total : (t : Table) → wellFormed t ≡ true → Rattle.label.proofs.Total.Total (t .count) (stands t)
+stands-total t e = let p = passed t e in total (p .ringless) (t .count) (omega (arith, p .low))
+
+pub led : (t : Table) → length (t .stations) ≡ 32 → wellFormed t ≡ true → Led t
+led t l e = let p = passed t e in
+    record { low = p .low; high = p .high; places = l; lead = unfold newestOf in newest-inside (t .count) (stands t) (stands-total t e) (omega (arith, p .low)) }
+
+-- THE VIEW LAW, for every table that passes 13 (its 32 places are the struct's)
+pub view-law : (t : Table) (c : Call) → length (t .stations) ≡ 32 → wellFormed t ≡ true
+    → viewAnswer (stepOf t c) ≡ Machine.step (t .count) (digits (t .count - 1)) (view t) c
+view-law t c l e = Rattle.step.proofs.View.view-law t c (led t l e) e
+
+-- TABLES
+
+pub record Fits (n : ℕ) (s : Station) : Type 0 where
+  pub row : rowFits 31 (n - 1) (s .label) ≡ true
+  pub pendingRow : rowFits 31 (n - 1) (s .«pending_label») ≡ true
+  pub result : resultFits 32 n (s .«scan_result») ≡ true
+
+-- all of 13 but for the ring
+pub record Good (t : Table) : Type 0 where
+  pub low : 2 ≤ t .count
+  pub high : t .count ≤ 32
+  pub places : length (t .stations) ≡ 32
+  pub each : (i : ℕ) → i < t .count → Fits (t .count) (at t i)
+  pub rest : (i : ℕ) → t .count ≤ i → i < 32 → isFresh (t .count) (at t i) ≡ true
+
+good-passes : (t : Table) → Good t → noRing (t .count - 1) (labels t) ≡ true → wellFormed t ≡ true
+unfolding wellFormed stationFits
+good-passes t g r = both (both (both (within-of 2 32 (t .count) (g .low) (g .high))
+    (every-all (t .count) _ (λ i l. let s = g .each i l in both (both (s .row) (s .pendingRow)) (s .result))))
+    (every-all (32 - t .count) _ (λ i l. g .rest (t .count + i) (omega arith) (omega (arith, g .high))))) r
+
+store-good : (t : Table) (k : ℕ) (s : Station) → Good t → k < t .count → Fits (t .count) s → Good (store t k s)
+store-good t k s g l h = record {
+  low = g .low;
+  high = g .high;
+  places = length-set (t .stations) k s ∙ g .places;
+  each = λ i m. go i m (eqb i k) refl;
+  rest = λ i m o. subst (λ x. isFresh (t .count) x ≡ true) (sym (getD-set-other (t .stations) k i s _ (λ e. omega arith))) (g .rest i m o);
+}
+  where
+    b : k < length (t .stations)
+    b = rw (g .places) (omega (arith, g .high))
+
+    go : (i : ℕ) → i < t .count → (x : Bool) → eqb i k ≡ x → Fits (t .count) (at (store t k s) i)
+    go i m true e = subst (λ j. Fits (t .count) (at (store t k s) j)) (sym (eqb-true i k e)) (subst (Fits (t .count)) (sym (getD-set-same (t .stations) k s _ b)) h)
+    go i m false e = subst (Fits (t .count)) (sym (getD-set-other (t .stations) k i s _ (eqb-false i k e))) (g .each i m)
+
+fresh-fresh : (n : ℕ) → isFresh n (freshStation n) ≡ true
+unfolding isFresh freshStation
+fresh-fresh n = both (both (both (both (both
+    (every-all 31 _ (λ p l. eq-eqb _ 1 (ap (λ f. f p) (fresh-row 31)))) refl)
+    (every-all 31 _ (λ p l. eq-eqb _ 1 (ap (λ f. f p) (fresh-row 31))))) refl)
+    (every-all 32 _ (λ p l. same-entry (getD (freshStation n .«scan_result») p blank)))) refl
+
+fresh-good : (n : ℕ) → 2 ≤ n → n ≤ 32 → Good (freshTable n)
+unfolding freshTable freshStation
+fresh-good n p q = record {
+  low = p;
+  high = q;
+  places = length-replicate 32 (freshStation n);
+  each = λ i m. subst (Fits n) (sym (at-fresh n i)) (record { row = ones; pendingRow = ones; result = stored-fits 32 _ _ n q });
+  rest = λ i m o. subst (λ x. isFresh n x ≡ true) (sym (at-fresh n i)) (fresh-fresh n);
+}
+  where
+    ones : rowFits 31 (n - 1) (replicate 31 1) ≡ true
+    ones = label-fits 31 (n - 1) (replicate 31 1) (λ p. 1) (fresh-row 31) (λ p. (omega arith, omega arith)) (λ p l. refl)
+
+-- REACHED TABLES: they pass but for the ring, and the machine's invariant holds of their view
+pub record Reached (t : Table) : Type 0 where
+  pub good : Good t
+  pub N : Entries ℕ
+  pub ready : Ready (t .count - 1) (view t) N
+
+module _ (t : Table) (r : Reached t) where
+  sized : t .count ≡ suc (t .count - 1)
+  sized = let l = r .good .low in omega arith
+
+  newest-is : newestOf t ≡ r .ready .z
+  unfolding newestOf
+  newest-is = newest-labels (t .count) (t .count - 1) sized (view t) (r .N) (r .ready)
+
+  pub reached-led : Led t
+  reached-led = record { low = r .good .low; high = r .good .high; places = r .good .places; lead = rw newest-is (omega (arith, sized, r .ready .inv .newest .station)) }
+
+  -- the ring is ruled out by the numbers
+  ring-free : noRing (t .count - 1) (labels t) ≡ true
+  ring-free = no-ring-of (t .count - 1) (labels t) (λ i j k p li lj lk lp ij jk a b c.
+      no-ring (r .ready .inv .sync) false false false i j k p li lj lk (λ q. omega (arith, ap (λ m. labels t m p) q)) (λ q. omega (arith, ap (λ m. labels t m p) q))
+      (λ q. omega (arith, ap (λ m. labels t m p) q)) lp ij jk a b c)
+
+  -- so 13 is never met
+  pub reached-passes : wellFormed t ≡ true
+  reached-passes = good-passes t (r .good) ring-free
+
+  module _ (c : Call) where
+    pending-fits : place c < t .count → rowFits 31 (t .count - 1) (pendingAfter t (place c)) ≡ true
+    unfolding pendingAfter
+    pending-fits l = by-here (λ b. rowFits 31 (t .count - 1) (cond b (at t (place c) .«pending_label») (row 31 (newLabel (t .count - 1) 1 (labels t) (newestOf t) (place c)))) ≡ true)
+        (newestOf t) (place c)
+        (λ e. r .good .each (place c) l .pendingRow)
+        (λ d. label-fits 31 (t .count - 1) (row 31 _) _ (digit-row 31 _ (λ p h. new-behind t reached-led c l d p (omega (arith, r .good .high)))) new-digits (new-behind t reached-led c l d))
+      where
+        new-digits : Within 1 (newLabel (t .count - 1) 1 (labels t) (newestOf t) (place c))
+        new-digits = unfold newLabel in follow-within (omega arith) (r .ready .inv .digits false (newestOf t) (omega (arith, reached-led .lead))) _
+
+    scan-fits : resultFits 32 (t .count) (scanOf t) ≡ true
+    unfolding scanOf
+    scan-fits = stored-fits 32 (λ i. at t i .job) (stands t) (t .count) (r .good .high)
+
+    own : {w : Move} → judge (t .count) (at t (place c) .phase) c ≡ w → Accepted w → place c < t .count
+    own {w} e a = accepted-place (t .count) (at t (place c) .phase) c w e a
+
+    good-step : (w : Move) → move t c ≡ w → Good (carryOut t c w .table)
+    unfolding carryOut move
+    good-step (Move.refused x) e = r .good
+    good-step Move.beginsLabel e = let l = own e tt in let s = r .good .each (place c) l in store-good t (place c) _ (r .good) l (record { row = s .row; pendingRow = s .pendingRow; result = s .result })
+    good-step Move.beginsScan e = let l = own e tt in let s = r .good .each (place c) l in store-good t (place c) _ (r .good) l (record { row = s .row; pendingRow = s .pendingRow; result = s .result })
+    good-step Move.snapsLabel e = let l = own e tt in let s = r .good .each (place c) l in store-good t (place c) _ (r .good) l (record { row = s .row; pendingRow = pending-fits l; result = s .result })
+    good-step Move.snapsScan e = let l = own e tt in let s = r .good .each (place c) l in store-good t (place c) _ (r .good) l (record { row = s .row; pendingRow = s .pendingRow; result = scan-fits })
+    good-step Move.updates e = let l = own e tt in let s = r .good .each (place c) l in store-good t (place c) _ (r .good) l (record { row = s .pendingRow; pendingRow = s .pendingRow; result = s .result })
+    good-step Move.endsLabel e = let l = own e tt in let s = r .good .each (place c) l in store-good t (place c) _ (r .good) l (record { row = s .row; pendingRow = s .pendingRow; result = s .result })
+    good-step Move.endsScan e = let l = own e tt in let s = r .good .each (place c) l in store-good t (place c) _ (r .good) l (record { row = s .row; pendingRow = s .pendingRow; result = s .result })
+
+pub count-kept : (t : Table) (c : Call) (w : Move) → carryOut t c w .table .count ≡ t .count
+unfolding carryOut
+count-kept t c (Move.refused x) = refl
+count-kept t c Move.beginsLabel = refl
+count-kept t c Move.beginsScan = refl
+count-kept t c Move.snapsLabel = refl
+count-kept t c Move.snapsScan = refl
+count-kept t c Move.updates = refl
+count-kept t c Move.endsLabel = refl
+count-kept t c Move.endsScan = refl
+
+-- every step call leaves such a table
+pub reached-step : (t : Table) (r : Reached t) (c : Call) → Reached (carryOut t c (move t c) .table)
+reached-step t r c = record {
+  good = good-step t r c (move t c) refl;
+  N = next .0;
+  ready = subst (λ n. Ready (n - 1) (view (carryOut t c (move t c) .table)) (next .0)) (sym (count-kept t c (move t c)))
+      (subst (λ a. Ready (t .count - 1) (a .state) (next .0)) (sym (view-carried t (reached-led t r) c)) (next .1));
+}
+  where
+    next : (N′ : Entries ℕ) × Ready (t .count - 1) (Machine.step (t .count) (digits (t .count - 1)) (view t) c .state) N′
+    next = ready-step (t .count) (t .count - 1) (sized t r) (view t) (r .N) c (r .ready)
+
+pub reached-fresh : (n : ℕ) → 2 ≤ n → n ≤ 32 → Reached (freshTable n)
+unfolding freshTable
+reached-fresh n p q = record {
+  good = fresh-good n p q;
+  N = λ x i. 0;
+  ready = subst (λ s. Ready (n - 1) s (λ x i. 0)) (sym (view-fresh n)) (fresh-ready n (n - 1) (omega arith));
+}
