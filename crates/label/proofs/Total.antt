@@ -1,6 +1,6 @@
 -- Labels whose digits are 1 to 5 and of which no three close a ring are in a total order, with their stations (document 01, 13; the paper's Lemma 4.2).
 use mathlib.Core.Path.{_≡_, refl, sym, _∙_, ap}
-use mathlib.Core.Logic.{_≢_, _⊎_, inl, inr, by-cases}
+use mathlib.Core.Logic.{_≢_, _⊎_, inl, inr, by-cases, Dec·not-not}
 use mathlib.Core.Bool.{Bool, true, false, not, _&&_, _||_, true≢false}
 use Prim.Native.Nat.{ℕ, zero, suc, _-_, _≤_, _<_}
 use native.Mathlib.Decide.{ℕ-discrete}
@@ -235,6 +235,11 @@ newest-last n b o l j lj d = go (o .connex j (newest n b) lj (newest-inside n b 
     go : (b j (newest n b) ≡ true) ⊎ (b (newest n b) j ≡ true) → b j (newest n b) ≡ true
     go (inl e) = e
     go (inr e) = absurd (tf e (not-true _ (every-at n _ (f .found (omega (arith, newest-inside n b o l))) j lj)))
+
+-- and no other station stands before none
+pub newest-only : (n : ℕ) (b : ℕ → ℕ → Bool) → Total n b → (i : ℕ) → i < n → ((j : ℕ) → j < n → b i j ≡ false) → i ≡ newest n b
+newest-only n b o i l none = Dec·not-not (ℕ-discrete i (newest n b)) .0
+    (λ d. tf (newest-last n b o (omega arith) i l d) (none (newest n b) (newest-inside n b o (omega arith))))
 
 -- OLDEST FIRST: in a total order each station of `ordered` stands before all later ones
 

@@ -1,1 +1,2 @@
 pub mod ResultLaws
+pub mod Orders

@@ -54,10 +54,14 @@ pub take-stored : (size : ℕ) (job : ℕ → ℕ) (b : ℕ → ℕ → Bool) (n
 unfolding stored
 take-stored size job b n = take-at (listed job (ordered n b)) (replicate (size - n) blank) n (listed-length job b n)
 
+-- each of them once
+pub stored-once : (size : ℕ) (job : ℕ → ℕ) (b : ℕ → ℕ → Bool) (n i : ℕ) → i < n → times (suc i) (take n (stored size n job (ordered n b))) ≡ 1
+stored-once size job b n i l = ap (times (suc i)) (take-stored size job b n) ∙ times-once job b i n l
+
 pub stored-fits : (size : ℕ) (job : ℕ → ℕ) (b : ℕ → ℕ → Bool) (n : ℕ) → n ≤ size → resultFits size n (stored size n job (ordered n b)) ≡ true
 unfolding resultFits stored
 stored-fits size job b n h = both
-    (every-all n _ (λ i l. eq-eqb _ 1 (ap (times (suc i)) (take-stored size job b n) ∙ times-once job b i n l)))
+    (every-all n _ (λ i l. eq-eqb _ 1 (stored-once size job b n i l)))
     (every-all (size - n) _ (λ p l. empty p l))
   where
     empty : (p : ℕ) → p < size - n → sameEntry (getD (stored size n job (ordered n b)) (n + p) blank) blank ≡ true
