@@ -1,18 +1,22 @@
 -- Decimal columns of fixed width, and a report line made of them (01, "The schedule file and the report").
-use Prim.Native.Nat.{ℕ, zero, suc, _+_, _-_, _/_, _%_}
-use mathlib.Core.Bool.{true, false}
+use Prim.Native.Nat.{ℕ, zero, suc, _+_, _/_, _%_}
+use mathlib.Core.Bool.{cond}
 use mathlib.Core.List.{List, [], _∷_, _++_}
-use lib.ListN.{length, replicate}
-use lib.Dec.{ltb}
+use lib.Dec.{eqb}
 
--- the decimal digits of x, as bytes, without a needless 0 in front; at most k + 1 of them
-unfoldable pub decimal : ℕ → ℕ → List ℕ
-decimal zero x = (48 + x % 10) ∷ []
-decimal (suc k) x = elim (ltb x 10) [ true ↦ (48 + x) ∷ [] | false ↦ decimal k (x / 10) ++ ((48 + x % 10) ∷ []) ]
+-- the last digit of v as a byte, and a blank in the place of a leading 0
+abbrev pub glyph : ℕ → ℕ
+glyph v = cond (eqb v 0) 32 (48 + v % 10)
 
--- x at the right edge of a column, blanks before it
-unfoldable pub column : ℕ → ℕ → List ℕ
-column width x = let d = decimal 19 x in replicate (width - length d) 32 ++ d
+-- v in w bytes, and nothing but blanks for 0: what stands before the last digit of a column
+abbrev pub front : ℕ → ℕ → List ℕ
+front zero v = []
+front (suc w) v = front w (v / 10) ++ (glyph v ∷ [])
+
+-- v at the right edge of w bytes, blanks before it; of a number that is too wide, its last digits
+abbrev pub column : ℕ → ℕ → List ℕ
+column zero v = []
+column (suc w) v = front w (v / 10) ++ ((48 + v % 10) ∷ [])
 
 -- the 29 bytes of a report line: line number, refusal, place, station, job
 unfoldable pub reportLine : ℕ → ℕ → ℕ → ℕ → ℕ → List ℕ
