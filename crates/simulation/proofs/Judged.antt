@@ -1,4 +1,4 @@
--- What `judge` tells: an accepted call is a station's own, and no refusal of a step is 13. Nothing else opens `judge`.
+-- What `judge` tells: a call is refused or is a station's own, and no refusal is 13. Nothing else opens `judge`.
 use Prim.Native.Nat.{ℕ, _*_, _<_}
 use native.Mathlib.Omega.{arith}
 use mathlib.Core.Path.{_≡_, refl, sym, subst}
@@ -35,6 +35,21 @@ accepted-place n ph c m e a =
     let q = unless-true (within 1 n (c .station)) 2 r m (p .1) a in
     let w = within-true 1 n (c .station) (q .0) in
     omega (arith, w .0, w .1)
+
+-- a call is refused, or it is a station's own
+pub data Verdict (n : ℕ) (c : Call) : Move → Type 0 where
+  turned : (x : ℕ) → Verdict n c (Move.refused x)
+  own : {w : Move} → place c < n → Verdict n c w
+
+pub verdict : (n : ℕ) (ph : Phase) (c : Call) (w : Move) → judge n ph c ≡ w → Verdict n c w
+verdict n ph c (Move.refused x) e = turned x
+verdict n ph c Move.beginsLabel e = own (accepted-place n ph c Move.beginsLabel e tt)
+verdict n ph c Move.beginsScan e = own (accepted-place n ph c Move.beginsScan e tt)
+verdict n ph c Move.snapsLabel e = own (accepted-place n ph c Move.snapsLabel e tt)
+verdict n ph c Move.snapsScan e = own (accepted-place n ph c Move.snapsScan e tt)
+verdict n ph c Move.updates e = own (accepted-place n ph c Move.updates e tt)
+verdict n ph c Move.endsLabel e = own (accepted-place n ph c Move.endsLabel e tt)
+verdict n ph c Move.endsScan e = own (accepted-place n ph c Move.endsScan e tt)
 
 -- the refusal number of a move, 0 if it is accepted
 abbrev pub numberOf : Move → ℕ
