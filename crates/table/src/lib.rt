@@ -5,6 +5,8 @@ ghost use Prim.Native.Nat.{ℕ, _≤_, _<_};
 ghost use Rattle.table.specs.Tables.{freshTable, newestOf, pendingAfter, scanOf};
 ghost use Rattle.table.specs.WellFormed.{wellFormed};
 
+pub mod choice;
+
 // What a process is doing: it takes a label, or it scans (document 01: mark, list).
 pub enum Operation {
     Label,
