@@ -12,7 +12,7 @@ use lib.Seq.{getD-set-same, getD-set-other}
 use lib.Dec.{eqb, leb, ltb}
 use borrow.Author.Tests.{eq-eqb, ne-eqb, le-leb, lt-leb, lt-ltb, le-ltb}
 use Rattle.label.specs.Tests.{count, firstFrom}
-use Rattle.label.proofs.Facts.{tf, First, first}
+use Rattle.label.proofs.Facts.{tf, First, first, count-bound}
 use Rattle.label.proofs.Digits.{Tri, lt, eq, gt, compare}
 
 right-no : (a : Bool) {b : Bool} → b ≡ false → (a && b) ≡ false
@@ -94,6 +94,19 @@ more-or-less true x p = by-cases (decLt p x)
     (λ l. rw (le-leb (suc p) x l, le-ltb x (p + 1) (omega arith)) refl)
     (λ l. rw (lt-leb (suc p) x (omega arith), lt-ltb x (p + 1) (omega arith)) refl)
 
+-- the sum of the first p elements
+unfoldable pub upto : List ℕ → ℕ → ℕ
+upto l zero = 0
+upto l (suc p) = upto l p + getD l p 0
+
+pub upto-none : (l : List ℕ) → 0 ≡ upto l 0
+unfolding upto
+upto-none l = refl
+
+pub upto-more : (l : List ℕ) (p : ℕ) → upto l p + getD l p 0 ≡ upto l (p + 1)
+unfolding upto
+upto-more l p = sym (ap (upto l) (add-one p))
+
 -- of the n stations, where station j shares s j digits
 module _ (n k : ℕ) (s : ℕ → ℕ) where
   -- how many others share less than p digits
@@ -121,3 +134,20 @@ module _ (n k : ℕ) (s : ℕ → ℕ) where
 
   pub enough-no : (p : ℕ) → k < n → p < fewer (p + 1) → enough p ≡ false
   enough-no p l h = lt-leb (n - 1 - p) (count n (λ j. not (eqb j k) && leb (suc p) (s j))) (omega (arith, parts p l))
+
+  -- the same from the list of those that share exactly q digits, for each q
+  module _ (w : ℕ) (r : List ℕ) (e : (q : ℕ) → q < w → getD r q 0 ≡ count n (λ j. not (eqb j k) && eqb (s j) q)) (l : k < n) where
+    pub upto-fewer : (p : ℕ) → p ≤ w → upto r p ≡ fewer p
+    unfolding upto
+    upto-fewer zero h = fewer-none
+    upto-fewer (suc p) h = ap₂ (λ (a b : ℕ). a + b) (upto-fewer p (omega arith)) (e p (omega arith)) ∙ fewer-more p ∙ ap fewer (add-one p)
+
+    pub upto-small : (p : ℕ) → p ≤ w → upto r p ≤ n
+    unfolding fewer
+    upto-small p h = rw (upto-fewer p h) (count-bound n _)
+
+    -- the level: the first position that is not below the number of those that share at most as many digits
+    pub level-is : (p : ℕ) → p ≤ n - 1 → n ≤ w → ((q : ℕ) → q < p → q < upto r (q + 1)) → (p < n - 1 → upto r (p + 1) ≤ p) → p ≡ firstFrom (n - 1) 0 enough
+    level-is p h f early found = first-is (n - 1) enough p h
+        (λ q b. enough-no q l (rw (upto-fewer (q + 1) (omega arith)) at (early q b)))
+        (λ b. enough-yes p l (rw (upto-fewer (p + 1) (omega arith)) at (found b)))

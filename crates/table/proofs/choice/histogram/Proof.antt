@@ -12,8 +12,6 @@ use Rattle.label.proofs.Facts.{count-bound}
 use Rattle.table.proofs.ChoiceLaws.{tally-hit, tally-miss}
 use Rattle.table.proofs.choice.histogram.Statement.{statement}
 use Rattle.table.proofs.choice.histogram.Tie as tie
-use Rattle.table.proofs.choice.histogram.Reads as reads
-use Rattle.table.proofs.choice.histogram.Lts as lts
 
 abbrev Inv-loop : tie.InvT-loop
 Inv-loop n k shared r₀ j₀ r j = (j ≤ n) × (length r ≡ 32) × ((q : ℕ) → q < 32 → getD r q 0 ≡ count j (λ i. not (eqb i k) && eqb (getD shared i 0) q))
