@@ -1,2 +1,4 @@
 pub mod ResultLaws
 pub mod Orders
+pub mod Filled
+pub mod Owned
