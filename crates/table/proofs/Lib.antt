@@ -1,3 +1,5 @@
 pub mod ResultLaws
 pub mod Orders
 pub mod ChoiceLaws
+pub mod Filled
+pub mod Owned
