@@ -1,2 +1,3 @@
 pub mod ResultLaws
 pub mod Orders
+pub mod Gathered
