@@ -1,3 +1,4 @@
 pub mod ResultLaws
 pub mod Orders
 pub mod Gathered
+pub mod OrderLaws
