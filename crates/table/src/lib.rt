@@ -2,6 +2,9 @@
 ghost use mathlib.Core.Path.{_≡_};
 ghost use mathlib.Core.Bool.{true};
 ghost use Prim.Native.Nat.{ℕ, _≤_, _<_};
+ghost use Rattle.label.specs.Tests.{tabulate};
+ghost use Rattle.table.specs.Gathered.{rowsOf};
+ghost use Rattle.table.specs.Results.{freshEntry};
 ghost use Rattle.table.specs.Tables.{freshTable, newestOf, pendingAfter, scanOf};
 ghost use Rattle.table.specs.WellFormed.{wellFormed};
 
@@ -39,4 +42,58 @@ pub struct Station {
 pub struct Table {
     pub count: usize,
     pub stations: [Station; 32],
+}
+
+// The scan result of a fresh station: the stations 1 to n without a job.
+fn fresh_result(n: usize) -> [Entry; 32]
+    ensures { λ r. ⌜ r ≡ tabulate 32 0 (freshEntry n) ⌝ }
+{
+    let mut result = [Entry { station: 0, job: 0 }; 32];
+    let mut p: usize = 0;
+    while p < 32 && p < n {
+        result[p] = Entry {
+            station: (p + 1) as u8,
+            job: 0,
+        };
+        p += 1;
+    }
+    result
+}
+
+impl Table {
+    pub const MAX_STATIONS: usize = 32;
+
+    // The fresh table of n stations.
+    pub fn fresh(n: usize) -> Table
+        ensures { λ r. ⌜ r ≡ freshTable n ⌝ }
+    {
+        let s = Station {
+            label: [1u8; 31],
+            job: 0,
+            pending_label: [1u8; 31],
+            pending_job: 0,
+            scan_result: fresh_result(n),
+            phase: Phase::Idle,
+        };
+        Table {
+            count: n,
+            stations: [s; Table::MAX_STATIONS],
+        }
+    }
+
+    // The labels of the stations; past them, 1s.
+    pub fn labels(self) -> [[u8; 31]; 32]
+        ensures { λ r. ⌜ r ≡ rowsOf self ⌝ }
+    {
+        let n = self.count;
+        let mut rows = [[1u8; 31]; 32];
+        let mut j: usize = 0;
+        while j < 32 && j < n {
+            let s = self.stations[j];
+            let l = s.label;
+            rows[j] = l;
+            j += 1;
+        }
+        rows
+    }
 }
