@@ -3,3 +3,5 @@ pub mod Orders
 pub mod ChoiceLaws
 pub mod Filled
 pub mod Owned
+pub mod Gathered
+pub mod OrderLaws
