@@ -12,12 +12,10 @@ use lib.Seq.{getD-set-same, getD-set-other}
 use lib.Dec.{eqb, leb, ltb}
 use borrow.Author.Tests.{eq-eqb, ne-eqb, le-leb, lt-leb, lt-ltb, le-ltb}
 use Rattle.label.specs.Tests.{count, firstFrom}
-use Rattle.label.proofs.Facts.{tf, First, first, count-bound}
+use Rattle.label.specs.Labels.{Label, agrees, firstDifference, nextLabel, others, level, newLabel}
+use Rattle.label.proofs.Facts.{right-no, tf, First, first, firstFrom-same, count-bound}
+use Rattle.label.proofs.Order.{agrees-upto}
 use Rattle.label.proofs.Digits.{Tri, lt, eq, gt, compare}
-
-right-no : (a : Bool) {b : Bool} → b ≡ false → (a && b) ≡ false
-right-no true e = e
-right-no false e = refl
 
 -- COUNTS
 
@@ -151,3 +149,23 @@ module _ (n k : ℕ) (s : ℕ → ℕ) where
     level-is p h f early found = first-is (n - 1) enough p h
         (λ q b. enough-no q l (rw (upto-fewer (q + 1) (omega arith)) at (early q b)))
         (λ b. enough-yes p l (rw (upto-fewer (p + 1) (omega arith)) at (found b)))
+
+-- THE LABELS
+
+-- the new label is that of other labels which are the same for the m + 1 stations
+module _ (m : ℕ) (t u : ℕ → Label) (e : (j : ℕ) → j < suc m → t j ≡ u j) where
+  level-same : (top : Label) (k : ℕ) → level m t top k ≡ level m u top k
+  unfolding level others
+  level-same top k = firstFrom-same m 0 _ _ (λ p l. ap (leb (m - p)) (count-same (suc m) _ _ (λ j h. ap (λ (a : Label). not (eqb j k) && agrees (suc p) a top) (e j h))))
+
+  pub new-label-same : (fill z k : ℕ) → z < suc m → newLabel m fill t z k ≡ newLabel m fill u z k
+  unfolding newLabel
+  new-label-same fill z k h = ap₂ (λ (a : Label) (p : ℕ). nextLabel fill a p) (e z h) (level-same (t z) k ∙ ap (λ (a : Label). level m u a k) (e z h))
+
+-- the level, by how many digits each of the n stations shares with the label `top`
+pub level-shared : (n : ℕ) (t : ℕ → Label) (top : Label) (s : ℕ → ℕ) (k : ℕ) → 1 ≤ n → ((j : ℕ) → j < n → s j ≡ firstDifference (n - 1) (t j) top)
+    → firstFrom (n - 1) 0 (enough n k s) ≡ level (n - 1) t top k
+unfolding level others
+level-shared n t top s k h e = firstFrom-same (n - 1) 0 _ _ (λ p l. ap (leb (n - 1 - p))
+    (count-same n _ _ (λ j i. ap (λ (b : Bool). not (eqb j k) && b) (ap (leb (suc p)) (e j i) ∙ sym (agrees-upto (n - 1) (t j) top (suc p) (omega arith))))
+    ∙ ap (λ (x : ℕ). count x (λ j. not (eqb j k) && agrees (suc p) (t j) top)) (omega arith)))

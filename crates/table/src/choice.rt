@@ -1,10 +1,28 @@
 // The choice of a new label (document 01, "The new label"), over labels gathered into rows.
 ghost use mathlib.Core.Path.{_≡_};
-ghost use mathlib.Core.Bool.{not, _&&_};
+ghost use mathlib.Core.Bool.{not, _&&_, cond};
 ghost use Prim.Native.Nat.{ℕ, suc, _-_, _≤_, _<_};
 ghost use lib.ListN.{getD};
-ghost use lib.Dec.{eqb, leb};
-ghost use Rattle.label.specs.Tests.{count, firstFrom};
+ghost use lib.Dec.{eqb, leb, ltb};
+ghost use Rattle.label.specs.Tests.{count, firstFrom, tabulate};
+ghost use Rattle.label.specs.Labels.{firstDifference};
+ghost use Rattle.label.specs.Rows.{digit};
+ghost use Rattle.table.specs.Gathered.{held};
+
+// How many leading digits each of the n stations shares with the label `top`.
+pub fn shared_prefixes(rows: [[u8; 31]; 32], n: usize, top: [u8; 31]) -> [usize; 32]
+    requires { ⌜ (1 ≤ n) × (n ≤ 32) ⌝ }
+    ensures { λ r. ⌜ r ≡ tabulate 32 0 (λ j. cond (ltb j n) (firstDifference (n - 1) (held rows j) (digit top)) 0) ⌝ }
+{
+    let m = n - 1;
+    let mut shared = [0usize; 32];
+    let mut j: usize = 0;
+    while j < n {
+        shared[j] = label::first_difference(rows[j], top, m);
+        j += 1;
+    }
+    shared
+}
 
 // How many stations other than k share exactly q digits, for each q.
 fn histogram(shared: [usize; 32], n: usize, k: usize) -> [usize; 32]
