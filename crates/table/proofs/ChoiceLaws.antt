@@ -14,7 +14,9 @@ use borrow.Author.Tests.{eq-eqb, ne-eqb, le-leb, lt-leb, lt-ltb, le-ltb}
 use Rattle.label.specs.Tests.{count, firstFrom}
 use Rattle.label.specs.Labels.{Label, agrees, firstDifference, nextLabel, others, level, newLabel}
 use Rattle.label.proofs.Facts.{right-no, tf, First, first, firstFrom-same, count-bound}
-use Rattle.label.proofs.Order.{agrees-upto}
+use Rattle.label.proofs.Order.{agrees-upto, difference-first}
+use Rattle.label.proofs.Choice.{level-spec}
+use Rattle.table.proofs.Filled.{filled, filled-at}
 use Rattle.label.proofs.Digits.{Tri, lt, eq, gt, compare}
 
 -- COUNTS
@@ -169,3 +171,18 @@ unfolding level others
 level-shared n t top s k h e = firstFrom-same (n - 1) 0 _ _ (λ p l. ap (leb (n - 1 - p))
     (count-same n _ _ (λ j i. ap (λ (b : Bool). not (eqb j k) && b) (ap (leb (suc p)) (e j i) ∙ sym (agrees-upto (n - 1) (t j) top (suc p) (omega arith))))
     ∙ ap (λ (x : ℕ). count x (λ j. not (eqb j k) && agrees (suc p) (t j) top)) (omega arith)))
+
+-- the same with the label of station z, the shared digits kept in a list of w numbers
+module _ (w n : ℕ) (t : ℕ → Label) (z k : ℕ) (xs : List ℕ) (e : xs ≡ filled w n (λ j. firstDifference (n - 1) (t j) (t z)) 0) (h : n ≤ w) where
+  shared-at : (j : ℕ) → j < n → getD xs j 0 ≡ firstDifference (n - 1) (t j) (t z)
+  shared-at j l = ap (λ (r : List ℕ). getD r j 0) e ∙ filled-at w _ 0 n j (omega arith) ∙ rw (lt-ltb j n l) refl
+
+  pub shared-small : (j : ℕ) → j < n → getD xs j 0 < w
+  shared-small j l = omega (arith, shared-at j l, difference-first (n - 1) (t j) (t z) .upto)
+
+  module _ (p : ℕ) (q : p ≡ firstFrom (n - 1) 0 (enough n k (λ j. getD xs j 0))) (l : k < n) where
+    pub level-found : p ≡ level (n - 1) t (t z) k
+    level-found = q ∙ level-shared n t (t z) (λ j. getD xs j 0) k (omega arith) shared-at
+
+    pub level-inside : z < n → z ≢ k → p < n - 1
+    level-inside lz d = rw level-found (level-spec (n - 1) t (t z) k z (omega arith) (omega arith) d refl .inside)

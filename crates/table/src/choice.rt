@@ -1,13 +1,14 @@
 // The choice of a new label (document 01, "The new label"), over labels gathered into rows.
 ghost use mathlib.Core.Path.{_≡_};
+ghost use mathlib.Core.Logic.{_≢_};
 ghost use mathlib.Core.Bool.{not, _&&_, cond};
 ghost use Prim.Native.Nat.{ℕ, suc, _-_, _≤_, _<_};
 ghost use lib.ListN.{getD};
 ghost use lib.Dec.{eqb, leb, ltb};
 ghost use Rattle.label.specs.Tests.{count, firstFrom, tabulate};
-ghost use Rattle.label.specs.Labels.{firstDifference};
-ghost use Rattle.label.specs.Rows.{digit};
-ghost use Rattle.table.specs.Gathered.{held};
+ghost use Rattle.label.specs.Labels.{firstDifference, newLabel};
+ghost use Rattle.label.specs.Rows.{digit, row};
+ghost use Rattle.table.specs.Gathered.{held, Orderly};
 
 // How many leading digits each of the n stations shares with the label `top`.
 pub fn shared_prefixes(rows: [[u8; 31]; 32], n: usize, top: [u8; 31]) -> [usize; 32]
@@ -60,4 +61,15 @@ pub fn level(shared: [usize; 32], n: usize, k: usize) -> usize
         p += 1;
     }
     p
+}
+
+// The new label of station k, where station z is the newest.
+pub fn new_label(rows: [[u8; 31]; 32], n: usize, z: usize, k: usize) -> [u8; 31]
+    requires { ⌜ Orderly n rows ⌝ }
+    requires { ⌜ (z < n) × (k < n) × (z ≢ k) ⌝ }
+    ensures { λ r. ⌜ r ≡ row 31 (newLabel (n - 1) 1 (held rows) z k) ⌝ }
+{
+    let top = rows[z];
+    let p = level(shared_prefixes(rows, n, top), n, k);
+    label::next_label(top, p)
 }
