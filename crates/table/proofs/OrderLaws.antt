@@ -54,22 +54,22 @@ module _ {A : Type 0} where
   put-twice l p d h = rw (take-suc l p d h, append-assoc, drop-cons l p d h) refl
 
   -- the elements from place q to k moved on by one, from the last down: at p the array is l with the element at p put in once more
-  module _ (l : List A) (k : ℕ) (d : A) (h : k < length l) where
-    abbrev pub shiftedTo : ℕ → A → List A
-    shiftedTo p x = putIn p x (take k l) ++ drop (k + 1) l
+  abbrev pub shiftedTo : List A → ℕ → ℕ → A → List A
+  shiftedTo l k p x = putIn p x (take k l) ++ drop (k + 1) l
 
+  module _ (l : List A) (k : ℕ) (d : A) (h : k < length l) where
     front : length (take k l) ≡ k
     front = length-take-le k l (omega arith)
 
-    pub shift-starts : l ≡ shiftedTo k (getD l k d)
+    pub shift-starts : l ≡ shiftedTo l k k (getD l k d)
     shift-starts = split-at l k d h ∙ sym (rw (take-all k (take k l) (omega (arith, front)), drop-of-length-le (take k l) {i = k} (omega (arith, front)), append-assoc, add-one) refl)
 
-    read-front : (p : ℕ) (y : A) → p < k → getD (shiftedTo (suc p) y) p d ≡ getD (take k l) p d
+    read-front : (p : ℕ) (y : A) → p < k → getD (shiftedTo l k (suc p) y) p d ≡ getD (take k l) p d
     read-front p y v =
         let t : p < length (take (suc p) (take k l)) = omega (arith, length-take-le (suc p) (take k l) (omega (arith, front))) in
         rw append-assoc (List·getD-append (take (suc p) (take k l)) _ d p t ∙ getD-take (suc p) (take k l) p d (omega arith))
 
-    pub shift-turns : (p : ℕ) (r : List A) → r ≡ shiftedTo p (getD l p d) → 1 ≤ p → p ≤ k → set r p (getD r (p - 1) d) ≡ shiftedTo (p - 1) (getD l (p - 1) d)
+    pub shift-turns : (p : ℕ) (r : List A) → r ≡ shiftedTo l k p (getD l p d) → 1 ≤ p → p ≤ k → set r p (getD r (p - 1) d) ≡ shiftedTo l k (p - 1) (getD l (p - 1) d)
     shift-turns zero r e u v = absurd (omega arith)
     shift-turns (suc p) r e u v =
         let q : suc p - 1 ≡ p = omega arith in
@@ -77,7 +77,7 @@ module _ {A : Type 0} where
         rw (q, a, e, ← getD-take k l p d v) (put-stored (take k l) (drop (k + 1) l) (suc p) (getD l (suc p) d) (getD (take k l) p d) (omega (arith, front))
         ∙ ap (λ (x : List A). x ++ drop (k + 1) l) (put-twice (take k l) p d (omega (arith, front))))
 
-    pub shift-ends : (q : ℕ) (x : A) (r : List A) → r ≡ shiftedTo q (getD l q d) → q ≤ k → set r q x ≡ shiftedTo q x
+    pub shift-ends : (q : ℕ) (x : A) (r : List A) → r ≡ shiftedTo l k q (getD l q d) → q ≤ k → set r q x ≡ shiftedTo l k q x
     shift-ends q x r e v = rw e (put-stored (take k l) (drop (k + 1) l) q (getD l q d) x (omega (arith, front)))
 
 -- A TOTAL ORDER
