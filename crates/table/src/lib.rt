@@ -8,11 +8,8 @@ ghost use Rattle.table.specs.Results.{freshEntry};
 ghost use Rattle.table.specs.Tables.{freshTable, newestOf, pendingAfter, scanOf};
 ghost use Rattle.table.specs.WellFormed.{wellFormed};
 
-<<<<<<< HEAD
 pub mod choice;
-=======
 pub mod order;
->>>>>>> 80ccc0760dd0e5c35869090d10fe9cacaf229150
 
 // What a process is doing: it takes a label, or it scans (document 01: mark, list).
 pub enum Operation {
