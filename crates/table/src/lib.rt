@@ -114,4 +114,21 @@ impl Table {
         }
         jobs
     }
+
+    // The pending label that a snap for a label leaves at place k: the newest station keeps its own.
+    pub fn pending_after(self, k: usize) -> [u8; 31]
+        requires { ⌜ wellFormed self ≡ true ⌝ }
+        requires { ⌜ k < self .count ⌝ }
+        ensures { λ r. ⌜ r ≡ pendingAfter self k ⌝ }
+    {
+        let n = self.count;
+        let rows = self.labels();
+        let z = order::newest(rows, n);
+        if k == z {
+            let s = self.stations[k];
+            s.pending_label
+        } else {
+            choice::new_label(rows, n, z, k)
+        }
+    }
 }
