@@ -2,8 +2,14 @@
 ghost use mathlib.Core.Path.{_≡_};
 ghost use mathlib.Core.Bool.{true};
 ghost use Prim.Native.Nat.{ℕ, _≤_, _<_};
+ghost use Rattle.label.specs.Tests.{tabulate};
+ghost use Rattle.table.specs.Gathered.{rowsOf, jobsOf};
+ghost use Rattle.table.specs.Results.{freshEntry};
 ghost use Rattle.table.specs.Tables.{freshTable, newestOf, pendingAfter, scanOf};
 ghost use Rattle.table.specs.WellFormed.{wellFormed};
+
+pub mod choice;
+pub mod order;
 
 // What a process is doing: it takes a label, or it scans (document 01: mark, list).
 pub enum Operation {
@@ -39,4 +45,111 @@ pub struct Station {
 pub struct Table {
     pub count: usize,
     pub stations: [Station; 32],
+}
+
+// The scan result of a fresh station: the stations 1 to n without a job.
+fn fresh_result(n: usize) -> [Entry; 32]
+    ensures { λ r. ⌜ r ≡ tabulate 32 0 (freshEntry n) ⌝ }
+{
+    let mut result = [Entry { station: 0, job: 0 }; 32];
+    let mut p: usize = 0;
+    while p < 32 && p < n {
+        result[p] = Entry {
+            station: (p + 1) as u8,
+            job: 0,
+        };
+        p += 1;
+    }
+    result
+}
+
+impl Table {
+    pub const MAX_STATIONS: usize = 32;
+
+    // The fresh table of n stations.
+    pub fn fresh(n: usize) -> Table
+        ensures { λ r. ⌜ r ≡ freshTable n ⌝ }
+    {
+        let s = Station {
+            label: [1u8; 31],
+            job: 0,
+            pending_label: [1u8; 31],
+            pending_job: 0,
+            scan_result: fresh_result(n),
+            phase: Phase::Idle,
+        };
+        Table {
+            count: n,
+            stations: [s; Table::MAX_STATIONS],
+        }
+    }
+
+    // The labels of the stations; past them, 1s.
+    pub fn labels(self) -> [[u8; 31]; 32]
+        ensures { λ r. ⌜ r ≡ rowsOf self ⌝ }
+    {
+        let n = self.count;
+        let mut rows = [[1u8; 31]; 32];
+        let mut j: usize = 0;
+        while j < 32 && j < n {
+            let s = self.stations[j];
+            let l = s.label;
+            rows[j] = l;
+            j += 1;
+        }
+        rows
+    }
+
+    // The jobs of the stations; past them, 0s.
+    pub fn jobs(self) -> [u32; 32]
+        ensures { λ r. ⌜ r ≡ jobsOf self ⌝ }
+    {
+        let n = self.count;
+        let mut jobs = [0u32; 32];
+        let mut j: usize = 0;
+        while j < 32 && j < n {
+            let s = self.stations[j];
+            jobs[j] = s.job;
+            j += 1;
+        }
+        jobs
+    }
+
+    // The newest station, from 0.
+    pub fn newest(self) -> usize
+        requires { ⌜ wellFormed self ≡ true ⌝ }
+        ensures { λ r. ⌜ r ≡ newestOf self ⌝ }
+    {
+        let rows = self.labels();
+        order::newest(rows, self.count)
+    }
+
+    // All stations with their jobs, oldest first: what a snap for a scan stores.
+    pub fn scan(self) -> [Entry; 32]
+        requires { ⌜ wellFormed self ≡ true ⌝ }
+        ensures { λ r. ⌜ r ≡ scanOf self ⌝ }
+    {
+        let n = self.count;
+        let rows = self.labels();
+        let stations = order::order(rows, n);
+        let jobs = self.jobs();
+        order::result(stations, jobs, n)
+    }
+
+    // The pending label that a snap for a label leaves at place k: the newest station keeps its own.
+    pub fn pending_after(self, k: usize) -> [u8; 31]
+        requires { ⌜ wellFormed self ≡ true ⌝ }
+        requires { ⌜ k < self .count ⌝ }
+        ensures { λ r. ⌜ r ≡ pendingAfter self k ⌝ }
+    {
+        let n = self.count;
+        let rows = self.labels();
+        let z = order::newest(rows, n);
+        if k == z {
+            let s = self.stations[k];
+            s.pending_label
+        } else {
+            choice::new_label(rows, n, z, k)
+        }
+    }
 }
