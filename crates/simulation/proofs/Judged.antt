@@ -7,7 +7,7 @@ use mathlib.Core.Bool.{Bool, true, false, cond}
 use lib.Dec.{leb, eqb}
 use Rattle.label.specs.Tests.{within}
 use Rattle.label.proofs.Facts.{within-true}
-use Rattle.simulation.specs.Calls.{Call, place, Move, unless, fromIdle, fromSnap, fromUpdate, fromEnd, jobFits, byCode, judge}
+use Rattle.simulation.specs.Calls.{Call, place, Move, unless, fromIdle, fromSnap, fromUpdate, fromEnd, jobFits, byCode, judge, numberOf}
 use Rattle.table.specs.declared.Phase.{Phase}
 use Rattle.table.specs.declared.Phase.the-variants.{Idle, Snap, Update, End}
 use Rattle.table.specs.declared.Operation.the-variants.{Label, Scan}
@@ -51,17 +51,7 @@ verdict n ph c Move.updates e = own (accepted-place n ph c Move.updates e tt)
 verdict n ph c Move.endsLabel e = own (accepted-place n ph c Move.endsLabel e tt)
 verdict n ph c Move.endsScan e = own (accepted-place n ph c Move.endsScan e tt)
 
--- the refusal number of a move, 0 if it is accepted
-abbrev pub numberOf : Move → ℕ
-numberOf (Move.refused r) = r
-numberOf Move.beginsLabel = 0
-numberOf Move.beginsScan = 0
-numberOf Move.snapsLabel = 0
-numberOf Move.snapsScan = 0
-numberOf Move.updates = 0
-numberOf Move.endsLabel = 0
-numberOf Move.endsScan = 0
-
+-- no refusal is 13
 not-unless : (b : Bool) (r : ℕ) (m : Move) → r ≢ 13 → numberOf m ≢ 13 → numberOf (unless b r m) ≢ 13
 not-unless true r m p q = q
 not-unless false r m p q = p

@@ -16,11 +16,11 @@ use Rattle.label.proofs.RowLaws.{digit-row, fresh-row}
 use Rattle.table.proofs.ResultLaws.{take-stored, take-fresh}
 use Rattle.table.proofs.Orders.{passed, newest-station}
 use Rattle.label.proofs.Choice.{Choice, level-spec}
-use Rattle.simulation.specs.Calls.{Call, place, Move}
+use Rattle.simulation.specs.Calls.{Call, place, Move, numberOf}
 use Rattle.simulation.specs.Machine as Machine
 use Rattle.simulation.specs.Machine.{Holder, State, digits}
 use Rattle.simulation.proofs.Entries.{by-here}
-use Rattle.simulation.proofs.Judged.{Verdict, turned, own, verdict, numberOf}
+use Rattle.simulation.proofs.Judged.{Verdict, turned, own, verdict}
 use Rattle.table.specs.Tables.{freshStation, freshTable, at, labels, store, stands, newestOf}
 use Rattle.table.specs.Tables.{pendingAfter, scanOf}
 use Rattle.step.specs.Steps.{Answer, carryOut, move, stepOf, snapped, scanned}
