@@ -1,4 +1,4 @@
-use Prim.Native.Nat.{ℕ, _-_, _≤_}
+use Prim.Native.Nat.{_-_, _≤_}
 use mathlib.Core.Path.{_≡_, refl, ap, _∙_}
 use native.Mathlib.Omega.{arith}
 use Rattle.label.specs.Tests.{ordered}
@@ -23,7 +23,7 @@ position-requires : tie.Need-position-requires Inv-loop μ-loop
 position-requires c κs = (c .before .before .pre, (search needs, order-front 32 _ _ _ (c .before .loop .inv .1)))
 
 inserted-at-requires : tie.Need-inserted-at-requires Inv-loop μ-loop
-inserted-at-requires c κs = (c .position .ensures .0, omega arith)
+inserted-at-requires c κs = (omega arith, omega arith)
 
 add-k : tie.Need-add-k Inv-loop μ-loop
 add-k c = search needs

@@ -37,7 +37,7 @@ array-read-i : tie.Need-array-read-i Inv-loop μ-loop
 array-read-i c = search needs
 
 listed : (c : tie.In-loop Inv-loop μ-loop) → getD (c .before .before .before .args .t3) ((c .before .loop .low + c .before .loop .high) / 2) 0 < c .before .before .before .args .k
-listed c = listed-below (orderly-total _ _ (c .before .before .before .pre .0)) (c .before .before .before .args .k) (c .before .before .before .pre .1 .0) _ (c .before .before .before .pre .1 .1) _ (omega arith)
+listed c = listed-below _ _ _ (c .before .before .before .pre .1 .1) _ (omega arith)
 
 mul-label-before : tie.Need-mul-label-before Inv-loop μ-loop
 mul-label-before c = let h = listed c in omega arith
