@@ -1,0 +1,29 @@
+use borrow.Author.Needs.{needs}
+use borrow.Author.Tests.{lt-ltb, le-ltb}
+use Rattle.columns.specs.Scanning.{withDigit}
+use Rattle.columns.proofs.with_digit.Statement.{statement}
+use Rattle.columns.proofs.with_digit.Tie as tie
+
+returns : tie.Need-returns
+unfolding withDigit
+returns c = simp (lt-ltb _ _ (c .if1 .taken))
+
+returns-2 : tie.Need-returns-2
+unfolding withDigit
+returns-2 c = simp (le-ltb _ _ (c .before .if1 .left), lt-ltb _ _ (c .if2 .taken))
+
+mul-t4 : tie.Need-mul-t4
+mul-t4 c = search needs
+
+cast-t6 : tie.Need-cast-t6
+cast-t6 c = search needs
+
+add-t7 : tie.Need-add-t7
+add-t7 c = search needs
+
+returns-3 : tie.Need-returns-3
+unfolding withDigit
+returns-3 c = simp (le-ltb _ _ (c .before .if1 .left), le-ltb _ _ (c .if2 .left))
+
+pub with-digit-spec : {M : Type 1} → statement M
+with-digit-spec = tie.close (tie.spec returns returns-2 mul-t4 cast-t6 add-t7 returns-3)
