@@ -89,7 +89,14 @@ pub fn write_column(out: &mut [u8], v: u64)
 }
 
 // Fills the 29 bytes of a report line.
-pub fn write_report_line(out: &mut [u8], line: u64, refusal: u64, place: u64, station: u64, job: u64)
+pub fn write_report_line(
+    out: &mut [u8],
+    line: u64,
+    refusal: u64,
+    place: u64,
+    station: u64,
+    job: u64,
+)
     requires { ⌜ length (now out) ≡ 29 ⌝ }
     ensures { λ _. ⌜ now (out .exit) ≡ reportLine line refusal place station job ⌝ }
 {
