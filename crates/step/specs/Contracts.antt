@@ -21,7 +21,7 @@ use Rattle.step.specs.declared.Refusal.the-variants.{Accepted, StationCo
 use Rattle.step.specs.declared.Move.{Move}
 use Rattle.step.specs.declared.Move.the-variants.{Refused, BeginLabel, BeginScan, SnapLabel, SnapScan, Update, EndLabel, EndScan}
 use Rattle.step.specs.declared.Decision.{Decision}
-use Rattle.step.specs.declared.Outcome.{Outcome}
+use Rattle.step.specs.declared.Reply.{Reply}
 
 -- 01, "When a step is turned down": the number of each refusal
 abbrev pub refusalNumber : Refusal → ℕ
@@ -92,9 +92,9 @@ pub record Decides (t : Table) (c : Call) (d : Decision) : Type 0 where
   pub written : d .written ≡ length (stepOf t c .bytes)
   pub bytes : stepOf t c .bytes ≡ cond (eqb (d .written) 0) [] (reportLines (c .line) 1 (take (t .count) (d .record .«scan_result»)))
 
--- the outcome o of the call c with this report buffer, and the buffer as it is left: all of it from `stepOf`
-pub record Steps (t : Table) (c : Call) (buffer : Lists.List ℕ) (o : Outcome) (left : Lists.List ℕ) : Type 0 where
-  pub table : o .table ≡ stepOf t c .table
-  pub refusal : refusalNumber (o .refusal) ≡ stepOf t c .refusal
-  pub written : o .written ≡ length (stepOf t c .bytes)
-  pub report : left ≡ over (stepOf t c .bytes) buffer
+-- the call c on the table t with this report buffer: the table left, the reply, and the buffer left, all of it from `stepOf`
+pub record Steps (t : Table) (c : Call) (buffer : Lists.List ℕ) (t′ : Table) (r : Reply) (buffer′ : Lists.List ℕ) : Type 0 where
+  pub table : t′ ≡ stepOf t c .table
+  pub refusal : refusalNumber (r .refusal) ≡ stepOf t c .refusal
+  pub written : r .written ≡ length (stepOf t c .bytes)
+  pub report : buffer′ ≡ over (stepOf t c .bytes) buffer
