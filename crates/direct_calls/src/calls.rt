@@ -32,15 +32,20 @@ fn digit(b: u8) -> u64 {
     (b % 48) as u64
 }
 
-// A call of a script: its station, its code or `m`, and its job.
+// A call of a script: its station, its code or `m`, and its job; or a bar, which is printed.
 fn scripted(t: Table, station: u8, code: u8, job: u8) -> Table {
+    if station == b'|' {
+        print::text(b" |");
+        return t;
+    }
     if code == b'm' {
         return takes_label(t, digit(station), digit(job));
     }
     call(t, digit(station), digit(code), digit(job))
 }
 
-// The calls of a script, which has four bytes for each: station, code, job and a blank. The code `m` is short for the calls that take a label.
+// The calls of a script, which has four bytes for each: station, code, job and a blank. The code `m` is short for the four calls that take a
+// label, and a bar and three blanks part the replies.
 pub fn run(t: Table, script: &[u8]) -> Table {
     let mut now = t;
     let mut i: usize = 0;
@@ -73,13 +78,3 @@ fn end_into(t: Table, report: &mut [u8]) -> Table {
     o.table
 }
 
-// The five named calls of a station, each on the same table.
-pub fn each_named(t: Table, station: u64) {
-    let mut none = [0u8; 0];
-    shown(step::begin_label(t, station, 7));
-    shown(step::begin_scan(t, station));
-    shown(step::snap(t, station));
-    shown(step::update(t, station));
-    shown(step::end(t, station, &mut none));
-    print::text(b"\n");
-}

@@ -2,7 +2,6 @@
 use crate::calls;
 use crate::print;
 use crate::tables;
-use table::Entry;
 use table::Operation;
 use table::Phase;
 use table::Table;
@@ -29,8 +28,9 @@ fn digit(n: usize, k: usize, p: usize, d: u8)
     requires { ⌜ k < 32 ⌝ }
     requires { ⌜ p < 31 ⌝ }
 {
-    judged(tables::with_digit(Table::fresh(n), k, p, d));
-    judged(tables::with_pending_digit(Table::fresh(n), k, p, d));
+    let s = tables::fresh(n);
+    judged(tables::fresh_but(n, k, tables::with_digit(s, p, d)));
+    judged(tables::fresh_but(n, k, tables::with_pending_digit(s, p, d)));
 }
 
 fn digits() {
@@ -61,18 +61,16 @@ fn entry(k: usize, p: usize, station: u8, job: u32)
     requires { ⌜ k < 32 ⌝ }
     requires { ⌜ p < 32 ⌝ }
 {
-    let e = Entry { station, job };
-    judged(tables::with_entry(Table::fresh(3), k, p, e));
+    let s = tables::with_entry(tables::fresh(3), p, station, job);
+    judged(tables::fresh_but(3, k, s));
 }
 
 // The scan result 2, 1, 3 at place k of three stations.
 fn swapped(k: usize)
     requires { ⌜ k < 32 ⌝ }
 {
-    let one = Entry { station: 1, job: 0 };
-    let two = Entry { station: 2, job: 0 };
-    let t = tables::with_entry(Table::fresh(3), k, 0, two);
-    judged(tables::with_entry(t, k, 1, one));
+    let s = tables::with_entry(tables::fresh(3), 0, 2, 0);
+    judged(tables::fresh_but(3, k, tables::with_entry(s, 1, 1, 0)));
 }
 
 fn results() {
@@ -95,13 +93,15 @@ fn results() {
 fn jobs(k: usize, job: u32, pending: u32)
     requires { ⌜ k < 32 ⌝ }
 {
-    judged(tables::with_jobs(Table::fresh(3), k, job, pending));
+    let s = tables::with_jobs(tables::fresh(3), job, pending);
+    judged(tables::fresh_but(3, k, s));
 }
 
 fn phase(k: usize, p: Phase)
     requires { ⌜ k < 32 ⌝ }
 {
-    judged(tables::with_phase(Table::fresh(3), k, p));
+    let s = tables::with_phase(tables::fresh(3), p);
+    judged(tables::fresh_but(3, k, s));
 }
 
 fn phases(k: usize)
@@ -143,38 +143,56 @@ fn past(k: usize)
     print::text(b"\n");
 }
 
-// Stations 1, 2 and 32 of n with digits 3, 4, 5 at position p.
-fn wide_ring(n: usize, p: usize) -> Table
+// Three stations with these labels.
+fn labels(a: u8, b: u8, c: u8) {
+    judged(tables::three(
+        tables::labelled(a),
+        tables::labelled(b),
+        tables::labelled(c),
+    ));
+}
+
+// Stations 1, 2 and 32 of 32 with the digits 3, 4, 5 at position p.
+fn wide_ring(p: usize)
     requires { ⌜ p < 31 ⌝ }
 {
-    let one = tables::with_digit(Table::fresh(n), 0, p, 3);
-    let two = tables::with_digit(one, 1, p, 4);
-    tables::with_digit(two, 31, p, 5)
+    let s = tables::fresh(32);
+    let one = tables::fresh_but(32, 0, tables::with_digit(s, p, 3));
+    let two = tables::with_station(one, 1, tables::with_digit(s, p, 4));
+    judged(tables::with_station(two, 31, tables::with_digit(s, p, 5)));
 }
 
 fn rings() {
     print::text(b"rings of current labels:");
-    judged(tables::labelled(31, 41, 51));
-    judged(tables::labelled(52, 33, 41));
-    judged(tables::labelled(23, 24, 25));
-    judged(wide_ring(32, 0));
-    judged(wide_ring(32, 30));
+    labels(31, 41, 51);
+    labels(52, 33, 41);
+    labels(23, 24, 25);
+    wide_ring(0);
+    wide_ring(30);
     print::text(b"\nno rings:");
-    judged(tables::labelled(31, 41, 31));
-    judged(tables::labelled(13, 24, 25));
-    judged(tables::labelled(31, 43, 44));
-    judged(tables::labelled(43, 54, 55));
+    labels(31, 41, 31);
+    labels(13, 24, 25);
+    labels(31, 43, 44);
+    labels(43, 54, 55);
     print::text(b"\n");
 }
 
-// A ring that is closed by a pending label is served until that label is current.
-fn pending_ring() {
+// The labels 3.1 and 4.1, and a station with the label 1.1 and the pending label 5.1.
+fn pending_ring(p: Phase) -> Table {
+    let s = tables::with_pending_digit(tables::fresh(3), 0, 5);
+    tables::three(
+        tables::labelled(31),
+        tables::labelled(41),
+        tables::with_phase(s, p),
+    )
+}
+
+// A ring that a pending label closes is served until that label is current.
+fn pending_rings() {
     print::text(b"the ring of 3, 4 and a pending 5:");
-    let t = tables::with_pending_digit(tables::labelled(31, 41, 11), 2, 0, 5);
-    judged(t);
+    judged(pending_ring(Phase::Idle));
     print::text(b"\nthe update that closes it, then an end and a begin:");
-    let due = tables::with_phase(t, 2, Phase::Update);
-    calls::run(due, b"340 350 117 ");
+    calls::run(pending_ring(Phase::Update), b"340 350 117 ");
     print::text(b"\n");
 }
 
@@ -185,5 +203,5 @@ pub fn all() {
     past(3);
     past(31);
     rings();
-    pending_ring();
+    pending_rings();
 }

@@ -64,26 +64,17 @@ fn jobs() {
     print::text(b"\n");
 }
 
-// Every code in every phase of station 2: those that are refused, then the one that leads on.
+// Every code in every phase of station 2: the step that leads to the phase, and those that it refuses. The last is an end without room.
 fn phases() {
-    print::text(b"idle, codes 3 4 5:");
-    let idle = calls::run(Table::fresh(2), b"230 240 250 ");
-    print::text(b"\nbegin a label, then 1 2 4 5:");
-    let snap = calls::run(idle, b"217 217 220 240 250 ");
-    print::text(b"\nsnap, then 1 2 3 5:");
-    let update = calls::run(snap, b"230 217 220 230 250 ");
-    print::text(b"\nupdate, then 1 2 3 4:");
-    let end = calls::run(update, b"240 217 220 230 240 ");
-    print::text(b"\nend, then 3 4 5:");
-    let again = calls::run(end, b"250 230 240 250 ");
-    print::text(b"\nbegin a scan, then 1 2 4 5:");
-    let snap_scan = calls::run(again, b"220 217 220 240 250 ");
-    print::text(b"\nsnap, then 1 2 3 4 and 5 without room:");
-    let end_scan = calls::run(snap_scan, b"230 217 220 230 240 250 ");
-    print::text(b"\nend:");
-    let done = calls::end_with(end_scan, 58);
-    print::text(b"then 5 with room:");
-    calls::end_with(done, 58);
+    print::text(b"idle, due to snap, update, end; idle, due to snap, end:");
+    let t = calls::run(
+        Table::fresh(2),
+        b"230 240 250 |   217 217 220 240 250 |   230 217 220 230 250 |   240 217 220 230 240 |   250 230 240 250 |   220 217 220 240 250 |   230 217 220 230 240 250 ",
+    );
+    print::text(b"\nend with room:");
+    let idle = calls::end_with(t, 58);
+    print::text(b"again:");
+    calls::end_with(idle, 58);
 }
 
 // The end of a label operation writes no report, whatever the room.
@@ -95,33 +86,23 @@ fn label_ends() {
 
 // A table with a digit 6, whose station 2 is due to end a scan.
 fn ill_formed() -> Table {
-    let t = tables::with_digit(Table::fresh(2), 0, 0, 6);
-    tables::with_phase(t, 1, Phase::End(Operation::Scan))
+    let s = tables::fresh(2);
+    let t = tables::fresh_but(2, 0, tables::with_digit(s, 0, 6));
+    let due = tables::with_phase(s, Phase::End(Operation::Scan));
+    tables::with_station(t, 1, due)
 }
 
-fn first_13() {
-    let t = ill_formed();
+// Calls that several refusals concern.
+fn order() {
     print::text(b"13 before 10 2 11, all of these, and 3 4 5 6 7:");
-    calls::call(t, 1, 6, 0);
-    calls::call(t, 3, 1, 7);
-    calls::call(t, 1, 1, 0);
-    calls::call(t, 3, 6, 1);
-    calls::run(t, b"217 130 140 150 250 ");
+    calls::run(ill_formed(), b"160 317 110 361 217 130 140 150 250 ");
     print::text(b"\n13 with room:");
-    calls::end_with(t, 58);
-    print::text(b"13 for each named call:");
-    calls::each_named(t, 1);
-}
-
-fn first_others() {
-    print::text(b"station 2 due to end a scan:");
-    let t = calls::run(Table::fresh(2), b"220 230 ");
-    print::text(b"\n10 before 2, 11 and both:");
-    calls::run(t, b"360 161 361 ");
-    print::text(b"\n2 before 11, codes 1 to 5:");
-    calls::run(t, b"310 321 331 341 351 ");
-    print::text(b"\n11 before 3 3 4 5 6 7:");
-    calls::run(t, b"210 221 131 141 151 251 ");
+    calls::end_with(ill_formed(), 58);
+    print::text(b"station 2 scans; 10 before 2, 11, both; 2 before 11; 11 before 3 3 4 5 6 7:");
+    calls::run(
+        Table::fresh(2),
+        b"220 230 |   360 161 361 |   310 321 331 341 351 |   210 221 131 141 151 251 ",
+    );
     print::text(b"\n");
 }
 
@@ -153,11 +134,24 @@ fn rooms(n: usize)
     ends(calls::takes_label(Table::fresh(n), 1, 4294967295), n * 29);
 }
 
+// The five named calls of a station, each on the same table.
+fn each_named(t: Table, station: u64) {
+    let mut none = [0u8; 0];
+    calls::shown(step::begin_label(t, station, 7));
+    calls::shown(step::begin_scan(t, station));
+    calls::shown(step::snap(t, station));
+    calls::shown(step::update(t, station));
+    calls::shown(step::end(t, station, &mut none));
+}
+
 fn named() {
-    print::text(b"named calls of an idle station:");
-    calls::each_named(Table::fresh(2), 2);
-    print::text(b"named calls of station 3 of 2:");
-    calls::each_named(Table::fresh(2), 3);
+    print::text(b"named calls, idle, station 3 of 2, ill-formed:");
+    each_named(Table::fresh(2), 2);
+    print::text(b" |");
+    each_named(Table::fresh(2), 3);
+    print::text(b" |");
+    each_named(ill_formed(), 2);
+    print::text(b"\n");
 }
 
 pub fn all() {
@@ -167,8 +161,7 @@ pub fn all() {
     jobs();
     phases();
     label_ends();
-    first_13();
-    first_others();
+    order();
     named();
     rooms(2);
     rooms(3);

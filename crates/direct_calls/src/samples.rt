@@ -2,11 +2,20 @@
 use crate::calls;
 use crate::print;
 use crate::tables;
-use table::Entry;
 use table::Operation;
 use table::Phase;
 use table::Table;
 ghost use Prim.Native.Nat.{_<_};
+
+// The scan result of the station at place k.
+fn result(t: Table, k: usize)
+    requires { ⌜ k < 32 ⌝ }
+{
+    let s = t.stations[k];
+    let r = s.scan_result;
+    print::result(r, t.count);
+    print::text(b"\n");
+}
 
 // The labels of a table, and the scan of the station at place k.
 fn shown(t: Table, k: usize)
@@ -16,11 +25,7 @@ fn shown(t: Table, k: usize)
     print::labels(t);
     print::text(b" scan");
     let begun = calls::call(t, k as u64 + 1, 2, 0);
-    let snapped = calls::call(begun, k as u64 + 1, 3, 0);
-    let s = snapped.stations[k];
-    let r = s.scan_result;
-    print::result(r, snapped.count);
-    print::text(b"\n");
+    result(calls::call(begun, k as u64 + 1, 3, 0), k);
 }
 
 fn sample(name: &[u8], n: usize, script: &[u8], k: usize)
@@ -31,13 +36,17 @@ fn sample(name: &[u8], n: usize, script: &[u8], k: usize)
     shown(t, k);
 }
 
-fn table_of_samples() {
+fn samples_3_to_8() {
     sample(b"P3", 2, b"1m7 ", 1);
     sample(b"P4", 2, b"1m7 2m7 1m7 2m7 1m7 ", 0);
     sample(b"P5", 3, b"3m7 ", 0);
     sample(b"P6", 3, b"1m7 2m7 3m7 ", 0);
     sample(b"P7", 3, b"1m7 2m7 3m7 1m7 2m7 3m7 ", 0);
     sample(b"P8", 3, b"1m7 2m7 3m7 1m7 2m7 3m7 1m7 2m7 3m7 ", 0);
+}
+
+fn samples_9_to_12() {
+    let _z: u8 = 0;
     sample(b"P9", 3, b"117 217 130 230 140 240 ", 2);
     sample(b"P10", 3, b"117 217 130 230 140 150 3m7 1m7 3m7 1m7 ", 2);
     sample(b"P11", 3, b"117 217 130 230 140 150 3m7 1m7 3m7 1m7 240 ", 2);
@@ -64,16 +73,20 @@ fn listing() {
     print::text(b"\n");
 }
 
+// Station 2 ends its scan by the named call.
+fn end_named(t: Table) -> Table {
+    let mut report = [print::FILL; 58];
+    let o = step::end(t, 2, &mut report);
+    let r = o.reply;
+    print::report(r, &report);
+    o.table
+}
+
 fn listing_named() {
     print::text(b"listing by named calls:");
     let t = takes_label(Table::fresh(2), 1, 70);
     let begun = calls::shown(step::begin_scan(t, 2));
-    let due = calls::shown(step::snap(begun, 2));
-    let mut report = [print::FILL; 58];
-    let o = step::end(due, 2, &mut report);
-    let r = o.reply;
-    let done = o.table;
-    print::report(r, &report);
+    let done = end_named(calls::shown(step::snap(begun, 2)));
     print::text(b"then");
     calls::shown(step::snap(done, 3));
     print::text(b"\n");
@@ -86,28 +99,26 @@ fn scan_at_snap() {
     calls::end_with(t, 87);
 }
 
-// A scan result that no snap stored, at station 2, due to end.
+// Station 2, due to end a scan, has a scan result that no snap stored.
 fn stored_result() {
     print::text(b"a stored result:");
-    let a = tables::with_entry(Table::fresh(3), 1, 0, Entry { station: 3, job: 9 });
-    let b = tables::with_entry(a, 1, 1, Entry { station: 1, job: 8 });
-    let c = tables::with_entry(b, 1, 2, Entry { station: 2, job: 7 });
-    calls::end_with(
-        tables::with_phase(c, 1, Phase::End(Operation::Scan)),
-        87,
-    );
+    let a = tables::with_entry(tables::fresh(3), 0, 3, 9);
+    let b = tables::with_entry(a, 1, 1, 8);
+    let c = tables::with_entry(b, 2, 2, 7);
+    let due = tables::with_phase(c, Phase::End(Operation::Scan));
+    calls::end_with(tables::fresh_but(3, 1, due), 87);
 }
 
 // The newest station keeps its pending label, also one that is not its label.
 fn newest_keeps() {
-    print::text(b"the newest station's pending 4.1");
-    let t = tables::with_pending_digit(tables::labelled(21, 11, 11), 0, 0, 4);
-    let u = calls::run(t, b"1m7 ");
-    shown(u, 0);
+    print::text(b"label 2.1, pending 4.1:");
+    let s = tables::with_pending_digit(tables::labelled(21), 0, 4);
+    shown(calls::run(tables::fresh_but(3, 0, s), b"1m7 "), 0);
 }
 
 pub fn all() {
-    table_of_samples();
+    samples_3_to_8();
+    samples_9_to_12();
     listing();
     listing_named();
     scan_at_snap();
