@@ -2,3 +2,5 @@ pub mod ResultLaws
 pub mod Orders
 pub mod Filled
 pub mod Owned
+pub mod Checks
+pub mod Rings

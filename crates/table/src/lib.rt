@@ -8,6 +8,8 @@ ghost use Rattle.table.specs.Results.{freshEntry};
 ghost use Rattle.table.specs.Tables.{freshTable, newestOf, pendingAfter, scanOf};
 ghost use Rattle.table.specs.WellFormed.{wellFormed};
 
+mod well_formed;
+
 // What a process is doing: it takes a label, or it scans (document 01: mark, list).
 pub enum Operation {
     Label,
