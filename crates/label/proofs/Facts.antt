@@ -1,13 +1,15 @@
 -- Facts on the tests.
 use Prim.Native.Nat.{ℕ, zero, suc, _+_, _≤_, _<_}
-use native.Mathlib.Nat.{not-suc-le-zero, le-refl, le-step, lt-suc-self, eq-or-lt-of-le, le-of-suc-le-suc}
+use native.Mathlib.Nat.{zero-add, not-suc-le-zero, le-refl, le-step, lt-suc-self, eq-or-lt-of-le, le-of-suc-le-suc}
 use native.Mathlib.Omega.{arith}
 use mathlib.Core.Path.{_≡_, refl, sym, ap, ap₂, _∙_}
-use mathlib.Core.Logic.{_⊎_, inl, inr}
+use mathlib.Core.Logic.{_≢_, _⊎_, inl, inr, by-cases}
+use native.Mathlib.Decide.{ℕ-discrete}
 use mathlib.Core.Bool.{Bool, true, false, not, _&&_, cond, true≢false}
 use mathlib.Core.List as Lists
 use mathlib.Core.List.{[], _∷_}
-use lib.ListN.{length, getD, take}
+use lib.ListN.{length, getD, take, set, replicate, length-set}
+use lib.Seq.{ext-getD, getD-set-same, getD-set-other}
 use lib.Dec.{leb}
 use borrow.Author.Tests.{leb-true, le-leb}
 use Rattle.label.specs.Tests.{within, every, count, firstFrom, newest, inserted, ordered, tabulate, All}
@@ -20,6 +22,13 @@ and-both false b e = absurd (true≢false (sym e))
 
 pub both : {a b : Bool} → a ≡ true → b ≡ true → (a && b) ≡ true
 both {a} {b} p q = rw (p, q) refl
+
+pub left-no : {a : Bool} (b : Bool) → a ≡ false → (a && b) ≡ false
+left-no b e = rw e refl
+
+pub right-no : (a : Bool) {b : Bool} → b ≡ false → (a && b) ≡ false
+right-no true e = e
+right-no false e = refl
 
 pub tf : {b : Bool} → b ≡ true → b ≡ false → ⊥
 tf p q = true≢false (sym p ∙ q)
@@ -53,6 +62,13 @@ pub every-same : (k : ℕ) (f g : ℕ → Bool) → ((i : ℕ) → i < k → f i
 unfolding every
 every-same zero f g h = refl
 every-same (suc k) f g h = ap₂ _&&_ (every-same k f g (λ i l. h i (le-step l))) (h k (lt-suc-self k))
+
+pub every-no : (k : ℕ) (f : ℕ → Bool) (i : ℕ) → i < k → f i ≡ false → every k f ≡ false
+every-no k f i l e = go (every k f) refl
+  where
+    go : (x : Bool) → every k f ≡ x → x ≡ false
+    go true h = absurd (tf (every-at k f h i l) e)
+    go false h = refl
 
 -- THE FIRST
 
@@ -192,3 +208,26 @@ unfolding tabulate
 take-tabulate zero w h f l = refl
 take-tabulate (suc k) zero h f l = absurd (omega arith)
 take-tabulate (suc k) (suc w) h f l = ap (λ r. f h ∷ r) (take-tabulate k w (suc h) f (omega arith))
+
+-- an array that a loop fills: before it, and after one more store
+pub replicate-tabulate : {A : Type 0} (k h : ℕ) (v : A) (f : ℕ → A) → ((p : ℕ) → p < h + k → f p ≡ v) → replicate k v ≡ tabulate k h f
+unfolding tabulate
+replicate-tabulate zero h v f e = refl
+replicate-tabulate (suc k) h v f e = ap₂ _∷_ (sym (e h (omega arith))) (replicate-tabulate k (suc h) v f (λ p l. e p (omega arith)))
+
+pub set-tabulate : {A : Type 0} (k p : ℕ) (v : A) (f g : ℕ → A) → p < k → v ≡ g p → ((q : ℕ) → q < k → q ≢ p → f q ≡ g q)
+    → set (tabulate k 0 f) p v ≡ tabulate k 0 g
+set-tabulate k p v f g l here other = ext-getD v _ _ (length-set (tabulate k 0 f) p v ∙ length-tabulate k 0 f ∙ sym (length-tabulate k 0 g))
+    (λ q h. at q (rw (length-set, length-tabulate) at h))
+  where
+    at : (q : ℕ) → q < k → getD (set (tabulate k 0 f) p v) q v ≡ getD (tabulate k 0 g) q v
+    at q h = by-cases (ℕ-discrete q p)
+        (λ e. rw e (getD-set-same (tabulate k 0 f) p v v (rw (length-tabulate k 0 f) l) ∙ here ∙ sym (getD-tabulate k 0 p g v l ∙ ap g (zero-add p))))
+        (λ d. getD-set-other (tabulate k 0 f) p q v v d ∙ getD-tabulate k 0 q f v h ∙ ap f (zero-add q) ∙ other q h d
+        ∙ sym (getD-tabulate k 0 q g v h ∙ ap g (zero-add q)))
+
+-- within the list the default plays no part
+pub getD-any : {A : Type 0} (l : Lists.List A) (i : ℕ) (d e : A) → i < length l → getD l i d ≡ getD l i e
+getD-any [] i d e h = absurd (not-suc-le-zero h)
+getD-any (x ∷ l) zero d e h = refl
+getD-any (x ∷ l) (suc i) d e h = getD-any l i d e (le-of-suc-le-suc h)

@@ -4,3 +4,4 @@ pub mod Order
 pub mod Choice
 pub mod Total
 pub mod RowLaws
+pub mod Searches

@@ -5,8 +5,8 @@ use mathlib.Core.Bool.{Bool, true, false, not, _&&_}
 use Prim.Native.Nat.{ℕ, suc, _≤_, _<_}
 use native.Mathlib.Decide.{ℕ-discrete, decLt}
 use native.Mathlib.Omega.{arith}
-use lib.Dec.{ltb, eqb}
-use borrow.Author.Tests.{eqb-true, lt-ltb, le-ltb, eq-eqb, ne-eqb, not-true, not-false}
+use lib.Dec.{ltb, leb, eqb}
+use borrow.Author.Tests.{eqb-true, lt-ltb, le-ltb, le-leb, lt-leb, eq-eqb, ne-eqb, not-true, not-false}
 use Rattle.label.specs.Labels.{Label, below, next, agrees, firstDifference, labelBelow, labelBefore, nextLabel}
 use Rattle.label.proofs.Facts.{tf, every-all, every-at, First, first}
 use Rattle.label.proofs.Digits.{Tri, lt, eq, gt, compare, Below, below-ne, below-asym, below-not, below-next, next-within}
@@ -49,28 +49,49 @@ Lt-asym {m} {a} {b} l r = go (compare (l .at) (r .at))
     go (gt h) = below-ne (r .below) (sym (l .same (r .at) h))
 
 -- ---- what the tests say of labels that differ first at p
-firstDifference-at : (m : ℕ) (a b : Label) (p : ℕ) → p < m → Agree p a b → a p ≢ b p → firstDifference m a b ≡ p
-unfolding firstDifference
-firstDifference-at m a b p l s d = go (compare (firstDifference m a b) p)
-  where
-    f : First m 0 (λ p. not (eqb (a p) (b p))) (firstDifference m a b)
-    f = first m 0 (λ p. not (eqb (a p) (b p)))
-
-    go : Tri (firstDifference m a b < p) (firstDifference m a b ≡ p) (p < firstDifference m a b) → firstDifference m a b ≡ p
-    go (lt h) = absurd (tf (eq-eqb _ _ (s (firstDifference m a b) h)) (not-true _ (f .found (omega arith))))
-    go (eq e) = e
-    go (gt h) = absurd (d (eqb-true (a p) (b p) (not-false _ (f .earlier p (omega arith) h))))
-
-below-at : (m : ℕ) (a b : Label) (p : ℕ) → p < m → Agree p a b → a p ≢ b p → labelBelow m a b ≡ below (a p) (b p)
-unfolding labelBelow
-below-at m a b p l s d = rw (firstDifference-at m a b p l s d, lt-ltb p m l) refl
-
 apart : (m : ℕ) (a b : Label) (p : ℕ) → p < m → a p ≢ b p → agrees m a b ≡ false
 apart m a b p l d = go (agrees m a b) refl
   where
     go : (x : Bool) → agrees m a b ≡ x → x ≡ false
     go true e = absurd (d (agrees-true m a b e p l))
     go false e = refl
+
+module _ (m : ℕ) (a b : Label) where
+  pub difference-first : First m 0 (λ p. not (eqb (a p) (b p))) (firstDifference m a b)
+  unfolding firstDifference
+  difference-first = first m 0 (λ p. not (eqb (a p) (b p)))
+
+  pub difference-same : Agree (firstDifference m a b) a b
+  difference-same q l = eqb-true (a q) (b q) (not-false _ (difference-first .earlier q (omega arith) l))
+
+  pub difference-apart : firstDifference m a b < m → a (firstDifference m a b) ≢ b (firstDifference m a b)
+  difference-apart l e = tf (eq-eqb _ _ e) (not-true _ (difference-first .found (omega arith)))
+
+  pub difference-at : (p : ℕ) → p < m → Agree p a b → a p ≢ b p → firstDifference m a b ≡ p
+  difference-at p l s d = go (compare (firstDifference m a b) p)
+    where
+      go : Tri (firstDifference m a b < p) (firstDifference m a b ≡ p) (p < firstDifference m a b) → firstDifference m a b ≡ p
+      go (lt h) = absurd (difference-apart (omega arith) (s _ h))
+      go (eq e) = e
+      go (gt h) = absurd (d (difference-same p h))
+
+  pub difference-none : Agree m a b → firstDifference m a b ≡ m
+  difference-none s = go (compare (firstDifference m a b) m)
+    where
+      go : Tri (firstDifference m a b < m) (firstDifference m a b ≡ m) (m < firstDifference m a b) → firstDifference m a b ≡ m
+      go (lt h) = absurd (difference-apart h (s _ h))
+      go (eq e) = e
+      go (gt h) = absurd (omega (arith, difference-first .upto))
+
+  -- agreement in the first h digits is a difference no earlier than h
+  pub agrees-upto : (h : ℕ) → h ≤ m → agrees h a b ≡ leb h (firstDifference m a b)
+  agrees-upto h l = by-cases (decLt (firstDifference m a b) h)
+      (λ u. apart h a b (firstDifference m a b) u (difference-apart (omega arith)) ∙ sym (lt-leb h (firstDifference m a b) u))
+      (λ u. agree-agrees h a b (λ q k. difference-same q (omega arith)) ∙ sym (le-leb h (firstDifference m a b) (omega arith)))
+
+below-at : (m : ℕ) (a b : Label) (p : ℕ) → p < m → Agree p a b → a p ≢ b p → labelBelow m a b ≡ below (a p) (b p)
+unfolding labelBelow
+below-at m a b p l s d = rw (difference-at m a b p l s d, lt-ltb p m l) refl
 
 never : (m : ℕ) (a : Label) → labelBelow m a a ≡ false
 unfolding labelBelow

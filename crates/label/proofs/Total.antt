@@ -12,7 +12,7 @@ use Rattle.label.specs.Tests.{every, newest, inserted, ordered, All}
 use Rattle.label.specs.Labels.{Label, below, agrees, firstDifference, labelBelow, labelBefore}
 use Rattle.label.proofs.Facts.{tf, both, and-both, every-all, every-at, First, first, inserted-all, ordered-all}
 use Rattle.label.proofs.Digits.{Tri, lt, eq, gt, compare, Below, below-small}
-use Rattle.label.proofs.Order.{Agree, agrees-true, agree-agrees, Lt, before-less, before-same}
+use Rattle.label.proofs.Order.{Agree, agrees-true, agree-agrees, difference-same, difference-apart, Lt, before-less, before-same}
 
 pub record Ringless (m : ℕ) (t : ℕ → Label) : Type 0 where
   pub valid : (i p : ℕ) → i ≤ m → p < m → (1 ≤ t i p) × (t i p ≤ 5)
@@ -91,17 +91,14 @@ digit-next a b c h k =
 
 -- what a passed test says
 below-true : (m : ℕ) (a b : Label) → labelBelow m a b ≡ true → Lt m a b
-unfolding labelBelow firstDifference
+unfolding labelBelow
 below-true m a b e =
     let h = and-both (ltb (firstDifference m a b) m) (below (a (firstDifference m a b)) (b (firstDifference m a b))) e in record {
       at = firstDifference m a b;
       inside = ltb-true (firstDifference m a b) m (h .0);
-      same = λ q l. eqb-true (a q) (b q) (not-false _ (f .earlier q (omega arith) l));
+      same = difference-same m a b;
       below = record { fact = h .1 };
     }
-  where
-    f : First m 0 (λ p. not (eqb (a p) (b p))) (firstDifference m a b)
-    f = first m 0 (λ p. not (eqb (a p) (b p)))
 
 abbrev Before : ℕ → Label → ℕ → Label → ℕ → Type 0
 Before m a i b j = Lt m a b ⊎ (Agree m a b × (i < j))
@@ -137,27 +134,19 @@ module _ {m : ℕ} {t : ℕ → Label} (r : Ringless m t) where
           at (ring₃ a b c) = absurd (r .free k i j (x .at) lk li lj (x .inside) (λ q l. sym (x .same q l ∙ jk q l)) (x .same) a b c)
 
   label-tri : (i j : ℕ) → i ≤ m → j ≤ m → Tri (Lt m (t i) (t j)) (Agree m (t i) (t j)) (Lt m (t j) (t i))
-  unfolding firstDifference
-  label-tri i j li lj = go (compare (firstDifference m (t i) (t j)) m)
+  label-tri i j li lj = go (compare p m)
     where
       p : ℕ
       p = firstDifference m (t i) (t j)
 
-      f : First m 0 (λ p. not (eqb (t i p) (t j p))) p
-      f = first m 0 (λ p. not (eqb (t i p) (t j p)))
-
-      same : (q : ℕ) → q < p → t i q ≡ t j q
-      same q l = eqb-true (t i q) (t j q) (not-false _ (f .earlier q (omega arith) l))
-
       at : p < m → Below (t i p) (t j p) ⊎ Below (t j p) (t i p) → Tri (Lt m (t i) (t j)) (Agree m (t i) (t j)) (Lt m (t j) (t i))
-      at l (inl b) = lt (record { at = p; inside = l; same = same; below = b })
-      at l (inr b) = gt (record { at = p; inside = l; same = λ q h. sym (same q h); below = b })
+      at l (inl b) = lt (record { at = p; inside = l; same = difference-same m (t i) (t j); below = b })
+      at l (inr b) = gt (record { at = p; inside = l; same = λ q h. sym (difference-same m (t i) (t j) q h); below = b })
 
       go : Tri (p < m) (p ≡ m) (m < p) → Tri (Lt m (t i) (t j)) (Agree m (t i) (t j)) (Lt m (t j) (t i))
-      go (lt l) = at l (digit-tri (t i p) (t j p) (r .valid i p li l) (r .valid j p lj l)
-          (λ e. tf (eq-eqb (t i p) (t j p) e) (not-true _ (f .found (omega arith)))))
-      go (eq e) = eq (λ q l. same q (omega arith))
-      go (gt l) = eq (λ q h. same q (omega arith))
+      go (lt l) = at l (digit-tri (t i p) (t j p) (r .valid i p li l) (r .valid j p lj l) (difference-apart m (t i) (t j) l))
+      go (eq e) = eq (λ q l. difference-same m (t i) (t j) q (omega arith))
+      go (gt l) = eq (λ q h. difference-same m (t i) (t j) q (omega arith))
 
   -- "stands before" is a total order of the stations
   pub total : (n : ℕ) → n ≡ suc m → Total n (λ i j. labelBefore m (t i) i (t j) j)
