@@ -5,14 +5,14 @@ use native.Mathlib.Numerals.{add-one}
 use native.Mathlib.Omega.{arith}
 use mathlib.Core.Path.{_≡_, refl, sym, ap, _∙_}
 use mathlib.Core.Logic.{_≢_, by-cases}
-use mathlib.Core.Bool.{Bool, true, false, not, _&&_, cond}
+use mathlib.Core.Bool.{Bool, true, false, _&&_, cond}
 use mathlib.Core.List.{List, [], _∷_, _++_}
 use lib.ListN.{length, getD, set, take}
 use lib.Seq.{take-suc, getD-set-same, getD-set-other}
 use lib.Dec.{eqb}
 use borrow.Author.Tests.{eq-eqb, ne-eqb}
 use Rattle.label.specs.Tests.{every}
-use Rattle.label.proofs.Facts.{tf, both, every-at}
+use Rattle.label.proofs.Facts.{both, left-no}
 use Rattle.table.specs.Results.{blank, times}
 use Rattle.table.specs.declared.Entry.{Entry}
 
@@ -25,20 +25,6 @@ every-none f = refl
 pub every-more : (k : ℕ) (f : ℕ → Bool) → every k f ≡ true → f k ≡ true → every (k + 1) f ≡ true
 unfolding every
 every-more k f e h = rw (add-one k) (both e h)
-
-pub left-no : {a : Bool} (b : Bool) → a ≡ false → (a && b) ≡ false
-left-no b e = rw e refl
-
-pub right-no : (a : Bool) {b : Bool} → b ≡ false → (a && b) ≡ false
-right-no true e = e
-right-no false e = refl
-
-pub every-no : (k : ℕ) (f : ℕ → Bool) (i : ℕ) → i < k → f i ≡ false → every k f ≡ false
-every-no k f i l e = go (every k f) refl
-  where
-    go : (x : Bool) → every k f ≡ x → x ≡ false
-    go true h = absurd (tf (every-at k f h i l) e)
-    go false h = refl
 
 pub every-done : {k n : ℕ} (f : ℕ → Bool) → every k f ≡ true → k ≡ n → true ≡ every n f
 every-done f h e = sym h ∙ ap (λ k. every k f) e

@@ -7,7 +7,8 @@ use borrow.Author.Needs.{needs}
 use borrow.Author.Tests.{ltb-true, ltb-false}
 use Rattle.table.specs.Tables.{at}
 use Rattle.table.specs.declared.Station.{Station}
-use Rattle.table.proofs.Filled.{getD-any, filled, filled-none, filled-more, filled-all}
+use Rattle.label.proofs.Facts.{getD-any}
+use Rattle.table.proofs.Filled.{filled, filled-none, filled-more, filled-all}
 use Rattle.table.proofs.Owned.{stations-long}
 use Rattle.table.proofs.Table.labels.Statement.{statement}
 use Rattle.table.proofs.Table.labels.Tie as tie

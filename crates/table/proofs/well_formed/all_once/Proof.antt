@@ -1,24 +1,16 @@
-use Prim.Native.Nat.{ℕ, suc, _+_, _-_, _≤_, _<_}
-use mathlib.Core.Path.{_≡_, refl, ap, sym, _∙_}
-use mathlib.Core.Bool.{Bool, true, false, not, _&&_}
-use mathlib.Core.Logic.{⊎-elim}
-use native.Mathlib.Nat.{min-le-left}
+use Prim.Native.Nat.{_-_, _≤_}
+use mathlib.Core.Path.{_≡_, sym}
+use mathlib.Core.Bool.{true}
 use native.Mathlib.Omega.{arith}
-use lib.ListN.{length, getD, set, take, length-set, length-take, getD-replicate}
+use lib.ListN.{getD}
 use lib.Dec.{eqb}
 use borrow.Author.Needs.{needs}
-use borrow.Author.Tests.{eq-eqb, ne-eqb, leb-true, leb-false, not-true, not-false}
+use borrow.Author.Tests.{eq-eqb, ne-eqb}
 use Rattle.label.specs.Tests.{every}
-use Rattle.label.specs.Rows.{digit}
-use Rattle.label.proofs.Facts.{both, every-same, getD-tabulate}
-use Rattle.table.specs.Results.{blank, freshEntry, sameEntry, times, resultFits}
-use Rattle.table.specs.Gathered.{held}
-use Rattle.table.proofs.Checks.{every-none, every-more, every-done, and-last, and-stop, every-no, left-no, right-no, set-each, times-bound, tally-other, tally-here}
-use Rattle.table.proofs.Filled.{getD-any}
+use Rattle.label.proofs.Facts.{every-no}
+use Rattle.table.proofs.Checks.{every-none, every-more, every-done}
 use Rattle.table.proofs.well_formed.all_once.Statement.{statement}
 use Rattle.table.proofs.well_formed.all_once.Tie as tie
-use Rattle.table.proofs.well_formed.all_once.Reads as reads
-use Rattle.table.proofs.well_formed.all_once.Lts as lts
 
 abbrev Inv-loop : tie.InvT-loop
 Inv-loop n counts i₀ i = (i ≤ n) × (every i (λ k. eqb (getD counts k 0) 1) ≡ true)

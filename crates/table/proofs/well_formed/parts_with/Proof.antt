@@ -1,24 +1,19 @@
-use Prim.Native.Nat.{ℕ, suc, _+_, _-_, _≤_, _<_}
-use mathlib.Core.Path.{_≡_, refl, ap, sym, _∙_}
-use mathlib.Core.Bool.{Bool, true, false, not, _&&_}
+use Prim.Native.Nat.{ℕ, _-_, _≤_, _<_}
+use mathlib.Core.Path.{_≡_, ap, sym, _∙_}
+use mathlib.Core.Bool.{false, not, _&&_}
 use mathlib.Core.Logic.{⊎-elim}
-use native.Mathlib.Nat.{min-le-left}
+use mathlib.Core.List.{[]}
 use native.Mathlib.Omega.{arith}
-use lib.ListN.{length, getD, set, take, length-set, length-take, getD-replicate}
+use lib.ListN.{length, getD, length-set, getD-replicate}
 use lib.Dec.{eqb}
 use borrow.Author.Needs.{needs}
-use borrow.Author.Tests.{eq-eqb, ne-eqb, leb-true, leb-false, not-true, not-false}
 use Rattle.label.specs.Tests.{every}
-use Rattle.label.specs.Rows.{digit}
-use Rattle.label.proofs.Facts.{both, every-same, getD-tabulate}
-use Rattle.table.specs.Results.{blank, freshEntry, sameEntry, times, resultFits}
 use Rattle.table.specs.Gathered.{held}
-use Rattle.table.proofs.Checks.{every-none, every-more, every-done, and-last, and-stop, every-no, left-no, right-no, set-each, times-bound, tally-other, tally-here}
-use Rattle.table.proofs.Filled.{getD-any}
+use Rattle.table.proofs.Owned.{rows-long}
+use Rattle.table.proofs.Rings.{flag-other, flag-here}
+use Rattle.label.proofs.Searches.{digit-read}
 use Rattle.table.proofs.well_formed.parts_with.Statement.{statement}
 use Rattle.table.proofs.well_formed.parts_with.Tie as tie
-use Rattle.table.proofs.well_formed.parts_with.Reads as reads
-use Rattle.table.proofs.well_formed.parts_with.Lts as lts
 
 abbrev Inv-loop : tie.InvT-loop
 Inv-loop d n rows shared r₀ j₀ r j = (j ≤ n) × (length r ≡ 31) × ((p : ℕ) → p < n - 1 → getD r p false ≡ not (every j (λ k. not (eqb (getD shared k 0) p && eqb (held rows k p) d))))
@@ -67,10 +62,17 @@ loop-again c =
     let j = c .before .before .loop .j in
     let l : length r ≡ 31 = c .before .before .loop .inv .1 in
     let old = c .before .before .loop .inv .2 in
-    ?
+    let shares : ℕ → ℕ = λ k. getD xs k 0 in
+    let long = rows-long rows (c .before .before .before .good .1 .0) j (search needs) in
+    ⊎-elim (λ w. (search needs, rw (w .3) (simp length-set l), rw (w .3) (flag-here m shares (held rows) d r j old (omega (arith, w .0 .taken)) (sym (digit-read (getD rows j []) (shares j) (omega (arith, w .0 .taken))) ∙ w .2 .taken))))
+    (⊎-elim (λ w. (search needs, rw (w .3) l, rw (w .3) (flag-other m shares (held rows) d r j old (λ k e. w .2 .left (digit-read (getD rows j []) (shares j) (omega arith) ∙ e)))))
+    (λ w. (search needs, rw (w .1) l, rw (w .1) (flag-other m shares (held rows) d r j old (λ k. absurd (omega (arith, w .0 .left)))))))
+    (c .if1 .came)
 
 returns : tie.Need-returns Inv-loop μ-loop
-returns c = ?
+returns c =
+    let a = c .before .before .args in
+    λ p l. c .before .loop .inv .2 p l ∙ ap (λ k. not (every k (λ j. not (eqb (getD (a .t3) j 0) p && eqb (held (a .t2) j p) (a .d))))) {x = c .before .loop .j} {y = a .n} (omega arith)
 
 pub parts-with-spec : {M : Type 1} → statement M
 parts-with-spec =

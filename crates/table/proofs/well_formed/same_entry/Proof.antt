@@ -1,24 +1,8 @@
-use Prim.Native.Nat.{ℕ, suc, _+_, _-_, _≤_, _<_}
-use mathlib.Core.Path.{_≡_, refl, ap, sym, _∙_}
-use mathlib.Core.Bool.{Bool, true, false, not, _&&_}
-use mathlib.Core.Logic.{⊎-elim}
-use native.Mathlib.Nat.{min-le-left}
-use native.Mathlib.Omega.{arith}
-use lib.ListN.{length, getD, set, take, length-set, length-take, getD-replicate}
-use lib.Dec.{eqb}
-use borrow.Author.Needs.{needs}
-use borrow.Author.Tests.{eq-eqb, ne-eqb, leb-true, leb-false, not-true, not-false}
-use Rattle.label.specs.Tests.{every}
-use Rattle.label.specs.Rows.{digit}
-use Rattle.label.proofs.Facts.{both, every-same, getD-tabulate}
-use Rattle.table.specs.Results.{blank, freshEntry, sameEntry, times, resultFits}
-use Rattle.table.specs.Gathered.{held}
-use Rattle.table.proofs.Checks.{every-none, every-more, every-done, and-last, and-stop, every-no, left-no, right-no, set-each, times-bound, tally-other, tally-here}
-use Rattle.table.proofs.Filled.{getD-any}
+use mathlib.Core.Path.{refl}
+use borrow.Author.Tests.{eq-eqb, ne-eqb}
+use Rattle.table.proofs.Checks.{and-last, and-stop}
 use Rattle.table.proofs.well_formed.same_entry.Statement.{statement}
 use Rattle.table.proofs.well_formed.same_entry.Tie as tie
-use Rattle.table.proofs.well_formed.same_entry.Reads as reads
-use Rattle.table.proofs.well_formed.same_entry.Lts as lts
 
 returns : tie.Need-returns
 returns c = and-last (eq-eqb _ _ (c .before .before .if1 .taken)) refl

@@ -1,25 +1,16 @@
-use Prim.Native.Nat.{ℕ, suc, _+_, _-_, _≤_, _<_}
-use mathlib.Core.Path.{_≡_, refl, ap, sym, _∙_}
-use mathlib.Core.Bool.{Bool, true, false, not, _&&_}
-use mathlib.Core.Logic.{⊎-elim}
-use native.Mathlib.Nat.{min-le-left}
+use Prim.Native.Nat.{_+_, _-_, _≤_}
+use mathlib.Core.Path.{_≡_, sym, _∙_}
+use mathlib.Core.Bool.{true}
 use native.Mathlib.Omega.{arith}
-use lib.ListN.{length, getD, set, take, length-set, length-take, getD-replicate}
-use lib.Dec.{eqb}
+use lib.ListN.{getD}
 use borrow.Author.Needs.{needs}
-use borrow.Author.Tests.{eq-eqb, ne-eqb, leb-true, leb-false, not-true, not-false}
+use borrow.Author.Tests.{not-true, not-false}
 use Rattle.label.specs.Tests.{every}
-use Rattle.label.specs.Rows.{digit}
-use Rattle.label.proofs.Facts.{both, every-same, getD-tabulate}
-use Rattle.table.specs.Results.{blank, freshEntry, sameEntry, times, resultFits}
-use Rattle.table.specs.Gathered.{held}
-use Rattle.table.proofs.Checks.{every-none, every-more, every-done, and-last, and-stop, every-no, left-no, right-no, set-each, times-bound, tally-other, tally-here}
-use Rattle.table.proofs.Filled.{getD-any}
+use Rattle.label.proofs.Facts.{every-no}
+use Rattle.table.specs.Results.{blank, sameEntry}
+use Rattle.table.proofs.Checks.{every-none, every-more, every-done}
 use Rattle.table.proofs.well_formed.same_from.Statement.{statement}
 use Rattle.table.proofs.well_formed.same_from.Tie as tie
-use Rattle.table.proofs.well_formed.same_from.Reads as reads
-use Rattle.table.proofs.well_formed.same_from.Lts as lts
-use Rattle.table.proofs.well_formed.same_entry.Reads as same-entry-reads
 
 abbrev Inv-loop : tie.InvT-loop
 Inv-loop h a b p₀ p = (p ≤ 32 - h) × (every p (λ q. sameEntry (getD a (h + q) blank) (getD b (h + q) blank)) ≡ true)

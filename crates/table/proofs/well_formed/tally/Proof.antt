@@ -1,24 +1,15 @@
-use Prim.Native.Nat.{ℕ, suc, _+_, _-_, _≤_, _<_}
-use mathlib.Core.Path.{_≡_, refl, ap, sym, _∙_}
-use mathlib.Core.Bool.{Bool, true, false, not, _&&_}
+use Prim.Native.Nat.{ℕ, suc, _-_, _≤_, _<_}
+use mathlib.Core.Path.{_≡_, ap, _∙_}
 use mathlib.Core.Logic.{⊎-elim}
 use native.Mathlib.Nat.{min-le-left}
 use native.Mathlib.Omega.{arith}
-use lib.ListN.{length, getD, set, take, length-set, length-take, getD-replicate}
-use lib.Dec.{eqb}
+use lib.ListN.{length, getD, take, length-set, length-take, getD-replicate}
 use borrow.Author.Needs.{needs}
-use borrow.Author.Tests.{eq-eqb, ne-eqb, leb-true, leb-false, not-true, not-false}
-use Rattle.label.specs.Tests.{every}
-use Rattle.label.specs.Rows.{digit}
-use Rattle.label.proofs.Facts.{both, every-same, getD-tabulate}
-use Rattle.table.specs.Results.{blank, freshEntry, sameEntry, times, resultFits}
-use Rattle.table.specs.Gathered.{held}
-use Rattle.table.proofs.Checks.{every-none, every-more, every-done, and-last, and-stop, every-no, left-no, right-no, set-each, times-bound, tally-other, tally-here}
-use Rattle.table.proofs.Filled.{getD-any}
+use borrow.Author.Tests.{leb-true, leb-false}
+use Rattle.table.specs.Results.{blank, times}
+use Rattle.table.proofs.Checks.{times-bound, tally-other, tally-here}
 use Rattle.table.proofs.well_formed.tally.Statement.{statement}
 use Rattle.table.proofs.well_formed.tally.Tie as tie
-use Rattle.table.proofs.well_formed.tally.Reads as reads
-use Rattle.table.proofs.well_formed.tally.Lts as lts
 
 abbrev Inv-loop : tie.InvT-loop
 Inv-loop n e r₀ p₀ r p = (p ≤ n) × (length r ≡ 32) × ((i : ℕ) → i < n → getD r i 0 ≡ times (suc i) (take p e))
@@ -72,13 +63,19 @@ loop-again c =
     let p = c .before .before .before .before .loop .p in
     let l : length r ≡ 32 = c .before .before .before .before .loop .inv .1 in
     let old = c .before .before .before .before .loop .inv .2 in
-    ⊎-elim (λ w. (search needs, rw (w .2) (simp length-set l), rw (w .2) (tally-here e n r p (omega arith) old (getD e p blank .station - 1) (omega (arith, w .0 .taken)) (omega (arith, w .0 .taken, leb-true _ _ (w .1 .taken))) (omega (arith, w .0 .taken, leb-true _ _ (w .1 .taken))))))
-    (λ w. (search needs, rw (w .1) l, rw (w .1) (tally-other e n r p (omega arith) old
-    (λ i h q. ⊎-elim (λ v. omega (arith, leb-false _ _ (v .1 .left))) (λ v. omega (arith, v .left)) (w .0 .came)))))
+    let s = getD e p blank .station in
+    ⊎-elim (λ w. let h : s ≤ n = leb-true s n (w .1 .taken) in
+    (search needs, rw (w .2) (simp length-set l), rw (w .2) (tally-here e n r p (omega arith) old (s - 1) (omega (arith, w .0 .taken)) (omega (arith, w .0 .taken)) (omega (arith, w .0 .taken)))))
+    (λ w. (
+      search needs,
+      rw (w .1) l,
+      rw (w .1) (tally-other e n r p (omega arith) old
+          (λ i h q. ⊎-elim (λ v. omega (arith, leb-false s n (v .1 .left))) (λ v. omega (arith, v .left)) (w .0 .came))),
+    ))
     (c .if1 .came)
 
 returns : tie.Need-returns Inv-loop μ-loop
-returns c = λ i l. c .before .loop .inv .2 i l ∙ ap (λ k. times (suc i) (take k (c .before .before .args .t2))) {y = c .before .before .args .n} (omega arith)
+returns c = λ i l. c .before .loop .inv .2 i l ∙ ap (λ k. times (suc i) (take k (c .before .before .args .t2))) {x = c .before .loop .p} {y = c .before .before .args .n} (omega arith)
 
 pub tally-spec : {M : Type 1} → statement M
 tally-spec =
