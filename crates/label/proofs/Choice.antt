@@ -7,28 +7,25 @@ use native.Mathlib.Omega.{arith}
 use lib.Dec.{eqb, leb}
 use borrow.Author.Tests.{eqb-false, eq-eqb, ne-eqb, not-true, leb-true, leb-false, le-leb}
 use Rattle.label.specs.Tests.{count}
-use Rattle.label.specs.Labels.{Label, agrees, nextLabel, others, level}
+use Rattle.label.specs.Labels.{Label, agrees, nextLabel, otherAgrees, others, level}
 use Rattle.label.proofs.Facts.{tf, and-both, both, First, first, count-mono, count-strict, count-some, count-gap}
 use Rattle.label.proofs.Digits.{below-next, Tri, lt, eq, gt, compare}
 use Rattle.label.proofs.Order.{Agree, agree?, agrees-true, agree-agrees, Within, Lt, Le, over}
 
-module _ (m : ℕ) (t : ℕ → Label) (top : Label) where
-  -- how many stations agree with the label `top` in its first q digits
-  unfoldable pub all : ℕ → ℕ
-  all q = count (suc m) (λ j. agrees q (t j) top)
+-- what the test behind `others` says, and when it is passed
+module _ (t : ℕ → Label) (top : Label) (k q : ℕ) where
+  pub other-true : (j : ℕ) → otherAgrees t top k q j ≡ true → (j ≢ k) × Agree q (t j) top
+  other-true j e = let h = and-both (not (eqb j k)) (agrees q (t j) top) e in (eqb-false j k (not-true (eqb j k) (h .0)), agrees-true q (t j) top (h .1))
 
-  -- the test behind `others`
-  abbrev but : ℕ → ℕ → ℕ → Bool
-  but k q j = not (eqb j k) && agrees q (t j) top
+  pub other-of : (j : ℕ) → j ≢ k → Agree q (t j) top → otherAgrees t top k q j ≡ true
+  other-of j ne s = both (ap not (ne-eqb j k ne)) (agree-agrees q (t j) top s)
 
-  pub but-true : (k q j : ℕ) → but k q j ≡ true → (j ≢ k) × Agree q (t j) top
-  but-true k q j e = let h = and-both (not (eqb j k)) (agrees q (t j) top) e in (eqb-false j k (not-true (eqb j k) (h .0)), agrees-true q (t j) top (h .1))
+  pub other-self : otherAgrees t top k q k ≡ false
+  other-self = rw (eq-eqb k k refl) refl
 
-  pub but-of : (k q j : ℕ) → j ≢ k → Agree q (t j) top → but k q j ≡ true
-  but-of k q j ne s = both (ap not (ne-eqb j k ne)) (agree-agrees q (t j) top s)
-
-  pub but-self : (k q : ℕ) → but k q k ≡ false
-  but-self k q = rw (eq-eqb k k refl) refl
+-- how many processes agree with the label `top` in its first q digits (the paper's NUM)
+unfoldable pub all : ℕ → (ℕ → Label) → Label → ℕ → ℕ
+all m t top q = count (suc m) (λ j. agrees q (t j) top)
 
 -- what is known of it (the paper's Claim 5.1.2)
 pub record Choice (m : ℕ) (t : ℕ → Label) (top : Label) (k p : ℕ) : Type 0 where
@@ -41,8 +38,8 @@ module _ (m : ℕ) (t : ℕ → Label) (top : Label) where
   pub others-grow : (u : ℕ → Label) (w : Label) (k q r : ℕ) → ((j : ℕ) → j ≤ m → Agree q (t j) top → Agree r (u j) w)
       → others m t top k q ≤ others m u w k r
   unfolding others
-  others-grow u w k q r f = count-mono (suc m) (but m t top k q) (but m u w k r)
-      (λ j l h. let e = but-true m t top k q j h in but-of m u w k r j (e .0) (f j (omega arith) (e .1)))
+  others-grow u w k q r f = count-mono (suc m) (otherAgrees t top k q) (otherAgrees u w k r)
+      (λ j l h. let e = other-true t top k q j h in other-of u w k r j (e .0) (f j (omega arith) (e .1)))
 
   pub all-grow : (u : ℕ → Label) (w : Label) (q : ℕ) → ((j : ℕ) → j ≤ m → Agree q (t j) top → Agree q (u j) w) → all m t top q ≤ all m u w q
   unfolding all
@@ -52,16 +49,16 @@ module _ (m : ℕ) (t : ℕ → Label) (top : Label) where
   pub one-more : (u : ℕ → Label) (w : Label) (k q : ℕ) → k ≤ m → Agree q (u k) w → ((j : ℕ) → j ≤ m → Agree q (t j) top → Agree q (u j) w)
       → others m t top k q < all m u w q
   unfolding all others
-  one-more u w k q l h f = count-strict (suc m) (but m t top k q) (λ j. agrees q (u j) w) k
-      (λ j i s. agree-agrees q (u j) w (f j (omega arith) (but-true m t top k q j s .1))) (omega arith) (but-self m t top k q) (agree-agrees q (u k) w h)
+  one-more u w k q l h f = count-strict (suc m) (otherAgrees t top k q) (λ j. agrees q (u j) w) k
+      (λ j i s. agree-agrees q (u j) w (f j (omega arith) (other-true t top k q j s .1))) (omega arith) (other-self t top k q) (agree-agrees q (u k) w h)
 
   -- if all are more than the others, station k agrees
   pub counted : (k q : ℕ) → others m t top k q < all m t top q → Agree q (t k) top
   unfolding all others
   counted k q l = Dec·not-not (agree? q (t k) top) .0 (λ h. omega (
     arith,
-    count-mono (suc m) (λ j. agrees q (t j) top) (but m t top k q)
-        (λ j i s. let a = agrees-true q (t j) top s in but-of m t top k q j (λ e. h (rw e at a)) a),
+    count-mono (suc m) (λ j. agrees q (t j) top) (otherAgrees t top k q)
+        (λ j i s. let a = agrees-true q (t j) top s in other-of t top k q j (λ e. h (rw e at a)) a),
   ))
 
   -- there is such a position: the newest station z agrees everywhere, and station k itself is left out
@@ -80,7 +77,7 @@ module _ (m : ℕ) (t : ℕ → Label) (top : Label) where
 
       last : enough (pred m) ≡ true
       last = le-leb (m - pred m) (others m t top k (suc (pred m))) (omega
-          (arith, count-some (suc m) (but m t top k (suc (pred m))) z (omega arith) (but-of m t top k (suc (pred m)) z ne (λ x i. ap (λ f. f x) e))))
+          (arith, count-some (suc m) (otherAgrees t top k (suc (pred m))) z (omega arith) (other-of t top k (suc (pred m)) z ne (λ x i. ap (λ f. f x) e))))
 
       at : Tri (p < m) (p ≡ m) (m < p) → p < m
       at (lt h) = h
@@ -91,7 +88,7 @@ module _ (m : ℕ) (t : ℕ → Label) (top : Label) where
       inside = at (compare p m)
 
       few : (q : ℕ) → q ≤ p → others m t top k q + q ≤ m
-      few zero l = omega (arith, count-gap (suc m) (but m t top k 0) k (omega arith) (but-self m t top k 0))
+      few zero l = omega (arith, count-gap (suc m) (otherAgrees t top k 0) k (omega arith) (other-self t top k 0))
       few (suc q) l = omega (arith, leb-false (m - q) (others m t top k (suc q)) (f .earlier q (omega arith) (omega arith)), inside)
 
   module _ {k p : ℕ} (c : Choice m t top k p) where
@@ -105,13 +102,13 @@ module _ (m : ℕ) (t : ℕ → Label) (top : Label) where
     close i l ne s = Dec·not-not (agree? (suc p) (t i) top) .0 (λ h. omega (
       arith,
       exactly,
-      count-strict (suc m) (but m t top k (suc p)) (but m t top k p) i
-          (λ j _ r. let e = but-true m t top k (suc p) j r in but-of m t top k p j (e .0) (λ q b. e .1 q (omega arith)))
-          (omega arith) (missing h (but m t top k (suc p) i) refl) (but-of m t top k p i ne s),
+      count-strict (suc m) (otherAgrees t top k (suc p)) (otherAgrees t top k p) i
+          (λ j _ r. let e = other-true t top k (suc p) j r in other-of t top k p j (e .0) (λ q b. e .1 q (omega arith)))
+          (omega arith) (missing h (otherAgrees t top k (suc p) i) refl) (other-of t top k p i ne s),
     ))
       where
-        missing : ¬ Agree (suc p) (t i) top → (x : Bool) → but m t top k (suc p) i ≡ x → x ≡ false
-        missing h true e = absurd (h (but-true m t top k (suc p) i e .1))
+        missing : ¬ Agree (suc p) (t i) top → (x : Bool) → otherAgrees t top k (suc p) i ≡ x → x ≡ false
+        missing h true e = absurd (h (other-true t top k (suc p) i e .1))
         missing h false e = refl
 
     -- the label that follows the newest one at p lies above the labels of the others, whatever stands behind p

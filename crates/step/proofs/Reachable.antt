@@ -1,20 +1,21 @@
--- Tables that pass 13: what the test says, and that every step from a fresh table keeps it.
+-- Tables reached from a fresh one: they are well-formed, so no call on them meets 13.
 use Prim.Native.Nat.{ℕ, suc, _+_, _-_, _≤_, _<_}
 use native.Mathlib.Omega.{arith}
+use native.Mathlib.Nat.{zero-add}
 use mathlib.Core.Path.{_≡_, refl, sym, ap, subst, _∙_}
 use mathlib.Core.Bool.{Bool, true, false, _&&_, cond}
 use lib.ListN.{length, getD, replicate, length-replicate, length-set}
 use lib.Seq.{getD-set-same, getD-set-other}
 use lib.Dec.{eqb}
 use borrow.Author.Tests.{eqb-true, eqb-false, eq-eqb}
-use Rattle.label.specs.Tests.{within, every, newest}
+use Rattle.label.specs.Tests.{within, every, newest, tabulate}
 use Rattle.label.specs.Labels.{newLabel}
 use Rattle.label.specs.Rows.{row, rowFits, noRing}
 use Rattle.label.proofs.RowLaws.{digit-row, fresh-row, label-fits, fits-digit, ringless, no-ring-of}
-use Rattle.table.specs.Results.{blank, resultFits}
-use Rattle.table.proofs.ResultLaws.{stored-fits, same-entry}
-use Rattle.label.proofs.Facts.{both, and-both, within-true, within-of, every-all, every-at}
-use Rattle.label.proofs.Order.{Within, follow-within}
+use Rattle.table.specs.Results.{blank, freshEntry, sameEntry, resultFits}
+use Rattle.table.proofs.ResultLaws.{stored-fits, fresh-fits, same-entry}
+use Rattle.label.proofs.Facts.{both, within-of, every-all, getD-tabulate}
+use Rattle.label.proofs.Order.{Within, next-label-within}
 use Rattle.label.proofs.Total.{Ringless, total, newest-inside}
 use Rattle.simulation.specs.Calls.{Call, place, Move, judge}
 use Rattle.simulation.proofs.Judged.{Accepted, accepted-place}
@@ -30,50 +31,6 @@ use Rattle.step.specs.Steps.{carryOut, move, stepOf}
 use Rattle.step.proofs.View.{view, viewAnswer, Led, new-behind, view-carried, at-fresh, view-fresh}
 use Rattle.table.specs.declared.Station.{Station}
 use Rattle.table.specs.declared.Table.{Table}
-
--- WHAT THE TEST SAYS
-
-pub record Passed (t : Table) : Type 0 where
-  pub low : 2 ≤ t .count
-  pub high : t .count ≤ 32
-  pub ringless : Ringless (t .count - 1) (labels t)
-
-pub passed : (t : Table) → wellFormed t ≡ true → Passed t
-unfolding wellFormed stationFits
-passed t e = record {
-  low = size .0;
-  high = size .1;
-  ringless = ringless (n - 1) (labels t) (e₀ .1)
-      (λ i p li lp. fits-digit 31 (n - 1) (at t i .label) (and-both _ _ (and-both _ _ (every-at n _ (e₂ .1) i (omega (arith, size .0))) .0) .0) p lp);
-}
-  where
-    n : ℕ
-    n = t .count
-
-    e₀ : ((within 2 32 n && every n (λ i. stationFits n (at t i)) && every (32 - n) (λ i. isFresh n (at t (n + i)))) ≡ true) × (noRing (n - 1) (labels t) ≡ true)
-    e₀ = and-both _ _ e
-
-    e₁ : ((within 2 32 n && every n (λ i. stationFits n (at t i))) ≡ true) × (every (32 - n) (λ i. isFresh n (at t (n + i))) ≡ true)
-    e₁ = and-both _ _ (e₀ .0)
-
-    e₂ : (within 2 32 n ≡ true) × (every n (λ i. stationFits n (at t i)) ≡ true)
-    e₂ = and-both _ _ (e₁ .0)
-
-    size : (2 ≤ n) × (n ≤ 32)
-    size = within-true 2 32 n (e₂ .0)
-
--- so on every table that passes, "stands before" is a total order of its stations, and there is a newest one
-pub stands-total : (t : Table) → wellFormed t ≡ true → Rattle.label.proofs.Total.Total (t .count) (stands t)
-stands-total t e = let p = passed t e in total (p .ringless) (t .count) (omega (arith, p .low))
-
-pub led : (t : Table) → length (t .stations) ≡ 32 → wellFormed t ≡ true → Led t
-led t l e = let p = passed t e in
-    record { low = p .low; high = p .high; places = l; lead = unfold newestOf in newest-inside (t .count) (stands t) (stands-total t e) (omega (arith, p .low)) }
-
--- THE VIEW LAW, for every table that passes 13 (its 32 places are the struct's)
-pub view-law : (t : Table) (c : Call) → length (t .stations) ≡ 32 → wellFormed t ≡ true
-    → viewAnswer (stepOf t c) ≡ Machine.step (t .count) (digits (t .count - 1)) (view t) c
-view-law t c l e = Rattle.step.proofs.View.view-law t c (led t l e) e
 
 -- TABLES
 
@@ -112,12 +69,15 @@ store-good t k s g l h = record {
     go i m true e = subst (λ j. Fits (t .count) (at (store t k s) j)) (sym (eqb-true i k e)) (subst (Fits (t .count)) (sym (getD-set-same (t .stations) k s _ b)) h)
     go i m false e = subst (Fits (t .count)) (sym (getD-set-other (t .stations) k i s _ (eqb-false i k e))) (g .each i m)
 
+ones : (w m : ℕ) → rowFits w m (replicate w 1) ≡ true
+ones w m = label-fits w m (replicate w 1) (λ p. 1) (fresh-row w) (λ p. (omega arith, omega arith)) (λ p l. refl)
+
 fresh-fresh : (n : ℕ) → isFresh n (freshStation n) ≡ true
 unfolding isFresh freshStation
-fresh-fresh n = both (both (both (both (both
-    (every-all 31 _ (λ p l. eq-eqb _ 1 (ap (λ f. f p) (fresh-row 31)))) refl)
-    (every-all 31 _ (λ p l. eq-eqb _ 1 (ap (λ f. f p) (fresh-row 31))))) refl)
-    (every-all 32 _ (λ p l. same-entry (getD (freshStation n .«scan_result») p blank)))) refl
+fresh-fresh n = both (both (both (both (both (ones 31 0) refl) (ones 31 0)) refl) (every-all 32 _ (λ p l. same p l))) refl
+  where
+    same : (p : ℕ) → p < 32 → sameEntry (getD (tabulate 32 0 (freshEntry n)) p blank) (freshEntry n p) ≡ true
+    same p l = rw (getD-tabulate 32 0 p (freshEntry n) blank l, zero-add p) (same-entry (freshEntry n p))
 
 fresh-good : (n : ℕ) → 2 ≤ n → n ≤ 32 → Good (freshTable n)
 unfolding freshTable freshStation
@@ -125,12 +85,9 @@ fresh-good n p q = record {
   low = p;
   high = q;
   places = length-replicate 32 (freshStation n);
-  each = λ i m. subst (Fits n) (sym (at-fresh n i)) (record { row = ones; pendingRow = ones; result = stored-fits 32 _ _ n q });
+  each = λ i m. subst (Fits n) (sym (at-fresh n i)) (record { row = ones 31 (n - 1); pendingRow = ones 31 (n - 1); result = fresh-fits 32 n q });
   rest = λ i m o. subst (λ x. isFresh n x ≡ true) (sym (at-fresh n i)) (fresh-fresh n);
 }
-  where
-    ones : rowFits 31 (n - 1) (replicate 31 1) ≡ true
-    ones = label-fits 31 (n - 1) (replicate 31 1) (λ p. 1) (fresh-row 31) (λ p. (omega arith, omega arith)) (λ p l. refl)
 
 -- REACHED TABLES: they pass but for the ring, and the machine's invariant holds of their view
 pub record Reached (t : Table) : Type 0 where
@@ -168,7 +125,7 @@ module _ (t : Table) (r : Reached t) where
         (λ d. label-fits 31 (t .count - 1) (row 31 _) _ (digit-row 31 _ (λ p h. new-behind t reached-led c l d p (omega (arith, r .good .high)))) new-digits (new-behind t reached-led c l d))
       where
         new-digits : Within 1 (newLabel (t .count - 1) 1 (labels t) (newestOf t) (place c))
-        new-digits = unfold newLabel in follow-within (omega arith) (r .ready .inv .digits false (newestOf t) (omega (arith, reached-led .lead))) _
+        new-digits = unfold newLabel in next-label-within (omega arith) (r .ready .inv .digits false (newestOf t) (omega (arith, reached-led .lead))) _
 
     scan-fits : resultFits 32 (t .count) (scanOf t) ≡ true
     unfolding scanOf
@@ -216,5 +173,5 @@ unfolding freshTable
 reached-fresh n p q = record {
   good = fresh-good n p q;
   N = λ x i. 0;
-  ready = subst (λ s. Ready (n - 1) s (λ x i. 0)) (sym (view-fresh n)) (fresh-ready n (n - 1) (omega arith));
+  ready = subst (λ s. Ready (n - 1) s (λ x i. 0)) (sym (view-fresh n q)) (fresh-ready n (n - 1) (omega arith));
 }

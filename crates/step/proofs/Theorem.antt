@@ -1,17 +1,20 @@
--- DEMAND 3: from the simulation between the two machines, through the view.
-use Prim.Native.Nat.{ℕ, _+_, _-_, _≤_}
+-- Demand 3 for step calls: from the simulation between the two machines, through the view.
+use Prim.Native.Nat.{ℕ, zero, suc, _+_, _-_, _≤_}
 use native.Mathlib.Omega.{arith}
 use mathlib.Core.Path.{_≡_, refl, sym, ap, ap₂, subst, _∙_}
 use mathlib.Core.Bool.{true}
+use mathlib.Core.Logic.{_≢_}
 use mathlib.Core.List as Lists
 use mathlib.Core.List.{[], _∷_, map}
+use lib.ListN.{take}
 use Rattle.label.specs.Tests.{tabulate, All}
-use Rattle.simulation.specs.Calls.{Call, labelSnap}
+use Rattle.simulation.specs.Calls.{Call, place, Move, labelSnap}
+use Rattle.simulation.proofs.Judged.{numberOf, not-judged}
 use Rattle.simulation.specs.Machine as Machine
 use Rattle.simulation.specs.Machine.{digits, runᵘ, Bounded}
 use Rattle.simulation.proofs.Follow.{Simulates}
 use Rattle.simulation.proofs.Simulation.{simulation}
-use Rattle.table.specs.Tables.{freshTable}
+use Rattle.table.specs.Tables.{freshTable, at}
 use Rattle.table.specs.WellFormed.{wellFormed}
 use Rattle.step.specs.Steps.{Answer, carryOut, move}
 use Rattle.step.proofs.View.{view, viewAnswer, view-carried, step-carries, view-fresh}
@@ -58,15 +61,43 @@ viewed (c ∷ cs) n t e r = go (viewed cs n (carryOut t c (move t c) .table) (co
           ∙ ap₂ (λ m x. labelSnap (Machine.move m (view t) c) + Machine.snaps n (digits (n - 1)) (x .state) cs) e stepped,
     )
 
--- DEMAND 3, for every sequence of step calls on the fresh table of any crew of 2 to 32
+-- no call on a reached table is refused by 13
+number-of : (t : Table) (c : Call) (m : Move) → carryOut t c m .refusal ≡ numberOf m
+unfolding carryOut
+number-of t c (Move.refused r) = refl
+number-of t c Move.beginsLabel = refl
+number-of t c Move.beginsScan = refl
+number-of t c Move.snapsLabel = refl
+number-of t c Move.snapsScan = refl
+number-of t c Move.updates = refl
+number-of t c Move.endsLabel = refl
+number-of t c Move.endsScan = refl
+
+never : (cs : Lists.List Call) (t : Table) → Reached t → All (λ a. a .refusal ≢ 13) (run t cs)
+unfolding run move
+never [] t r = tt
+never (c ∷ cs) t r = rw (step-carries t c (reached-passes t r))
+    (rw (number-of t c (move t c)) (not-judged (t .count) (at t (place c) .phase) c), never cs (carryOut t c (move t c) .table) (reached-step t r c))
+
+-- what holds of all answers to some calls holds of those to the first k of them
+all-taken : (P : Machine.Answer ℕ → Type 0) (n k : ℕ) (cs : Lists.List Call) (s : Machine.State ℕ) (al : Lists.List ℕ)
+    → All P (runᵘ n s al cs) → All P (runᵘ n s al (take k cs))
+unfolding runᵘ
+all-taken P n zero cs s al a = tt
+all-taken P n (suc k) [] s al a = tt
+all-taken P n (suc k) (c ∷ cs) s al a = (a .0, all-taken P n k cs _ _ (a .1))
+
+-- DEMAND 3, for every number of stations from 2 to 32 and every sequence of step calls on the fresh table
 pub demand : (n : ℕ) → 2 ≤ n → n ≤ 32 → (calls : Lists.List Call) → Demand3 n calls
 demand n p q calls = record {
   advances = S .advances;
   whole = S .whole;
   each = S .each ∙ sym count;
   eachᵘ = S .eachᵘ;
-  same = v .0 ∙ ap (λ s. map (Machine.seen n) (Machine.run n (digits (n - 1)) s calls)) (view-fresh n) ∙ S .same;
-  bound = subst (λ b. All (Bounded n b) (runᵘ n (Machine.fresh 0 n) (S .advances) calls)) (sym count) (S .bound);
+  same = v .0 ∙ ap (λ s. map (Machine.seen n) (Machine.run n (digits (n - 1)) s calls)) (view-fresh n q) ∙ S .same;
+  bound = λ k. all-taken (Bounded n (snaps (freshTable n) calls)) n k calls (Machine.fresh 0 n) (S .advances)
+      (subst (λ b. All (Bounded n b) (runᵘ n (Machine.fresh 0 n) (S .advances) calls)) (sym count) (S .bound));
+  never13 = never calls (freshTable n) (reached-fresh n p q);
 }
   where
     S : Simulates n (digits (n - 1)) (λ p. 1) calls
@@ -77,4 +108,4 @@ demand n p q calls = record {
     v = viewed calls n (freshTable n) (unfold freshTable in refl) (reached-fresh n p q)
 
     count : snaps (freshTable n) calls ≡ Machine.snaps n (digits (n - 1)) (Machine.fresh (λ p. 1) n) calls
-    count = v .1 ∙ ap (λ s. Machine.snaps n (digits (n - 1)) s calls) (view-fresh n)
+    count = v .1 ∙ ap (λ s. Machine.snaps n (digits (n - 1)) s calls) (view-fresh n q)

@@ -1,4 +1,4 @@
--- THE VIEW LAW: a step call on the table is the bounded machine's step, seen through the struct.
+-- The view law: a step call on a well-formed table is the bounded machine's step, seen through the struct.
 use Prim.Native.Nat.{ℕ, zero, suc, _-_, _≤_, _<_}
 use native.Mathlib.Omega.{arith}
 use mathlib.Core.Path.{_≡_, refl, sym, ap, _∙_, fun-ext}
@@ -8,14 +8,14 @@ use mathlib.Core.List as Lists
 use mathlib.Core.List.{[]}
 use lib.ListN.{length, getD, take, replicate}
 use lib.Seq.{getD-set-same, getD-set-other}
-use lib.Dec.{ltb}
 use Rattle.label.specs.Labels as Labels
 use Rattle.label.specs.Labels.{newLabel, level}
-use Rattle.label.proofs.Order.{follow-behind}
+use Rattle.label.proofs.Order.{next-label-behind}
 use Rattle.label.specs.Rows.{digit, row}
 use Rattle.label.proofs.RowLaws.{digit-row, fresh-row}
-use Rattle.table.proofs.ResultLaws.{take-stored}
-use Rattle.label.proofs.Choice.{level-spec}
+use Rattle.table.proofs.ResultLaws.{take-stored, take-fresh}
+use Rattle.table.proofs.Orders.{passed, newest-station}
+use Rattle.label.proofs.Choice.{Choice, level-spec}
 use Rattle.simulation.specs.Calls.{Call, place, Move}
 use Rattle.simulation.specs.Machine as Machine
 use Rattle.simulation.specs.Machine.{Holder, State, digits}
@@ -64,9 +64,9 @@ module _ (t : Table) (g : Led t) (c : Call) where
   -- the new label leaves the top label within its digits
   pub new-behind : place c < t .count → place c ≢ newestOf t → (p : ℕ) → t .count - 1 ≤ p → newLabel (t .count - 1) 1 (labels t) (newestOf t) (place c) p ≡ 1
   unfolding newLabel
-  new-behind l d p h = follow-behind 1 (labels t (newestOf t)) (omega (arith, choice .inside))
+  new-behind l d p h = next-label-behind 1 (labels t (newestOf t)) (omega (arith, choice .inside))
     where
-      choice : Rattle.label.proofs.Choice.Choice (t .count - 1) (labels t) (labels t (newestOf t)) (place c) (level (t .count - 1) (labels t) (labels t (newestOf t)) (place c))
+      choice : Choice (t .count - 1) (labels t) (labels t (newestOf t)) (place c) (level (t .count - 1) (labels t) (labels t (newestOf t)) (place c))
       choice = level-spec (t .count - 1) (labels t) (labels t (newestOf t)) (place c) (newestOf t) (omega arith) (omega (arith, g .lead)) (λ e. d (sym e)) refl
 
   pub pending-view : place c < t .count → digit (pendingAfter t (place c)) ≡ Machine.pendingAfter (t .count) (digits (t .count - 1)) (view t) (place c)
@@ -118,9 +118,13 @@ pub step-carries : (t : Table) (c : Call) → wellFormed t ≡ true → stepOf t
 unfolding stepOf
 step-carries t c e = rw (e, stepOf) refl
 
--- the law, for a table that passes 13 and has a newest station
-pub view-law : (t : Table) (c : Call) → Led t → wellFormed t ≡ true → viewAnswer (stepOf t c) ≡ Machine.step (t .count) (digits (t .count - 1)) (view t) c
-view-law t c g e = ap viewAnswer (step-carries t c e) ∙ view-carried t g c
+pub led : (t : Table) → length (t .stations) ≡ 32 → wellFormed t ≡ true → Led t
+led t l e = record { low = passed t e .low; high = passed t e .high; places = l; lead = newest-station t e }
+
+-- THE VIEW LAW, on every well-formed table, reached or not (its 32 places are the struct's)
+pub view-law : (t : Table) (c : Call) → length (t .stations) ≡ 32 → wellFormed t ≡ true
+    → viewAnswer (stepOf t c) ≡ Machine.step (t .count) (digits (t .count - 1)) (view t) c
+view-law t c l e = ap viewAnswer (step-carries t c e) ∙ view-carried t (led t l e) c
 
 -- THE FRESH TABLE
 
@@ -133,9 +137,9 @@ at-fresh n i = go 32 i
     go (suc m) zero = refl
     go (suc m) (suc r) = go m r
 
-pub view-fresh : (n : ℕ) → view (freshTable n) ≡ Machine.fresh (λ p. 1) n
-view-fresh n = fun-ext (λ i. unfold freshTable in ap (viewStation n) (at-fresh n i) ∙ station i)
+pub view-fresh : (n : ℕ) → n ≤ 32 → view (freshTable n) ≡ Machine.fresh (λ p. 1) n
+view-fresh n h = fun-ext (λ i. unfold freshTable in ap (viewStation n) (at-fresh n i) ∙ station i)
   where
     station : (i : ℕ) → viewStation n (freshStation n) ≡ Machine.fresh (λ p. 1) n i
     station i = unfold freshStation Machine.fresh in
-        λ x. record { label = fresh-row 31 x; job = 0; pending = fresh-row 31 x; pendingJob = 0; result = take-stored 32 (λ i. 0) ltb n x; phase = Idle }
+        λ x. record { label = fresh-row 31 x; job = 0; pending = fresh-row 31 x; pendingJob = 0; result = take-fresh 32 n h x; phase = Idle }

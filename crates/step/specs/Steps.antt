@@ -1,4 +1,4 @@
--- A step call on the table of labels (document 01, "The steps", "The new label", "When a step is turned down").
+-- A step call on the table of labels (01, "The steps", "The new label", "When a step is turned down").
 use Prim.Native.Nat.{ℕ}
 use mathlib.Core.Bool.{true, false}
 use mathlib.Core.List as Lists
@@ -14,7 +14,7 @@ use Rattle.table.specs.declared.Operation.the-variants.{Label, Scan}
 use Rattle.table.specs.declared.Station.{Station}
 use Rattle.table.specs.declared.Table.{Table}
 
--- the table left, the refusal number (0: accepted), and the bytes written to the front of the report buffer
+-- the answer to a call: the table left, the refusal number (0: accepted), and the bytes written to the front of the report buffer
 pub record Answer : Type 0 where
   pub table : Table
   pub refusal : ℕ
@@ -26,7 +26,7 @@ refuse t r = record { table = t; refusal = r; bytes = [] }
 abbrev pub served : Table → ℕ → Station → Lists.List ℕ → Answer
 served t k s bytes = record { table = store t k s; refusal = 0; bytes = bytes }
 
--- what a step makes of the calling station's record
+-- what each step makes of the calling station's record
 module _ (s : Station) where
   abbrev pub inPhase : Phase → Station
   inPhase p = record { label = s .label; job = s .job; «pending_label» = s .«pending_label»; «pending_job» = s .«pending_job»; «scan_result» = s .«scan_result»; phase = p }
@@ -64,6 +64,6 @@ carryOut t c Move.endsScan = let k = place c in served t k (inPhase (at t k) Idl
 unfoldable pub move : Table → Call → Move
 move t c = judge (t .count) (at t (place c) .phase) c
 
--- A STEP CALL
+-- a step call: 13 comes first
 unfoldable pub stepOf : Table → Call → Answer
 stepOf t c = elim (wellFormed t) [ true ↦ carryOut t c (move t c) | false ↦ refuse t 13 ]

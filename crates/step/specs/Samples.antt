@@ -1,0 +1,79 @@
+-- Samples P1 to P12 (01, "Shop samples"): one table, and one statement for all its rows.
+use Prim.Native.Nat.{ℕ, suc, _-_}
+use mathlib.Core.Path.{_≡_}
+use mathlib.Core.Bool.{true, cond}
+use mathlib.Core.List as Lists
+use mathlib.Core.List.{[], _∷_, _++_, map}
+use lib.ListN.{length, take}
+use lib.Dec.{eqb}
+use Rattle.label.specs.Tests.{ordered, tabulate, All}
+use Rattle.label.specs.Labels.{below, labelBelow}
+use Rattle.label.specs.Rows.{digit}
+use Rattle.simulation.specs.Calls.{Call}
+use Rattle.table.specs.Tables.{freshTable, at, stands}
+use Rattle.step.specs.Steps.{stepOf}
+use Rattle.table.specs.declared.Table.{Table}
+
+-- a direct call of station s; a label operation begins with the job 7
+unfoldable pub call : ℕ → ℕ → Call
+call s code = record { line = 0; code = code; station = s; job = cond (eqb code 1) 7 0; room = 0 }
+
+-- each of these stations in turn takes a label: begin, snap, update, end (01: marks)
+unfoldable pub labelled : Lists.List ℕ → Lists.List Call
+labelled [] = []
+labelled (s ∷ l) = call s 1 ∷ call s 3 ∷ call s 4 ∷ call s 5 ∷ labelled l
+
+unfoldable pub after : Table → Lists.List Call → Table
+after t [] = t
+after t (c ∷ cs) = after (stepOf t c .table) cs
+
+-- the labels of a table's stations, and the stations, oldest first
+unfoldable pub shown : Table → Lists.List (Lists.List ℕ)
+shown t = tabulate (t .count) 0 (λ i. take (t .count - 1) (at t i .label))
+
+unfoldable pub order : Table → Lists.List ℕ
+order t = map suc (ordered (t .count) (stands t))
+
+-- a row: two digits, or two labels, of which the first is below the second; or n, the calls on the fresh table of n, and the labels and the order they lead to
+pub data Sample : Type 0 where
+  digits : ℕ → ℕ → Sample
+  labels : Lists.List ℕ → Lists.List ℕ → Sample
+  reaches : ℕ → Lists.List Call → Lists.List (Lists.List ℕ) → Lists.List ℕ → Sample
+
+abbrev pub Holds : Sample → Type 0
+Holds (digits d e) = below d e ≡ true
+Holds (labels a b) = labelBelow (length a) (digit a) (digit b) ≡ true
+Holds (reaches n cs l o) = (shown (after (freshTable n) cs) ≡ l) × (order (after (freshTable n) cs) ≡ o)
+
+-- lists of one, two and three
+unfoldable pub one : {A : Type 0} → A → Lists.List A
+one a = a ∷ []
+
+unfoldable pub two : {A : Type 0} → A → A → Lists.List A
+two a b = a ∷ b ∷ []
+
+unfoldable pub three : {A : Type 0} → A → A → A → Lists.List A
+three a b c = a ∷ b ∷ c ∷ []
+
+-- 1 and 2 snap, one of them updates and ends, then 3, 1, 3, 1 take labels
+unfoldable pub stalled : Lists.List Call
+stalled = call 1 1 ∷ call 2 1 ∷ call 1 3 ∷ call 2 3 ∷ call 1 4 ∷ call 1 5 ∷ labelled (3 ∷ 1 ∷ 3 ∷ 1 ∷ [])
+
+abbrev pub samples : Lists.List Sample
+samples =
+    digits 5 3
+    ∷ labels (three 4 5 2) (three 4 3 1)
+    ∷ reaches 2 (labelled (one 1)) (two (one 2) (one 1)) (two 2 1)
+    ∷ reaches 2 (labelled (1 ∷ 2 ∷ 1 ∷ 2 ∷ 1 ∷ [])) (two (one 3) (one 5)) (two 2 1)
+    ∷ reaches 3 (labelled (one 3)) (three (two 1 1) (two 1 1) (two 1 1)) (three 1 2 3)
+    ∷ reaches 3 (labelled (three 1 2 3)) (three (two 2 1) (two 2 2) (two 3 1)) (three 1 2 3)
+    ∷ reaches 3 (labelled (three 1 2 3 ++ three 1 2 3)) (three (two 3 2) (two 4 1) (two 4 2)) (three 1 2 3)
+    ∷ reaches 3 (labelled (three 1 2 3 ++ three 1 2 3 ++ three 1 2 3)) (three (two 5 1) (two 5 2) (two 3 1)) (three 1 2 3)
+    ∷ reaches 3 (call 1 1 ∷ call 2 1 ∷ call 1 3 ∷ call 2 3 ∷ call 1 4 ∷ call 2 4 ∷ []) (three (two 2 1) (two 2 1) (two 1 1)) (three 3 1 2)
+    ∷ reaches 3 stalled (three (two 2 5) (two 1 1) (two 2 4)) (three 2 3 1)
+    ∷ reaches 3 (stalled ++ one (call 2 4)) (three (two 2 5) (two 2 1) (two 2 4)) (three 2 3 1)
+    ∷ reaches 3 (stalled ++ two (call 2 4) (call 2 5) ++ labelled (one 2)) (three (two 2 5) (two 3 1) (two 2 4)) (three 3 1 2)
+    ∷ []
+
+abbrev pub SamplesHold : Type 0
+SamplesHold = All Holds samples
