@@ -1,21 +1,25 @@
 -- An array that a loop fills from the front: f k at each place k < j, and z at the others.
 use Prim.Native.Nat.{ℕ, _+_, _≤_, _<_}
+use native.Mathlib.Nat.{zero-add}
 use native.Mathlib.Omega.{arith}
 use native.Mathlib.Decide.{decLt}
-use mathlib.Core.Path.{_≡_, refl}
+use mathlib.Core.Path.{_≡_, refl, ap, _∙_}
 use mathlib.Core.Logic.{_≢_, by-cases}
 use mathlib.Core.Bool.{cond}
 use mathlib.Core.List.{List}
-use lib.ListN.{set, replicate}
+use lib.ListN.{getD, set, replicate}
 use lib.Dec.{ltb}
 use borrow.Author.Tests.{lt-ltb, le-ltb}
 use Rattle.label.specs.Tests.{tabulate}
-use Rattle.label.proofs.Facts.{replicate-tabulate, set-tabulate, tabulate-same}
+use Rattle.label.proofs.Facts.{getD-tabulate, replicate-tabulate, set-tabulate, tabulate-same}
 
 abbrev pub filled : {A : Type 0} → ℕ → ℕ → (ℕ → A) → A → List A
 filled w j f z = tabulate w 0 (λ k. cond (ltb k j) (f k) z)
 
 module _ {A : Type 0} (w : ℕ) (f : ℕ → A) (z : A) where
+  pub filled-at : (j k : ℕ) → k < w → getD (filled w j f z) k z ≡ cond (ltb k j) (f k) z
+  filled-at j k h = getD-tabulate w 0 k _ z h ∙ ap (λ (i : ℕ). cond (ltb i j) (f i) z) (zero-add k)
+
   pub filled-none : replicate w z ≡ filled w 0 f z
   filled-none = replicate-tabulate w 0 z _ (λ k l. rw (le-ltb k 0 (omega arith)) refl)
 

@@ -3,11 +3,13 @@ ghost use mathlib.Core.Path.{_≡_};
 ghost use mathlib.Core.Bool.{true};
 ghost use Prim.Native.Nat.{ℕ, _≤_, _<_};
 ghost use Rattle.label.specs.Tests.{tabulate};
-ghost use Rattle.table.specs.Gathered.{rowsOf};
+ghost use Rattle.table.specs.Gathered.{rowsOf, jobsOf};
 ghost use Rattle.table.specs.Results.{freshEntry};
 ghost use Rattle.table.specs.Tables.{freshTable, newestOf, pendingAfter, scanOf};
 ghost use Rattle.table.specs.WellFormed.{wellFormed};
 
+pub mod choice;
+pub mod order;
 mod well_formed;
 
 // What a process is doing: it takes a label, or it scans (document 01: mark, list).
@@ -97,5 +99,20 @@ impl Table {
             j += 1;
         }
         rows
+    }
+
+    // The jobs of the stations; past them, 0s.
+    pub fn jobs(self) -> [u32; 32]
+        ensures { λ r. ⌜ r ≡ jobsOf self ⌝ }
+    {
+        let n = self.count;
+        let mut jobs = [0u32; 32];
+        let mut j: usize = 0;
+        while j < 32 && j < n {
+            let s = self.stations[j];
+            jobs[j] = s.job;
+            j += 1;
+        }
+        jobs
     }
 }

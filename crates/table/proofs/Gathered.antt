@@ -1,0 +1,74 @@
+-- The gathered rows and jobs of a table give the same order, newest station and scan as the table itself.
+use Prim.Native.Nat.{ℕ, suc, _+_, _-_, _≤_, _<_}
+use native.Mathlib.Nat.{zero-add}
+use native.Mathlib.Omega.{arith}
+use mathlib.Core.Path.{_≡_, refl, sym, ap, ap₂, subst, _∙_}
+use mathlib.Core.Bool.{Bool, true, not, _&&_, cond}
+use mathlib.Core.List as Lists
+use mathlib.Core.List.{[], _∷_, _++_, map}
+use lib.ListN.{getD, replicate}
+use lib.Dec.{eqb, ltb}
+use borrow.Author.Tests.{lt-ltb}
+use Rattle.label.specs.Tests.{newest, ordered, tabulate, All}
+use Rattle.label.specs.Labels as Labels
+use Rattle.label.specs.Labels.{agrees, labelBefore}
+use Rattle.label.specs.Rows.{digit, Digit, noRing}
+use Rattle.label.proofs.Facts.{Same, every-same, newest-same, ordered-same, ordered-all, getD-tabulate}
+use Rattle.table.specs.Results.{entry, blank, stored}
+use Rattle.table.specs.Tables.{at, labels, stands, newestOf, scanOf}
+use Rattle.table.specs.WellFormed.{wellFormed}
+use Rattle.table.specs.Gathered.{rowsOf, jobsOf, held, standsIn, Orderly}
+use Rattle.table.specs.declared.Entry.{Entry}
+use Rattle.table.specs.declared.Table.{Table}
+use Rattle.table.proofs.Orders.{passed, label-digits}
+
+-- an element of a tabulated list that is filled up past n
+filled : {A : Type 0} (w n i : ℕ) (f : ℕ → A) (o d : A) → i < n → n ≤ w → getD (tabulate w 0 (λ j. cond (ltb j n) (f j) o)) i d ≡ f i
+filled w n i f o d l h = getD-tabulate w 0 i (λ j. cond (ltb j n) (f j) o) d (omega arith) ∙ rw (zero-add i, lt-ltb i n l) refl
+
+pub held-labels : (t : Table) (i : ℕ) → i < t .count → t .count ≤ 32 → held (rowsOf t) i ≡ labels t i
+held-labels t i l h = ap digit (filled 32 (t .count) i (λ j. at t j .label) (replicate 31 1) [] l h)
+
+pub held-job : (t : Table) (i : ℕ) → i < t .count → t .count ≤ 32 → getD (jobsOf t) i 0 ≡ at t i .job
+held-job t i l h = filled 32 (t .count) i (λ j. at t j .job) 0 0 l h
+
+-- tests and results that see only the first m + 1 labels, or the listed processes
+no-ring-same : (m : ℕ) (t u : ℕ → Labels.Label) → ((i : ℕ) → i < suc m → t i ≡ u i) → noRing m t ≡ noRing m u
+unfolding noRing
+no-ring-same m t u e =
+    every-same m _ _ (λ p lp. every-same (suc m) _ _ (λ i li. every-same (suc m) _ _ (λ j lj. every-same (suc m) _ _ (λ k lk.
+    λ x. not (agrees p (e i li x) (e j lj x) && agrees p (e j lj x) (e k lk x) && eqb (e i li x p) 3 && eqb (e j lj x p) 4 && eqb (e k lk x p) 5)))))
+
+pub stored-same : (size n : ℕ) (f g : ℕ → ℕ) (l : Lists.List ℕ) → All (λ i. f i ≡ g i) l → stored size n f l ≡ stored size n g l
+unfolding stored
+stored-same size n f g l a = ap (λ (r : Lists.List Entry). r ++ replicate (size - n) blank) (each l a)
+  where
+    each : (l : Lists.List ℕ) → All (λ i. f i ≡ g i) l → map (λ i. entry (suc i) (f i)) l ≡ map (λ i. entry (suc i) (g i)) l
+    each [] a = refl
+    each (i ∷ l) a = ap₂ _∷_ (ap (entry (suc i)) (a .0)) (each l (a .1))
+
+stands-same : (t : Table) → t .count ≤ 32 → Same (t .count) (standsIn (t .count) (rowsOf t)) (stands t)
+stands-same t h i j li lj = ap₂ (λ (a b : Labels.Label). labelBefore (t .count - 1) a i b j) (held-labels t i li h) (held-labels t j lj h)
+
+pub newest-gathered : (t : Table) → t .count ≤ 32 → newest (t .count) (standsIn (t .count) (rowsOf t)) ≡ newestOf t
+unfolding newestOf
+newest-gathered t h = newest-same (t .count) (standsIn (t .count) (rowsOf t)) (stands t) (stands-same t h)
+
+pub ordered-gathered : (t : Table) → t .count ≤ 32 → ordered (t .count) (standsIn (t .count) (rowsOf t)) ≡ ordered (t .count) (stands t)
+ordered-gathered t h = ordered-same (t .count) (t .count) (standsIn (t .count) (rowsOf t)) (stands t) (omega arith) (stands-same t h)
+
+pub scan-gathered : (t : Table) → t .count ≤ 32
+    → stored 32 (t .count) (λ i. getD (jobsOf t) i 0) (ordered (t .count) (standsIn (t .count) (rowsOf t))) ≡ scanOf t
+unfolding scanOf
+scan-gathered t h =
+    ap (stored 32 (t .count) (λ i. getD (jobsOf t) i 0)) (ordered-gathered t h)
+    ∙ stored-same 32 (t .count) (λ i. getD (jobsOf t) i 0) (λ i. at t i .job) (ordered (t .count) (stands t))
+    (ordered-all _ (stands t) (t .count) (λ i l. held-job t i l h))
+
+pub gathered-orderly : (t : Table) → wellFormed t ≡ true → Orderly (t .count) (rowsOf t)
+gathered-orderly t e = let w = passed t e in record {
+  low = w .low;
+  high = w .high;
+  valid = λ i l p lp. subst (λ (a : Labels.Label). Digit (a p)) (sym (held-labels t i l (w .high))) (label-digits t e i p l lp);
+  free = no-ring-same (t .count - 1) (held (rowsOf t)) (labels t) (λ i l. held-labels t i (omega (arith, w .low)) (w .high)) ∙ w .free;
+}
