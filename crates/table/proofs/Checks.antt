@@ -1,16 +1,16 @@
 -- Laws of the loops that judge a table: a test of each number, an array that changes at one place, counts of a result's stations.
-use Prim.Native.Nat.{ℕ, zero, suc, _+_, _-_, _≤_, _<_}
+use Prim.Native.Nat.{ℕ, suc, _+_, _≤_, _<_}
 use native.Mathlib.Decide.{ℕ-discrete}
 use native.Mathlib.Numerals.{add-one}
 use native.Mathlib.Omega.{arith}
 use mathlib.Core.Path.{_≡_, refl, sym, ap, _∙_}
 use mathlib.Core.Logic.{_≢_, by-cases}
-use mathlib.Core.Bool.{Bool, true, false, _&&_, cond}
+use mathlib.Core.Bool.{Bool, true, false, not, _&&_, cond}
 use mathlib.Core.List.{List, [], _∷_, _++_}
 use lib.ListN.{length, getD, set, take}
 use lib.Seq.{take-suc, getD-set-same, getD-set-other}
 use lib.Dec.{eqb}
-use borrow.Author.Tests.{eq-eqb, ne-eqb}
+use borrow.Author.Tests.{eq-eqb, ne-eqb, not-true, not-false}
 use Rattle.label.specs.Tests.{every}
 use Rattle.label.proofs.Facts.{both, left-no}
 use Rattle.table.specs.Results.{blank, times}
@@ -29,12 +29,19 @@ every-more k f e h = rw (add-one k) (both e h)
 pub every-done : {k n : ℕ} (f : ℕ → Bool) → every k f ≡ true → k ≡ n → true ≡ every n f
 every-done f h e = sym h ∙ ap (λ k. every k f) e
 
--- a result r of a && b, where a is true, and where it is false
-pub and-last : {a b r : Bool} → a ≡ true → r ≡ b → r ≡ (a && b)
-and-last {a} {b} p e = rw p e
+-- what a test `!v` says of the a that v is
+pub refused : {v a : Bool} → v ≡ a → not v ≡ true → a ≡ false
+refused {v} p e = sym p ∙ not-true v e
 
-pub and-stop : {a r : Bool} (b : Bool) → r ≡ a → r ≡ false → r ≡ (a && b)
-and-stop b p e = e ∙ sym (left-no b (sym p ∙ e))
+pub passed : {v a : Bool} → v ≡ a → not v ≡ false → a ≡ true
+passed {v} p e = sym p ∙ not-false v e
+
+-- the answer to a && b: that to b if a is true, else that to a
+pub and-yes : {a b x : Bool} → a ≡ true → x ≡ b → x ≡ (a && b)
+and-yes {a} {b} p e = rw p e
+
+pub and-no : {a v : Bool} (b : Bool) → v ≡ a → v ≡ false → v ≡ (a && b)
+and-no b p e = e ∙ sym (left-no b (sym p ∙ e))
 
 -- an array's elements after a store at k
 pub set-each : {A : Type 0} (w : ℕ) (r : List A) (k : ℕ) (v d : A) (f g : ℕ → A) → k < length r → ((i : ℕ) → i < w → getD r i d ≡ f i)

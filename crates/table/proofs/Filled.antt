@@ -20,6 +20,9 @@ module _ {A : Type 0} (w : ℕ) (f : ℕ → A) (z : A) where
   pub filled-at : (j k : ℕ) → k < w → getD (filled w j f z) k z ≡ cond (ltb k j) (f k) z
   filled-at j k h = getD-tabulate w 0 k _ z h ∙ ap (λ (i : ℕ). cond (ltb i j) (f i) z) (zero-add k)
 
+  pub filled-in : (j k : ℕ) → k < j → j ≤ w → getD (filled w j f z) k z ≡ f k
+  filled-in j k l h = filled-at j k (omega arith) ∙ rw (lt-ltb k j l) refl
+
   pub filled-none : replicate w z ≡ filled w 0 f z
   filled-none = replicate-tabulate w 0 z _ (λ k l. rw (le-ltb k 0 (omega arith)) refl)
 

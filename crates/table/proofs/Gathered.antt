@@ -39,6 +39,9 @@ no-ring-same m t u e =
     every-same m _ _ (λ p lp. every-same (suc m) _ _ (λ i li. every-same (suc m) _ _ (λ j lj. every-same (suc m) _ _ (λ k lk.
     λ x. not (agrees p (e i li x) (e j lj x) && agrees p (e j lj x) (e k lk x) && eqb (e i li x p) 3 && eqb (e j lj x p) 4 && eqb (e k lk x p) 5)))))
 
+pub no-ring-gathered : (t : Table) → 1 ≤ t .count → t .count ≤ 32 → noRing (t .count - 1) (held (rowsOf t)) ≡ noRing (t .count - 1) (labels t)
+no-ring-gathered t l h = no-ring-same (t .count - 1) (held (rowsOf t)) (labels t) (λ i k. held-labels t i (omega arith) h)
+
 pub stored-same : (size n : ℕ) (f g : ℕ → ℕ) (l : Lists.List ℕ) → All (λ i. f i ≡ g i) l → stored size n f l ≡ stored size n g l
 unfolding stored
 stored-same size n f g l a = ap (λ (r : Lists.List Entry). r ++ replicate (size - n) blank) (each l a)
@@ -70,5 +73,5 @@ gathered-orderly t e = let w = passed t e in record {
   low = w .low;
   high = w .high;
   valid = λ i l p lp. subst (λ (a : Labels.Label). Digit (a p)) (sym (held-labels t i l (w .high))) (label-digits t e i p l lp);
-  free = no-ring-same (t .count - 1) (held (rowsOf t)) (labels t) (λ i l. held-labels t i (omega (arith, w .low)) (w .high)) ∙ w .free;
+  free = no-ring-gathered t (omega (arith, w .low)) (w .high) ∙ w .free;
 }

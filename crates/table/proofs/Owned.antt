@@ -2,7 +2,7 @@
 use Prim.Native.Nat.{ℕ, zero, suc, _<_}
 use native.Mathlib.Nat.{le-of-suc-le-suc, not-suc-le-zero}
 use native.Mathlib.Omega.{arith}
-use mathlib.Core.Path.{_≡_, sym, _∙_}
+use mathlib.Core.Path.{_≡_, sym, ap, _∙_}
 use mathlib.Core.List.{List, [], _∷_}
 use lib.ListN.{length, getD, length-map}
 use base.Fml.{Fml}
@@ -12,11 +12,23 @@ use denote.Shadow.{shadow}
 use denote.Array.{each}
 use borrow.Fn.Kinds
 use borrow.Kind.Array.{pArr, eArr, eArr-laws, eInt, eInt-laws}
+use Rattle.label.proofs.Facts.{getD-any}
+use Rattle.table.specs.Tables.{at}
+use Rattle.table.specs.declared.Phase.the-variants.{Idle}
+use Rattle.table.specs.declared.Station.{Station}
 use Rattle.table.specs.declared.Table.{Table}
 use Rattle.table.proofs.Table.{the-row}
 
-pub stations-long : (t : Table) (vs : List Val) → shadow (the-row .own t vs) → length (t .stations) ≡ 32
+stations-long : (t : Table) (vs : List Val) → shadow (the-row .own t vs) → length (t .stations) ≡ 32
 stations-long t vs s = sym (length-map (t .stations) _) ∙ s .1 .1 .1 .0 .1 .0 .1
+
+-- what the code takes of a record that it reads; past the array's end a read would find a record of zeros
+abbrev noStation : Station
+noStation = record { label = []; job = 0; «pending_label» = []; «pending_job» = 0; «scan_result» = []; phase = Idle }
+
+pub record-read : {A : Type 0} (f : Station → A) (t : Table) (vs : List Val) → shadow (the-row .own t vs) → {v : A} (i : ℕ)
+    → v ≡ f (getD (t .stations) i noStation) → i < 32 → v ≡ f (at t i)
+record-read f t vs s i e h = e ∙ ap f (getD-any (t .stations) i noStation _ (omega (arith, stations-long t vs s)))
 
 -- what holds of each element that an array owns
 each-holds : {d : Type 0} (f : d → List Val → Fml) (P : d → Type 0) → ((x : d) (vs : List Val) → shadow (f x vs) → P x)

@@ -9,7 +9,7 @@ use borrow.Author.Needs.{needs}
 use Rattle.label.specs.Tests.{every}
 use Rattle.label.proofs.Facts.{every-same}
 use Rattle.table.specs.Results.{blank, sameEntry, times, resultFits}
-use Rattle.table.proofs.Checks.{and-last, and-stop}
+use Rattle.table.proofs.Checks.{and-yes, and-no}
 use Rattle.table.proofs.well_formed.result_fits.Statement.{statement}
 use Rattle.table.proofs.well_formed.result_fits.Tie as tie
 
@@ -31,12 +31,12 @@ unfolding resultFits
 returns c =
     let n = c .before .before .before .before .args .n in
     let e = c .before .before .before .before .args .e in
-    and-last (sym (once n e (c .before .before .before .tally .result) (c .before .before .before .tally .ensures)) ∙ sym (c .before .before .all-once .ensures) ∙ c .before .if1 .taken)
+    and-yes (sym (c .before .before .all-once .ensures ∙ once n e (c .before .before .before .tally .result) (c .before .before .before .tally .ensures)) ∙ c .before .if1 .taken)
     (c .same-from .ensures ∙ every-same (32 - n) _ _ (λ p l. ap (sameEntry (getD e (n + p) blank)) (getD-replicate 32 (n + p) blank blank (omega arith))))
 
 returns-2 : tie.Need-returns-2
 unfolding resultFits
-returns-2 c = and-stop _ (c .before .all-once .ensures ∙ once (c .before .before .before .args .n) (c .before .before .before .args .e) (c .before .before .tally .result) (c .before .before .tally .ensures)) (c .if1 .left)
+returns-2 c = and-no _ (c .before .all-once .ensures ∙ once (c .before .before .before .args .n) (c .before .before .before .args .e) (c .before .before .tally .result) (c .before .before .tally .ensures)) (c .if1 .left)
 
 pub result-fits-spec : {M : Type 1} → statement M
 result-fits-spec =
