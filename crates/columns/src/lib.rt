@@ -1,1 +1,109 @@
-// Columns of fixed width.
+// Columns of fixed width: decimal numbers at the right edge, blanks before them.
+ghost use mathlib.Core.Path.{_≡_};
+ghost use Prim.Native.Nat.{_≤_, _<_, _^_};
+ghost use lib.ListN.{length};
+ghost use Rattle.columns.specs.Columns.{column, reportLine};
+ghost use Rattle.columns.specs.Reading.{columnRead};
+ghost use Rattle.columns.specs.Scanning.{withDigit, withFront};
+
+// What stands in a column: a number, or something that is not written as any number is.
+pub enum Column {
+    Value(u64),
+    Bad,
+}
+
+// The value v and a digit after it.
+fn with_digit(v: u64, b: u8) -> Column
+    requires { ⌜ v < 10 ^ 18 ⌝ }
+    ensures { λ r. ⌜ r ≡ withDigit v b ⌝ }
+{
+    if b < 48 {
+        return Column::Bad;
+    }
+    if 57 < b {
+        return Column::Bad;
+    }
+    Column::Value(v * 10 + (b - 48) as u64)
+}
+
+// The value v and a byte after it that is not the column's last.
+fn with_front(v: u64, b: u8) -> Column
+    requires { ⌜ v < 10 ^ 18 ⌝ }
+    ensures { λ r. ⌜ r ≡ withFront v b ⌝ }
+{
+    if b == 32 {
+        if v == 0 {
+            return Column::Value(0);
+        }
+        return Column::Bad;
+    }
+    let Column::Value(next) = with_digit(v, b) else {
+        return Column::Bad;
+    };
+    if next == 0 {
+        return Column::Bad;
+    }
+    Column::Value(next)
+}
+
+// Reads a column.
+pub fn read_column(s: &[u8]) -> Column
+    requires { ⌜ length (now s) ≤ 18 ⌝ }
+    ensures { λ r. ⌜ r ≡ columnRead (now (s .entry)) ⌝ }
+{
+    if s.len() == 0 {
+        return Column::Bad;
+    }
+    let last = s.len() - 1;
+    let mut v: u64 = 0;
+    let mut i = 0;
+    while i < last {
+        let Column::Value(next) = with_front(v, s[i]) else {
+            return Column::Bad;
+        };
+        v = next;
+        i += 1;
+    }
+    with_digit(v, s[last])
+}
+
+// Fills a column with v. Of a number that is too wide it writes the last digits.
+pub fn write_column(out: &mut [u8], v: u64)
+    ensures { λ _. ⌜ now (out .exit) ≡ column (length (now (out .entry))) v ⌝ }
+{
+    if out.len() == 0 {
+        return;
+    }
+    let mut i = out.len() - 1;
+    out[i] = 48 + (v % 10) as u8;
+    let mut rest = v / 10;
+    while 0 < i {
+        i -= 1;
+        if rest == 0 {
+            out[i] = 32;
+        } else {
+            out[i] = 48 + (rest % 10) as u8;
+            rest = rest / 10;
+        }
+    }
+}
+
+// Fills the 29 bytes of a report line.
+pub fn write_report_line(
+    out: &mut [u8],
+    line: u64,
+    refusal: u64,
+    place: u64,
+    station: u64,
+    job: u64,
+)
+    requires { ⌜ length (now out) ≡ 29 ⌝ }
+    ensures { λ _. ⌜ now (out .exit) ≡ reportLine line refusal place station job ⌝ }
+{
+    write_column(&mut out[0..8], line);
+    write_column(&mut out[8..11], refusal);
+    write_column(&mut out[11..14], place);
+    write_column(&mut out[14..17], station);
+    write_column(&mut out[17..28], job);
+    out[28] = 10;
+}

@@ -6,7 +6,7 @@ use Prim.Native.Nat.{ℕ, suc, _≤_, _<_}
 use native.Mathlib.Decide.{ℕ-discrete, decLt}
 use native.Mathlib.Omega.{arith}
 use lib.Dec.{ltb, leb, eqb}
-use borrow.Author.Tests.{eqb-true, lt-ltb, le-ltb, le-leb, lt-leb, eq-eqb, ne-eqb, not-true, not-false}
+use borrow.Author.Tests.{eqb-true, lt-ltb, le-ltb, le-leb, lt-leb, eq-eqb, not-true, not-false}
 use Rattle.label.specs.Labels.{Label, below, next, agrees, firstDifference, labelBelow, labelBefore, nextLabel}
 use Rattle.label.proofs.Facts.{tf, every-all, every-at, First, first}
 use Rattle.label.proofs.Digits.{Tri, lt, eq, gt, compare, Below, below-ne, below-asym, below-not, below-next, next-within}

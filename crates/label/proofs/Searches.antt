@@ -4,13 +4,12 @@ use native.Mathlib.Omega.{arith}
 use native.Mathlib.Decide.{ℕ-discrete, decLt}
 use mathlib.Core.Path.{_≡_, refl, sym, ap, _∙_}
 use mathlib.Core.Logic.{_≢_, by-cases}
-use mathlib.Core.Bool.{Bool, true, false, not, _&&_, _||_, cond}
+use mathlib.Core.Bool.{Bool, true, false, _||_, cond}
 use mathlib.Core.List as Lists
-use mathlib.Core.List.{[]}
 use lib.ListN.{length, getD, set, replicate}
 use lib.Dec.{eqb, leb, ltb}
 use borrow.Author.Tests.{eqb-true, eq-eqb, ne-eqb, lt-ltb, le-ltb, lt-leb, le-leb}
-use Rattle.label.specs.Tests.{within, every, tabulate}
+use Rattle.label.specs.Tests.{every, tabulate}
 use Rattle.label.specs.Labels.{Label, below, next, agrees, firstDifference, labelBelow, labelBefore, nextLabel}
 use Rattle.label.specs.Rows.{digit, row, rowFits, Digit}
 use Rattle.label.proofs.Facts.{both, left-no, right-no, within-of, every-all, every-at, every-no, replicate-tabulate, set-tabulate, getD-any}

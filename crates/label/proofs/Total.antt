@@ -6,7 +6,7 @@ use Prim.Native.Nat.{ℕ, zero, suc, _-_, _≤_, _<_}
 use native.Mathlib.Decide.{ℕ-discrete}
 use native.Mathlib.Omega.{arith}
 use lib.Dec.{ltb, eqb}
-use borrow.Author.Tests.{ltb-true, eqb-true, lt-ltb, le-ltb, eq-eqb, ne-eqb, not-true, not-false}
+use borrow.Author.Tests.{ltb-true, eqb-true, lt-ltb, le-ltb, ne-eqb, not-true}
 use mathlib.Core.List.{List, [], _∷_}
 use Rattle.label.specs.Tests.{every, newest, inserted, ordered, All}
 use Rattle.label.specs.Labels.{Label, below, agrees, firstDifference, labelBelow, labelBefore}

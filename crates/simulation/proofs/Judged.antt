@@ -1,4 +1,4 @@
--- What `judge` tells: an accepted call is a station's own, and no refusal of a step is 13. Nothing else opens `judge`.
+-- What `judge` tells: a call is refused or is a station's own, and no refusal is 13. Nothing else opens `judge`.
 use Prim.Native.Nat.{ℕ, _*_, _<_}
 use native.Mathlib.Omega.{arith}
 use mathlib.Core.Path.{_≡_, refl, sym, subst}
@@ -7,7 +7,7 @@ use mathlib.Core.Bool.{Bool, true, false, cond}
 use lib.Dec.{leb, eqb}
 use Rattle.label.specs.Tests.{within}
 use Rattle.label.proofs.Facts.{within-true}
-use Rattle.simulation.specs.Calls.{Call, place, Move, unless, fromIdle, fromSnap, fromUpdate, fromEnd, jobFits, byCode, judge}
+use Rattle.simulation.specs.Calls.{Call, place, Move, unless, fromIdle, fromSnap, fromUpdate, fromEnd, jobFits, byCode, judge, numberOf}
 use Rattle.table.specs.declared.Phase.{Phase}
 use Rattle.table.specs.declared.Phase.the-variants.{Idle, Snap, Update, End}
 use Rattle.table.specs.declared.Operation.the-variants.{Label, Scan}
@@ -36,17 +36,22 @@ accepted-place n ph c m e a =
     let w = within-true 1 n (c .station) (q .0) in
     omega (arith, w .0, w .1)
 
--- the refusal number of a move, 0 if it is accepted
-abbrev pub numberOf : Move → ℕ
-numberOf (Move.refused r) = r
-numberOf Move.beginsLabel = 0
-numberOf Move.beginsScan = 0
-numberOf Move.snapsLabel = 0
-numberOf Move.snapsScan = 0
-numberOf Move.updates = 0
-numberOf Move.endsLabel = 0
-numberOf Move.endsScan = 0
+-- a call is refused, or it is a station's own
+pub data Verdict (n : ℕ) (c : Call) : Move → Type 0 where
+  turned : (x : ℕ) → Verdict n c (Move.refused x)
+  own : {w : Move} → place c < n → Verdict n c w
 
+pub verdict : (n : ℕ) (ph : Phase) (c : Call) (w : Move) → judge n ph c ≡ w → Verdict n c w
+verdict n ph c (Move.refused x) e = turned x
+verdict n ph c Move.beginsLabel e = own (accepted-place n ph c Move.beginsLabel e tt)
+verdict n ph c Move.beginsScan e = own (accepted-place n ph c Move.beginsScan e tt)
+verdict n ph c Move.snapsLabel e = own (accepted-place n ph c Move.snapsLabel e tt)
+verdict n ph c Move.snapsScan e = own (accepted-place n ph c Move.snapsScan e tt)
+verdict n ph c Move.updates e = own (accepted-place n ph c Move.updates e tt)
+verdict n ph c Move.endsLabel e = own (accepted-place n ph c Move.endsLabel e tt)
+verdict n ph c Move.endsScan e = own (accepted-place n ph c Move.endsScan e tt)
+
+-- no refusal is 13
 not-unless : (b : Bool) (r : ℕ) (m : Move) → r ≢ 13 → numberOf m ≢ 13 → numberOf (unless b r m) ≢ 13
 not-unless true r m p q = q
 not-unless false r m p q = p

@@ -3,22 +3,21 @@ use Prim.Native.Nat.{ℕ, suc, _+_, _-_, _≤_, _<_}
 use native.Mathlib.Omega.{arith}
 use native.Mathlib.Nat.{zero-add}
 use mathlib.Core.Path.{_≡_, refl, sym, ap, subst, _∙_}
-use mathlib.Core.Bool.{Bool, true, false, _&&_, cond}
+use mathlib.Core.Bool.{Bool, true, false, cond}
 use lib.ListN.{length, getD, replicate, length-replicate, length-set}
 use lib.Seq.{getD-set-same, getD-set-other}
 use lib.Dec.{eqb}
-use borrow.Author.Tests.{eqb-true, eqb-false, eq-eqb}
-use Rattle.label.specs.Tests.{within, every, newest, tabulate}
+use borrow.Author.Tests.{eqb-true, eqb-false}
+use Rattle.label.specs.Tests.{newest, tabulate}
 use Rattle.label.specs.Labels.{newLabel}
 use Rattle.label.specs.Rows.{row, rowFits, noRing}
-use Rattle.label.proofs.RowLaws.{digit-row, fresh-row, label-fits, fits-digit, ringless, no-ring-of}
+use Rattle.label.proofs.RowLaws.{digit-row, fresh-row, label-fits, no-ring-of}
 use Rattle.table.specs.Results.{blank, freshEntry, sameEntry, resultFits}
 use Rattle.table.proofs.ResultLaws.{stored-fits, fresh-fits, same-entry}
 use Rattle.label.proofs.Facts.{both, within-of, every-all, getD-tabulate}
 use Rattle.label.proofs.Order.{Within, next-label-within}
-use Rattle.label.proofs.Total.{Ringless, total, newest-inside}
-use Rattle.simulation.specs.Calls.{Call, place, Move, judge}
-use Rattle.simulation.proofs.Judged.{Accepted, accepted-place}
+use Rattle.simulation.specs.Calls.{Call, place, Move}
+use Rattle.simulation.proofs.Judged.{Verdict, turned, own, verdict}
 use Rattle.simulation.specs.Machine as Machine
 use Rattle.simulation.specs.Machine.{digits}
 use Rattle.simulation.proofs.Entries.{Entries, by-here}
@@ -27,8 +26,8 @@ use Rattle.simulation.proofs.Simulation.{Ready, newest-labels, fresh-ready, rea
 use Rattle.table.specs.Tables.{freshStation, freshTable, at, labels, store, stands, newestOf}
 use Rattle.table.specs.WellFormed.{stationFits, isFresh, wellFormed}
 use Rattle.table.specs.Tables.{pendingAfter, scanOf}
-use Rattle.step.specs.Steps.{carryOut, move, stepOf}
-use Rattle.step.proofs.View.{view, viewAnswer, Led, new-behind, view-carried, at-fresh, view-fresh}
+use Rattle.step.specs.Steps.{carryOut, move}
+use Rattle.step.proofs.View.{view, Led, new-behind, carried-count, view-carried, at-fresh, view-fresh}
 use Rattle.table.specs.declared.Station.{Station}
 use Rattle.table.specs.declared.Table.{Table}
 
@@ -131,35 +130,35 @@ module _ (t : Table) (r : Reached t) where
     unfolding scanOf
     scan-fits = stored-fits 32 (λ i. at t i .job) (stands t) (t .count) (r .good .high)
 
-    own : {w : Move} → judge (t .count) (at t (place c) .phase) c ≡ w → Accepted w → place c < t .count
-    own {w} e a = accepted-place (t .count) (at t (place c) .phase) c w e a
+    -- a record that fits goes in at the calling station's place
+    put : (s : Station) → place c < t .count → Fits (t .count) s → Good (store t (place c) s)
+    put s l f = store-good t (place c) s (r .good) l f
 
-    good-step : (w : Move) → move t c ≡ w → Good (carryOut t c w .table)
-    unfolding carryOut move
-    good-step (Move.refused x) e = r .good
-    good-step Move.beginsLabel e = let l = own e tt in let s = r .good .each (place c) l in store-good t (place c) _ (r .good) l (record { row = s .row; pendingRow = s .pendingRow; result = s .result })
-    good-step Move.beginsScan e = let l = own e tt in let s = r .good .each (place c) l in store-good t (place c) _ (r .good) l (record { row = s .row; pendingRow = s .pendingRow; result = s .result })
-    good-step Move.snapsLabel e = let l = own e tt in let s = r .good .each (place c) l in store-good t (place c) _ (r .good) l (record { row = s .row; pendingRow = pending-fits l; result = s .result })
-    good-step Move.snapsScan e = let l = own e tt in let s = r .good .each (place c) l in store-good t (place c) _ (r .good) l (record { row = s .row; pendingRow = s .pendingRow; result = scan-fits })
-    good-step Move.updates e = let l = own e tt in let s = r .good .each (place c) l in store-good t (place c) _ (r .good) l (record { row = s .pendingRow; pendingRow = s .pendingRow; result = s .result })
-    good-step Move.endsLabel e = let l = own e tt in let s = r .good .each (place c) l in store-good t (place c) _ (r .good) l (record { row = s .row; pendingRow = s .pendingRow; result = s .result })
-    good-step Move.endsScan e = let l = own e tt in let s = r .good .each (place c) l in store-good t (place c) _ (r .good) l (record { row = s .row; pendingRow = s .pendingRow; result = s .result })
+    good-step : {w : Move} → Verdict (t .count) c w → Good (carryOut t c w .table)
+    unfolding carryOut
+    good-step (turned x) = r .good
+    good-step {w} (own l) = by-move w
+      where
+        s : Fits (t .count) (at t (place c))
+        s = r .good .each (place c) l
+
+        by-move : (w : Move) → Good (carryOut t c w .table)
+        by-move (Move.refused x) = r .good
+        by-move Move.beginsLabel = put _ l (record { row = s .row; pendingRow = s .pendingRow; result = s .result })
+        by-move Move.beginsScan = put _ l (record { row = s .row; pendingRow = s .pendingRow; result = s .result })
+        by-move Move.snapsLabel = put _ l (record { row = s .row; pendingRow = pending-fits l; result = s .result })
+        by-move Move.snapsScan = put _ l (record { row = s .row; pendingRow = s .pendingRow; result = scan-fits })
+        by-move Move.updates = put _ l (record { row = s .pendingRow; pendingRow = s .pendingRow; result = s .result })
+        by-move Move.endsLabel = put _ l (record { row = s .row; pendingRow = s .pendingRow; result = s .result })
+        by-move Move.endsScan = put _ l (record { row = s .row; pendingRow = s .pendingRow; result = s .result })
 
 pub count-kept : (t : Table) (c : Call) (w : Move) → carryOut t c w .table .count ≡ t .count
-unfolding carryOut
-count-kept t c (Move.refused x) = refl
-count-kept t c Move.beginsLabel = refl
-count-kept t c Move.beginsScan = refl
-count-kept t c Move.snapsLabel = refl
-count-kept t c Move.snapsScan = refl
-count-kept t c Move.updates = refl
-count-kept t c Move.endsLabel = refl
-count-kept t c Move.endsScan = refl
+count-kept t c w = carried-count t c w .0
 
 -- every step call leaves such a table
 pub reached-step : (t : Table) (r : Reached t) (c : Call) → Reached (carryOut t c (move t c) .table)
 reached-step t r c = record {
-  good = good-step t r c (move t c) refl;
+  good = good-step t r c (verdict (t .count) (at t (place c) .phase) c (move t c) (unfold move in refl));
   N = next .0;
   ready = subst (λ n. Ready (n - 1) (view (carryOut t c (move t c) .table)) (next .0)) (sym (count-kept t c (move t c)))
       (subst (λ a. Ready (t .count - 1) (a .state) (next .0)) (sym (view-carried t (reached-led t r) c)) (next .1));

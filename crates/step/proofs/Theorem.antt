@@ -8,8 +8,8 @@ use mathlib.Core.List as Lists
 use mathlib.Core.List.{[], _∷_, map}
 use lib.ListN.{take}
 use Rattle.label.specs.Tests.{tabulate, All}
-use Rattle.simulation.specs.Calls.{Call, place, Move, labelSnap}
-use Rattle.simulation.proofs.Judged.{numberOf, not-judged}
+use Rattle.simulation.specs.Calls.{Call, place, labelSnap}
+use Rattle.simulation.proofs.Judged.{not-judged}
 use Rattle.simulation.specs.Machine as Machine
 use Rattle.simulation.specs.Machine.{digits, runᵘ, Bounded}
 use Rattle.simulation.proofs.Follow.{Simulates}
@@ -17,7 +17,7 @@ use Rattle.simulation.proofs.Simulation.{simulation}
 use Rattle.table.specs.Tables.{freshTable, at}
 use Rattle.table.specs.WellFormed.{wellFormed}
 use Rattle.step.specs.Steps.{Answer, carryOut, move}
-use Rattle.step.proofs.View.{view, viewAnswer, view-carried, step-carries, view-fresh}
+use Rattle.step.proofs.View.{view, viewAnswer, carried-count, view-carried, step-carries, view-fresh}
 use Rattle.step.proofs.Reachable.{Reached, reached-led, reached-passes, reached-step, reached-fresh, count-kept}
 use Rattle.step.specs.Demand.{run, snaps, seen, Demand3}
 use Rattle.table.specs.declared.Table.{Table}
@@ -62,22 +62,11 @@ viewed (c ∷ cs) n t e r = go (viewed cs n (carryOut t c (move t c) .table) (co
     )
 
 -- no call on a reached table is refused by 13
-number-of : (t : Table) (c : Call) (m : Move) → carryOut t c m .refusal ≡ numberOf m
-unfolding carryOut
-number-of t c (Move.refused r) = refl
-number-of t c Move.beginsLabel = refl
-number-of t c Move.beginsScan = refl
-number-of t c Move.snapsLabel = refl
-number-of t c Move.snapsScan = refl
-number-of t c Move.updates = refl
-number-of t c Move.endsLabel = refl
-number-of t c Move.endsScan = refl
-
 never : (cs : Lists.List Call) (t : Table) → Reached t → All (λ a. a .refusal ≢ 13) (run t cs)
 unfolding run move
 never [] t r = tt
 never (c ∷ cs) t r = rw (step-carries t c (reached-passes t r))
-    (rw (number-of t c (move t c)) (not-judged (t .count) (at t (place c) .phase) c), never cs (carryOut t c (move t c) .table) (reached-step t r c))
+    (rw (carried-count t c (move t c) .1) (not-judged (t .count) (at t (place c) .phase) c), never cs (carryOut t c (move t c) .table) (reached-step t r c))
 
 -- what holds of all answers to some calls holds of those to the first k of them
 all-taken : (P : Machine.Answer ℕ → Type 0) (n k : ℕ) (cs : Lists.List Call) (s : Machine.State ℕ) (al : Lists.List ℕ)

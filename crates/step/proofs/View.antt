@@ -16,11 +16,11 @@ use Rattle.label.proofs.RowLaws.{digit-row, fresh-row}
 use Rattle.table.proofs.ResultLaws.{take-stored, take-fresh}
 use Rattle.table.proofs.Orders.{passed, newest-station}
 use Rattle.label.proofs.Choice.{Choice, level-spec}
-use Rattle.simulation.specs.Calls.{Call, place, Move}
+use Rattle.simulation.specs.Calls.{Call, place, Move, numberOf}
 use Rattle.simulation.specs.Machine as Machine
 use Rattle.simulation.specs.Machine.{Holder, State, digits}
 use Rattle.simulation.proofs.Entries.{by-here}
-use Rattle.simulation.proofs.Judged.{accepted-place}
+use Rattle.simulation.proofs.Judged.{Verdict, turned, own, verdict}
 use Rattle.table.specs.Tables.{freshStation, freshTable, at, labels, store, stands, newestOf}
 use Rattle.table.specs.Tables.{pendingAfter, scanOf}
 use Rattle.step.specs.Steps.{Answer, carryOut, move, stepOf, snapped, scanned}
@@ -99,20 +99,25 @@ module _ (t : Table) (g : Led t) (c : Call) where
   view-accepted Move.endsLabel l = stored-view _ _ [] l refl
   view-accepted Move.endsScan l = stored-view _ _ _ l refl
 
-  -- by what the call amounts to: a call that is accepted is a station's own
   pub view-carried : viewAnswer (carryOut t c (move t c)) ≡ Machine.step (t .count) (digits (t .count - 1)) (view t) c
-  unfolding move Machine.step Machine.move
-  view-carried = go (move t c) refl
+  unfolding carryOut move Machine.carryOut Machine.step Machine.move
+  view-carried = go (verdict (t .count) (at t (place c) .phase) c (move t c) refl)
     where
-      go : (w : Move) → move t c ≡ w → viewAnswer (carryOut t c w) ≡ Machine.carryOut (t .count) (digits (t .count - 1)) (view t) c w
-      go (Move.refused x) e = unfold carryOut Machine.carryOut in refl
-      go Move.beginsLabel e = view-accepted _ (accepted-place (t .count) (at t (place c) .phase) c _ e tt)
-      go Move.beginsScan e = view-accepted _ (accepted-place (t .count) (at t (place c) .phase) c _ e tt)
-      go Move.snapsLabel e = view-accepted _ (accepted-place (t .count) (at t (place c) .phase) c _ e tt)
-      go Move.snapsScan e = view-accepted _ (accepted-place (t .count) (at t (place c) .phase) c _ e tt)
-      go Move.updates e = view-accepted _ (accepted-place (t .count) (at t (place c) .phase) c _ e tt)
-      go Move.endsLabel e = view-accepted _ (accepted-place (t .count) (at t (place c) .phase) c _ e tt)
-      go Move.endsScan e = view-accepted _ (accepted-place (t .count) (at t (place c) .phase) c _ e tt)
+      go : {w : Move} → Verdict (t .count) c w → viewAnswer (carryOut t c w) ≡ Machine.carryOut (t .count) (digits (t .count - 1)) (view t) c w
+      go (turned x) = refl
+      go {w} (own l) = view-accepted w l
+
+-- every answer keeps the number of stations, and its refusal is the move's
+pub carried-count : (t : Table) (c : Call) (w : Move) → (carryOut t c w .table .count ≡ t .count) × (carryOut t c w .refusal ≡ numberOf w)
+unfolding carryOut
+carried-count t c (Move.refused x) = (refl, refl)
+carried-count t c Move.beginsLabel = (refl, refl)
+carried-count t c Move.beginsScan = (refl, refl)
+carried-count t c Move.snapsLabel = (refl, refl)
+carried-count t c Move.snapsScan = (refl, refl)
+carried-count t c Move.updates = (refl, refl)
+carried-count t c Move.endsLabel = (refl, refl)
+carried-count t c Move.endsScan = (refl, refl)
 
 pub step-carries : (t : Table) (c : Call) → wellFormed t ≡ true → stepOf t c ≡ carryOut t c (move t c)
 unfolding stepOf

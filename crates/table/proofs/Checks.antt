@@ -30,11 +30,11 @@ pub every-done : {k n : ℕ} (f : ℕ → Bool) → every k f ≡ true → k ≡
 every-done f h e = sym h ∙ ap (λ k. every k f) e
 
 -- what a test `!v` says of the a that v is
-pub refused : {v a : Bool} → v ≡ a → not v ≡ true → a ≡ false
-refused {v} p e = sym p ∙ not-true v e
+pub was-false : {v a : Bool} → v ≡ a → not v ≡ true → a ≡ false
+was-false {v} p e = sym p ∙ not-true v e
 
-pub passed : {v a : Bool} → v ≡ a → not v ≡ false → a ≡ true
-passed {v} p e = sym p ∙ not-false v e
+pub was-true : {v a : Bool} → v ≡ a → not v ≡ false → a ≡ true
+was-true {v} p e = sym p ∙ not-false v e
 
 -- the answer to a && b: that to b if a is true, else that to a
 pub and-yes : {a b x : Bool} → a ≡ true → x ≡ b → x ≡ (a && b)

@@ -11,13 +11,20 @@ use lib.ListN.{length, getD, set}
 use lib.Seq.{getD-set-same, getD-set-other}
 use lib.Dec.{eqb, leb, ltb}
 use borrow.Author.Tests.{eq-eqb, ne-eqb, le-leb, lt-leb, lt-ltb, le-ltb}
-use Rattle.label.specs.Tests.{count, firstFrom}
+use Rattle.label.specs.Tests.{count, firstFrom, newest}
 use Rattle.label.specs.Labels.{Label, agrees, firstDifference, nextLabel, others, level, newLabel}
+use Rattle.label.specs.Rows.{row}
 use Rattle.label.proofs.Facts.{right-no, tf, First, first, firstFrom-same, count-bound}
+use Rattle.label.proofs.Digits.{Tri, lt, eq, gt, compare}
 use Rattle.label.proofs.Order.{agrees-upto, difference-first}
 use Rattle.label.proofs.Choice.{level-spec}
+use Rattle.table.specs.Tables.{at, labels, newestOf, pendingAfter}
+use Rattle.table.specs.WellFormed.{wellFormed}
+use Rattle.table.specs.Gathered.{rowsOf, held, standsIn, Orderly}
+use Rattle.table.specs.declared.Table.{Table}
+use Rattle.table.proofs.Orders.{passed, newest-station}
+use Rattle.table.proofs.Gathered.{held-labels, newest-gathered, gathered-orderly}
 use Rattle.table.proofs.Filled.{filled, filled-at}
-use Rattle.label.proofs.Digits.{Tri, lt, eq, gt, compare}
 
 -- COUNTS
 
@@ -26,7 +33,7 @@ unfolding count
 count-same zero f g e = refl
 count-same (suc n) f g e = ap₂ (λ b c. cond b 1 0 + c) (e n (omega arith)) (count-same n f g (λ j l. e j (omega arith)))
 
--- one number more
+-- with one number more
 pub count-yes : (j : ℕ) (f : ℕ → Bool) → f j ≡ true → count (j + 1) f ≡ count j f + 1
 unfolding count
 count-yes j f e = simp (add-one, e) (omega arith)
@@ -40,7 +47,7 @@ unfolding count
 count-none zero f e = refl
 count-none (suc n) f e = rw (e n (omega arith), count-none n f (λ j l. e j (omega arith))) refl
 
--- each number that passes the third test passes one of the others
+-- a test that passes where one of two others does, which never pass together
 pub count-sum : (n : ℕ) (f g h : ℕ → Bool) → ((j : ℕ) → j < n → cond (f j) 1 0 + cond (g j) 1 0 ≡ cond (h j) 1 0) → count n f + count n g ≡ count n h
 unfolding count
 count-sum zero f g h e = refl
@@ -70,7 +77,7 @@ module _ (w : ℕ) (f : ℕ → Bool) (s : ℕ → ℕ) (r : List ℕ) (j : ℕ)
 
 -- THE LEVEL
 
--- a number is the first that passes if it is found and no earlier one passes
+-- a number is the first that passes if no earlier one does and it passes, or is the last
 pub first-is : (k : ℕ) (f : ℕ → Bool) (r : ℕ) → r ≤ k → ((q : ℕ) → q < r → f q ≡ false) → (r < k → f r ≡ true) → r ≡ firstFrom k 0 f
 first-is k f r u e h = go (first k 0 f) (compare r (firstFrom k 0 f))
   where
@@ -109,19 +116,19 @@ upto-more l p = sym (ap (upto l) (add-one p))
 
 -- of the n stations, where station j shares s j digits
 module _ (n k : ℕ) (s : ℕ → ℕ) where
-  -- how many others share less than p digits
-  unfoldable pub fewer : ℕ → ℕ
+  -- how many others share fewer than p digits
+  unfoldable fewer : ℕ → ℕ
   fewer p = count n (λ j. not (eqb j k) && ltb (s j) p)
 
-  pub fewer-none : 0 ≡ fewer 0
+  fewer-none : 0 ≡ fewer 0
   unfolding fewer
   fewer-none = sym (count-none n _ (λ j l. right-no (not (eqb j k)) (le-ltb (s j) 0 (omega arith))))
 
-  pub fewer-more : (p : ℕ) → fewer p + count n (λ j. not (eqb j k) && eqb (s j) p) ≡ fewer (p + 1)
+  fewer-more : (p : ℕ) → fewer p + count n (λ j. not (eqb j k) && eqb (s j) p) ≡ fewer (p + 1)
   unfolding fewer
   fewer-more p = count-sum n _ _ _ (λ j l. less-or-same (not (eqb j k)) (s j) p)
 
-  -- the test of the level, by those that share at most p digits
+  -- the test of the level, told by how many share at most p digits
   abbrev pub enough : ℕ → Bool
   enough p = leb (n - 1 - p) (count n (λ j. not (eqb j k) && leb (suc p) (s j)))
 
@@ -129,15 +136,15 @@ module _ (n k : ℕ) (s : ℕ → ℕ) where
   unfolding fewer
   parts p l = ap (λ (c : ℕ). c + 1) (count-sum n _ _ _ (λ j l. more-or-less (not (eqb j k)) (s j) p)) ∙ count-others n k l
 
-  pub enough-yes : (p : ℕ) → k < n → fewer (p + 1) ≤ p → enough p ≡ true
+  enough-yes : (p : ℕ) → k < n → fewer (p + 1) ≤ p → enough p ≡ true
   enough-yes p l h = le-leb (n - 1 - p) (count n (λ j. not (eqb j k) && leb (suc p) (s j))) (omega (arith, parts p l))
 
-  pub enough-no : (p : ℕ) → k < n → p < fewer (p + 1) → enough p ≡ false
+  enough-no : (p : ℕ) → k < n → p < fewer (p + 1) → enough p ≡ false
   enough-no p l h = lt-leb (n - 1 - p) (count n (λ j. not (eqb j k) && leb (suc p) (s j))) (omega (arith, parts p l))
 
   -- the same from the list of those that share exactly q digits, for each q
   module _ (w : ℕ) (r : List ℕ) (e : (q : ℕ) → q < w → getD r q 0 ≡ count n (λ j. not (eqb j k) && eqb (s j) q)) (l : k < n) where
-    pub upto-fewer : (p : ℕ) → p ≤ w → upto r p ≡ fewer p
+    upto-fewer : (p : ℕ) → p ≤ w → upto r p ≡ fewer p
     unfolding upto
     upto-fewer zero h = fewer-none
     upto-fewer (suc p) h = ap₂ (λ (a b : ℕ). a + b) (upto-fewer p (omega arith)) (e p (omega arith)) ∙ fewer-more p ∙ ap fewer (add-one p)
@@ -186,3 +193,25 @@ module _ (w n : ℕ) (t : ℕ → Label) (z k : ℕ) (xs : List ℕ) (e : xs ≡
 
     pub level-inside : z < n → z ≢ k → p < n - 1
     level-inside lz d = rw level-found (level-spec (n - 1) t (t z) k z (omega arith) (omega arith) d refl .inside)
+
+-- THE TABLE: the pending label, from the gathered rows and their newest station z
+module _ (t : Table) (e : wellFormed t ≡ true) (rows : List (List ℕ)) (g : rows ≡ rowsOf t) where
+  pub rows-orderly : Orderly (t .count) rows
+  rows-orderly = rw g (gathered-orderly t e)
+
+  module _ (z : ℕ) (y : z ≡ newest (t .count) (standsIn (t .count) rows)) where
+    newest-found : z ≡ newestOf t
+    newest-found = y ∙ ap (λ (r : List (List ℕ)). newest (t .count) (standsIn (t .count) r)) g ∙ newest-gathered t (passed t e .high)
+
+    pub newest-below : z < t .count
+    newest-below = rw newest-found (newest-station t e)
+
+    pub pending-kept : (k : ℕ) → k ≡ z → at t k .«pending_label» ≡ pendingAfter t k
+    unfolding pendingAfter
+    pending-kept k d = rw (eq-eqb k (newestOf t) (d ∙ newest-found)) refl
+
+    pub pending-new : (k : ℕ) → k ≢ z → row 31 (newLabel (t .count - 1) 1 (held rows) z k) ≡ pendingAfter t k
+    unfolding pendingAfter
+    pending-new k d = rw (ne-eqb k (newestOf t) (λ q. d (q ∙ sym newest-found)), ← newest-found) (ap (row 31)
+        (new-label-same (t .count - 1) (held rows) (labels t)
+        (λ j l. ap (λ (r : List (List ℕ)). held r j) g ∙ held-labels t j (omega (arith, passed t e .low)) (passed t e .high)) 1 z k (omega (arith, newest-below))))

@@ -1,15 +1,15 @@
 -- The gathered rows and jobs of a table give the same order, newest station and scan as the table itself.
-use Prim.Native.Nat.{ℕ, suc, _+_, _-_, _≤_, _<_}
+use Prim.Native.Nat.{ℕ, suc, _-_, _≤_, _<_}
 use native.Mathlib.Nat.{zero-add}
 use native.Mathlib.Omega.{arith}
 use mathlib.Core.Path.{_≡_, refl, sym, ap, ap₂, subst, _∙_}
-use mathlib.Core.Bool.{Bool, true, not, _&&_, cond}
+use mathlib.Core.Bool.{true, not, _&&_, cond}
 use mathlib.Core.List as Lists
 use mathlib.Core.List.{[], _∷_, _++_, map}
-use lib.ListN.{getD, replicate}
+use lib.ListN.{getD, take, replicate}
 use lib.Dec.{eqb, ltb}
 use borrow.Author.Tests.{lt-ltb}
-use Rattle.label.specs.Tests.{newest, ordered, tabulate, All}
+use Rattle.label.specs.Tests.{newest, ordered, All}
 use Rattle.label.specs.Labels as Labels
 use Rattle.label.specs.Labels.{agrees, labelBefore}
 use Rattle.label.specs.Rows.{digit, Digit, noRing}
@@ -21,16 +21,18 @@ use Rattle.table.specs.Gathered.{rowsOf, jobsOf, held, standsIn, Orderly
 use Rattle.table.specs.declared.Entry.{Entry}
 use Rattle.table.specs.declared.Table.{Table}
 use Rattle.table.proofs.Orders.{passed, label-digits}
+use Rattle.table.proofs.Filled.{filled}
+use Rattle.table.proofs.OrderLaws.{orderIn, order-front}
 
--- an element of a tabulated list that is filled up past n
-filled : {A : Type 0} (w n i : ℕ) (f : ℕ → A) (o d : A) → i < n → n ≤ w → getD (tabulate w 0 (λ j. cond (ltb j n) (f j) o)) i d ≡ f i
-filled w n i f o d l h = getD-tabulate w 0 i (λ j. cond (ltb j n) (f j) o) d (omega arith) ∙ rw (zero-add i, lt-ltb i n l) refl
+-- an element of the filled part
+filled-below : {A : Type 0} (w n i : ℕ) (f : ℕ → A) (z d : A) → i < n → n ≤ w → getD (filled w n f z) i d ≡ f i
+filled-below w n i f z d l h = getD-tabulate w 0 i (λ j. cond (ltb j n) (f j) z) d (omega arith) ∙ rw (zero-add i, lt-ltb i n l) refl
 
 pub held-labels : (t : Table) (i : ℕ) → i < t .count → t .count ≤ 32 → held (rowsOf t) i ≡ labels t i
-held-labels t i l h = ap digit (filled 32 (t .count) i (λ j. at t j .label) (replicate 31 1) [] l h)
+held-labels t i l h = ap digit (filled-below 32 (t .count) i (λ j. at t j .label) (replicate 31 1) [] l h)
 
 pub held-job : (t : Table) (i : ℕ) → i < t .count → t .count ≤ 32 → getD (jobsOf t) i 0 ≡ at t i .job
-held-job t i l h = filled 32 (t .count) i (λ j. at t j .job) 0 0 l h
+held-job t i l h = filled-below 32 (t .count) i (λ j. at t j .job) 0 0 l h
 
 -- tests and results that see only the first m + 1 labels, or the listed processes
 no-ring-same : (m : ℕ) (t u : ℕ → Labels.Label) → ((i : ℕ) → i < suc m → t i ≡ u i) → noRing m t ≡ noRing m u
@@ -67,6 +69,13 @@ scan-gathered t h =
     ap (stored 32 (t .count) (λ i. getD (jobsOf t) i 0)) (ordered-gathered t h)
     ∙ stored-same 32 (t .count) (λ i. getD (jobsOf t) i 0) (λ i. at t i .job) (ordered (t .count) (stands t))
     (ordered-all _ (stands t) (t .count) (λ i l. held-job t i l h))
+
+-- the result made of gathered rows and jobs
+pub scan-made : (t : Table) (rows : Lists.List (Lists.List ℕ)) (jobs order : Lists.List ℕ) (r : Lists.List Entry) → t .count ≤ 32 → rows ≡ rowsOf t → jobs ≡ jobsOf t
+    → order ≡ orderIn 32 (standsIn (t .count) rows) (t .count) → r ≡ stored 32 (t .count) (λ i. getD jobs i 0) (take (t .count) order) → r ≡ scanOf t
+scan-made t rows jobs order r h e f g q =
+    q ∙ ap (stored 32 (t .count) (λ i. getD jobs i 0)) (order-front 32 (standsIn (t .count) rows) (t .count) order g)
+    ∙ (λ x. stored 32 (t .count) (λ i. getD (f x) i 0) (ordered (t .count) (standsIn (t .count) (e x)))) ∙ scan-gathered t h
 
 pub gathered-orderly : (t : Table) → wellFormed t ≡ true → Orderly (t .count) (rowsOf t)
 gathered-orderly t e = let w = passed t e in record {

@@ -7,9 +7,9 @@ use mathlib.Core.Path.{_≡_, refl, sym, ap, _∙_}
 use mathlib.Core.Logic.{_≢_, _⊎_, inl, inr, by-cases}
 use mathlib.Core.Bool.{Bool, true, false}
 use mathlib.Core.List.{List, [], _∷_, _++_, map, map-append, append-assoc}
-use lib.ListN.{length, getD, set, take, drop, replicate, length-map, length-take, drop-of-length-le, List·getD-append}
-use lib.Seq.{take-all, take-suc, drop-cons, split-at, set-at, take-at, drop-append-add, length-take-le, getD-take, append-snoc}
-use Rattle.label.specs.Tests.{newest, inserted, ordered, All}
+use lib.ListN.{length, getD, set, take, drop, replicate, length-map, drop-of-length-le, List·getD-append}
+use lib.Seq.{take-all, take-suc, drop-cons, split-at, set-at, take-at, drop-append-add, length-take-le, getD-take}
+use Rattle.label.specs.Tests.{inserted, ordered, All}
 use Rattle.label.proofs.Facts.{tf, ordered-all, ordered-length}
 use Rattle.label.proofs.Total.{Total, Sorted, ordered-sorted}
 use Rattle.table.specs.Results.{entry, blank, stored}
@@ -80,6 +80,10 @@ module _ {A : Type 0} where
     pub shift-ends : (q : ℕ) (x : A) (r : List A) → r ≡ shiftedTo l k q (getD l q d) → q ≤ k → set r q x ≡ shiftedTo l k q x
     shift-ends q x r e v = rw e (put-stored (take k l) (drop (k + 1) l) q (getD l q d) x (omega (arith, front)))
 
+-- each of the first k stations in order, at the front of an array, is one of them
+pub listed-below : (b : ℕ → ℕ → Bool) (k : ℕ) (l : List ℕ) → take k l ≡ ordered k b → (p : ℕ) → p < k → getD l p 0 < k
+listed-below b k l e p h = rw (← getD-take k l p 0 h, e) (all-at (λ i. i < k) (ordered k b) 0 (ordered-all (λ i. i < k) b k (λ i u. u)) p (rw ordered-length h))
+
 -- A TOTAL ORDER
 
 module _ {n : ℕ} {b : ℕ → ℕ → Bool} (o : Total n b) where
@@ -102,42 +106,42 @@ module _ {n : ℕ} {b : ℕ → ℕ → Bool} (o : Total n b) where
   pub newest-one : (i : ℕ) → i < 1 → 1 ≤ n → b 0 i ≡ false
   newest-one i h l = let e : i ≡ 0 = omega arith in rw e (o .irrefl 0 l)
 
-  pub newest-kept : (z j : ℕ) → ((i : ℕ) → i < j → b z i ≡ false) → b z j ≡ false → (i : ℕ) → i < j + 1 → b z i ≡ false
-  newest-kept z j old e i h = by-cases (ℕ-discrete i j) (λ q. rw q e) (λ q. old i (omega arith))
+  pub newest-kept : (z j : ℕ) {x : Bool} → ((i : ℕ) → i < j → b z i ≡ false) → x ≡ b z j → x ≡ false → (i : ℕ) → i < j + 1 → b z i ≡ false
+  newest-kept z j old e f i h = by-cases (ℕ-discrete i j) (λ q. rw q (sym e ∙ f)) (λ q. old i (omega arith))
 
-  pub newest-next : (z j : ℕ) → ((i : ℕ) → i < j → b z i ≡ false) → b z j ≡ true → z < n → j < n → (i : ℕ) → i < j + 1 → b j i ≡ false
-  newest-next z j old e lz lj i h = by-cases (ℕ-discrete i j) (λ q. rw q (o .irrefl j lj)) (λ q. go (b j i) refl (omega arith))
+  pub newest-next : (z j : ℕ) {x : Bool} → ((i : ℕ) → i < j → b z i ≡ false) → x ≡ b z j → x ≡ true → z < n → j < n → (i : ℕ) → i < j + 1 → b j i ≡ false
+  newest-next z j old e f lz lj i h = by-cases (ℕ-discrete i j) (λ q. rw q (o .irrefl j lj)) (λ q. go (b j i) refl (omega arith))
     where
       go : (x : Bool) → b j i ≡ x → i < j → x ≡ false
-      go true u l = absurd (tf (o .trans z j i lz lj (omega arith) e u) (old i l))
+      go true u l = absurd (tf (o .trans z j i lz lj (omega arith) (sym e ∙ f) u) (old i l))
       go false u l = refl
 
   -- the first k stations in order, at the front of an array, and the place of station k among them
   module _ (k : ℕ) (lk : k < n) (l : List ℕ) (e : take k l ≡ ordered k b) where
-    pub listed-below : (p : ℕ) → p < k → getD l p 0 < k
-    listed-below p h = rw (← getD-take k l p 0 h, e) (all-at (λ i. i < k) (ordered k b) 0 (ordered-all (λ i. i < k) b k (λ i u. u)) p (rw ordered-length h))
+    listed : (p : ℕ) → p < k → getD l p 0 < k
+    listed = listed-below b k l e
 
     listed-sorted : (p q : ℕ) → p < q → q < k → b (getD l p 0) (getD l q 0) ≡ true
     listed-sorted p q h u = rw (← getD-take k l p 0 (omega arith), ← getD-take k l q 0 u, e)
         (sorted-at b (ordered k b) (ordered-sorted n b o k (omega arith)) p q h (rw ordered-length u))
 
     -- where the one at a place stands before station k, so do all earlier; where it does not, station k stands before it and all later
-    pub before-front : (p : ℕ) → p < k → b (getD l p 0) k ≡ true → (q : ℕ) → q < p + 1 → b (getD l q 0) k ≡ true
-    before-front p h u q v = by-cases (ℕ-discrete q p) (λ f. rw f u)
-        (λ f. o .trans (getD l q 0) (getD l p 0) k (omega (arith, listed-below q (omega arith))) (omega (arith, listed-below p h)) lk (listed-sorted q p (omega arith) h) u)
+    pub before-front : (p : ℕ) {x : Bool} → p < k → x ≡ b (getD l p 0) k → x ≡ true → (q : ℕ) → q < p + 1 → b (getD l q 0) k ≡ true
+    before-front p h w x q v = let u = sym w ∙ x in by-cases (ℕ-discrete q p) (λ f. rw f u)
+        (λ f. o .trans (getD l q 0) (getD l p 0) k (omega (arith, listed q (omega arith))) (omega (arith, listed p h)) lk (listed-sorted q p (omega arith) h) u)
 
-    pub before-back : (p : ℕ) → p < k → b (getD l p 0) k ≡ false → (q : ℕ) → p ≤ q → q < k → b k (getD l q 0) ≡ true
-    before-back p h u q v w = by-cases (ℕ-discrete p q) (λ f. rw (← f) at-place)
-        (λ f. o .trans k (getD l p 0) (getD l q 0) lk (omega (arith, listed-below p h)) (omega (arith, listed-below q w)) at-place (listed-sorted p q (omega arith) w))
+    pub before-back : (p : ℕ) {x : Bool} → p < k → x ≡ b (getD l p 0) k → x ≡ false → (q : ℕ) → p ≤ q → q < k → b k (getD l q 0) ≡ true
+    before-back p h u x q v w = by-cases (ℕ-discrete p q) (λ f. rw (← f) at-place)
+        (λ f. o .trans k (getD l p 0) (getD l q 0) lk (omega (arith, listed p h)) (omega (arith, listed q w)) at-place (listed-sorted p q (omega arith) w))
       where
         at-place : b k (getD l p 0) ≡ true
-        at-place = other-way (getD l p 0) k (omega (arith, listed-below p h)) lk (λ f. omega (arith, listed-below p h)) u
+        at-place = other-way (getD l p 0) k (omega (arith, listed p h)) lk (λ f. omega (arith, listed p h)) (sym u ∙ x)
 
     pub order-next : (q : ℕ) → q ≤ k → ((p : ℕ) → p < q → b (getD l p 0) k ≡ true) → ((p : ℕ) → q ≤ p → p < k → b k (getD l p 0) ≡ true)
         → ordered (k + 1) b ≡ putIn q k (take k l)
     unfolding ordered
     order-next q h early late = rw (add-one k, ordered, ← e) (inserted-at b k (take k l) q (omega (arith, long))
-        (λ p u. rw (getD-take k l p 0 (omega arith)) (one-way (getD l p 0) k (omega (arith, listed-below p (omega arith))) lk (early p u)))
+        (λ p u. rw (getD-take k l p 0 (omega arith)) (one-way (getD l p 0) k (omega (arith, listed p (omega arith))) lk (early p u)))
         (λ u. let v : q < k = omega (arith, long) in rw (getD-take k l q 0 v) (late q (omega arith) v)))
       where
         long : length (take k l) ≡ k

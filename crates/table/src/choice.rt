@@ -43,7 +43,8 @@ fn histogram(shared: [usize; 32], n: usize, k: usize) -> [usize; 32]
     r
 }
 
-// The position p = h - 1 of the new label: the first at which at most p stations other than k share at most p digits.
+// The position h - 1 of the new label, h the smallest at which at least n - h stations other than k share h digits.
+// As there are n - 1 of them, that is the first p at which at most p of them share at most p digits.
 pub fn level(shared: [usize; 32], n: usize, k: usize) -> usize
     requires { ⌜ (k < n) × (n ≤ 32) ⌝ }
     requires { ⌜ ((j : ℕ) → j < n → getD shared j 0 < 32) ⌝ }

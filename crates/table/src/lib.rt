@@ -163,4 +163,42 @@ impl Table {
         }
         well_formed::no_ring(self.labels(), n)
     }
+
+    // The newest station, from 0.
+    pub fn newest(self) -> usize
+        requires { ⌜ wellFormed self ≡ true ⌝ }
+        ensures { λ r. ⌜ r ≡ newestOf self ⌝ }
+    {
+        let rows = self.labels();
+        order::newest(rows, self.count)
+    }
+
+    // All stations with their jobs, oldest first: what a snap for a scan stores.
+    pub fn scan(self) -> [Entry; 32]
+        requires { ⌜ wellFormed self ≡ true ⌝ }
+        ensures { λ r. ⌜ r ≡ scanOf self ⌝ }
+    {
+        let n = self.count;
+        let rows = self.labels();
+        let stations = order::order(rows, n);
+        let jobs = self.jobs();
+        order::result(stations, jobs, n)
+    }
+
+    // The pending label that a snap for a label leaves at place k: the newest station keeps its own.
+    pub fn pending_after(self, k: usize) -> [u8; 31]
+        requires { ⌜ wellFormed self ≡ true ⌝ }
+        requires { ⌜ k < self .count ⌝ }
+        ensures { λ r. ⌜ r ≡ pendingAfter self k ⌝ }
+    {
+        let n = self.count;
+        let rows = self.labels();
+        let z = order::newest(rows, n);
+        if k == z {
+            let s = self.stations[k];
+            s.pending_label
+        } else {
+            choice::new_label(rows, n, z, k)
+        }
+    }
 }

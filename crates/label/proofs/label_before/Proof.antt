@@ -1,4 +1,3 @@
-use native.Mathlib.Omega.{arith}
 use mathlib.Core.Path.{_∙_, ap₂}
 use Rattle.label.specs.Labels.{below}
 use Rattle.label.proofs.Searches.{digit-read, digit-known, before-apart, before-alike}

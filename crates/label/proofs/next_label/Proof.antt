@@ -1,12 +1,11 @@
 use Rattle.label.specs.Labels.{next}
 use Rattle.label.proofs.Searches.{digit-read, digit-known, front, front-start, front-more, front-next}
 use borrow.Author.Needs.{needs}
-use Prim.Native.Nat.{ℕ, _-_, _≤_}
-use mathlib.Core.Path.{_≡_, sym, _∙_, ap}
+use Prim.Native.Nat.{_-_, _≤_}
+use mathlib.Core.Path.{_≡_, _∙_, ap}
 use native.Mathlib.Omega.{arith}
 use Rattle.label.specs.Tests.{tabulate}
-use Rattle.label.specs.Rows.{digit, row}
-use Rattle.label.specs.Labels.{nextLabel}
+use Rattle.label.specs.Rows.{digit}
 use Rattle.label.proofs.next_label.Statement.{statement}
 use Rattle.label.proofs.next_label.Tie as tie
 

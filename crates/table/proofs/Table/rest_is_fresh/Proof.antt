@@ -7,7 +7,7 @@ use Rattle.label.specs.Tests.{every}
 use Rattle.label.proofs.Facts.{every-no}
 use Rattle.table.specs.Tables.{at}
 use Rattle.table.specs.WellFormed.{isFresh}
-use Rattle.table.proofs.Checks.{every-none, every-more, every-done, refused, passed}
+use Rattle.table.proofs.Checks.{every-none, every-more, every-done, was-false, was-true}
 use Rattle.table.proofs.Owned.{record-read}
 use Rattle.table.proofs.Table.rest_is_fresh.Statement.{statement}
 use Rattle.table.proofs.Table.rest_is_fresh.Tie as tie
@@ -41,7 +41,7 @@ returns c =
     let t = c .before .before .before .before .before .args .t1 in
     let i = c .before .before .before .before .loop .i in
     let e = record-read (isFresh (t .count)) t _ (c .before .before .before .before .before .good .0) (t .count + i) (c .before .is-fresh .ensures) (search needs) in
-    sym (every-no _ _ i (search needs) (refused e (c .if1 .taken)))
+    sym (every-no _ _ i (search needs) (was-false e (c .if1 .taken)))
 
 add-i : tie.Need-add-i Inv-loop μ-loop
 add-i c = search needs
@@ -54,7 +54,7 @@ loop-again c =
     let t = c .before .before .before .before .before .args .t1 in
     let i = c .before .before .before .before .loop .i in
     let e = record-read (isFresh (t .count)) t _ (c .before .before .before .before .before .good .0) (t .count + i) (c .before .is-fresh .ensures) (search needs) in
-    (search needs, every-more _ _ (c .before .before .before .before .loop .inv .1) (passed e (c .if1 .left)))
+    (search needs, every-more _ _ (c .before .before .before .before .loop .inv .1) (was-true e (c .if1 .left)))
 
 returns-2 : tie.Need-returns-2 Inv-loop μ-loop
 returns-2 c = every-done _ (c .before .loop .inv .1) (omega arith)

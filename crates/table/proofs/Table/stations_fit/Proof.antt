@@ -7,7 +7,7 @@ use Rattle.label.specs.Tests.{every}
 use Rattle.label.proofs.Facts.{every-no}
 use Rattle.table.specs.Tables.{at}
 use Rattle.table.specs.WellFormed.{stationFits}
-use Rattle.table.proofs.Checks.{every-none, every-more, every-done, refused, passed}
+use Rattle.table.proofs.Checks.{every-none, every-more, every-done, was-false, was-true}
 use Rattle.table.proofs.Owned.{record-read}
 use Rattle.table.proofs.Table.stations_fit.Statement.{statement}
 use Rattle.table.proofs.Table.stations_fit.Tie as tie
@@ -35,7 +35,7 @@ returns c =
     let t = c .before .before .before .before .before .args .t1 in
     let i = c .before .before .before .before .loop .i in
     let e = record-read (stationFits (t .count)) t _ (c .before .before .before .before .before .good .0) i (c .before .station-fits .ensures) (search needs) in
-    sym (every-no _ _ i (search needs) (refused e (c .if1 .taken)))
+    sym (every-no _ _ i (search needs) (was-false e (c .if1 .taken)))
 
 add-i : tie.Need-add-i Inv-loop μ-loop
 add-i c = search needs
@@ -48,7 +48,7 @@ loop-again c =
     let t = c .before .before .before .before .before .args .t1 in
     let i = c .before .before .before .before .loop .i in
     let e = record-read (stationFits (t .count)) t _ (c .before .before .before .before .before .good .0) i (c .before .station-fits .ensures) (search needs) in
-    (search needs, every-more _ _ (c .before .before .before .before .loop .inv .1) (passed e (c .if1 .left)))
+    (search needs, every-more _ _ (c .before .before .before .before .loop .inv .1) (was-true e (c .if1 .left)))
 
 returns-2 : tie.Need-returns-2 Inv-loop μ-loop
 returns-2 c = every-done _ (c .before .loop .inv .1) (omega arith)

@@ -12,7 +12,7 @@ use Rattle.label.proofs.Facts.{both, left-no, right-no}
 use Rattle.table.specs.Gathered.{held}
 use Rattle.table.specs.Tables.{at, labels}
 use Rattle.table.specs.WellFormed.{stationFits, isFresh, wellFormed}
-use Rattle.table.proofs.Checks.{and-yes, refused, passed}
+use Rattle.table.proofs.Checks.{and-yes, was-false, was-true}
 use Rattle.table.proofs.Rings.{ring}
 use Rattle.table.proofs.Gathered.{no-ring-gathered}
 use borrow.Author.Tests.{ltb-true, ltb-false, lt-leb}
@@ -43,7 +43,7 @@ returns-2 c =
     let fits = every n (λ i. stationFits n (at t i)) in
     let rest = every (32 - n) (λ i. isFresh n (at t (n + i))) in
     let no : (size && fits && rest) ≡ false =
-    ⊎-elim (λ w. left-no rest (right-no size (refused (c .before .stations-fit .ensures) (w .taken)))) (λ w. right-no (size && fits) (refused (w .1 .ensures) (w .2 .taken))) (c .if3 .came) in
+    ⊎-elim (λ w. left-no rest (right-no size (was-false (c .before .stations-fit .ensures) (w .taken)))) (λ w. right-no (size && fits) (was-false (w .1 .ensures) (w .2 .taken))) (c .if3 .came) in
     sym (left-no (noRing (n - 1) (labels t)) no)
 
 labels-requires : tie.Need-labels-requires
@@ -59,8 +59,8 @@ returns-3 c =
     let n = t .count in
     let low : 2 ≤ n = c .before .before .before .before .before .before .before .if1 .left in
     let high : n ≤ 32 = ltb-false 32 n (c .before .before .before .before .before .before .if2 .left) in
-    let fits = passed (c .before .before .before .before .before .stations-fit .ensures) (c .before .before .before .before .if3 .left) in
-    let rest = passed (c .before .before .before .rest-is-fresh .ensures) (c .before .before .if4 .left) in
+    let fits = was-true (c .before .before .before .before .before .stations-fit .ensures) (c .before .before .before .before .if3 .left) in
+    let rest = was-true (c .before .before .before .rest-is-fresh .ensures) (c .before .before .if4 .left) in
     let ring = c .no-ring .ensures ∙ ap (λ (rows : List (List ℕ)). noRing (n - 1) (held rows)) (c .before .labels .ensures) ∙ no-ring-gathered t (omega arith) high in
     and-yes (both (both (within-of 2 32 n low high) fits) rest) ring
 

@@ -6,7 +6,7 @@ use borrow.Author.Needs.{needs}
 use Rattle.label.specs.Tests.{every}
 use Rattle.label.proofs.Facts.{every-no}
 use Rattle.table.specs.Gathered.{held}
-use Rattle.table.proofs.Checks.{every-none, every-more, every-done, refused, passed}
+use Rattle.table.proofs.Checks.{every-none, every-more, every-done, was-false, was-true}
 use Rattle.table.proofs.Rings.{ring, no-ring-each}
 use Rattle.table.proofs.well_formed.no_ring.Statement.{statement}
 use Rattle.table.proofs.well_formed.no_ring.Tie as tie
@@ -24,7 +24,7 @@ no-ring-at-requires : tie.Need-no-ring-at-requires Inv-loop μ-loop
 no-ring-at-requires c κs = search needs
 
 returns : tie.Need-returns Inv-loop μ-loop
-returns c = sym (no-ring-each _ _ (search needs) ∙ every-no _ _ (c .before .before .before .loop .i) (search needs) (refused (c .before .no-ring-at .ensures) (c .if1 .taken)))
+returns c = sym (no-ring-each _ _ (search needs) ∙ every-no _ _ (c .before .before .before .loop .i) (search needs) (was-false (c .before .no-ring-at .ensures) (c .if1 .taken)))
 
 add-i : tie.Need-add-i Inv-loop μ-loop
 add-i c = search needs
@@ -33,7 +33,7 @@ loop-less : tie.Need-loop-less Inv-loop μ-loop
 loop-less c = search needs
 
 loop-again : tie.Need-loop-again Inv-loop μ-loop
-loop-again c = (search needs, every-more _ _ (c .before .before .before .loop .inv .1) (passed (c .before .no-ring-at .ensures) (c .if1 .left)))
+loop-again c = (search needs, every-more _ _ (c .before .before .before .loop .inv .1) (was-true (c .before .no-ring-at .ensures) (c .if1 .left)))
 
 returns-2 : tie.Need-returns-2 Inv-loop μ-loop
 returns-2 c = every-done _ (c .before .loop .inv .1) (omega arith) ∙ sym (no-ring-each _ _ (search needs))

@@ -7,7 +7,7 @@ use borrow.Author.Needs.{needs}
 use Rattle.label.specs.Tests.{every}
 use Rattle.label.proofs.Facts.{every-no}
 use Rattle.table.specs.Results.{blank, sameEntry}
-use Rattle.table.proofs.Checks.{every-none, every-more, every-done, refused, passed}
+use Rattle.table.proofs.Checks.{every-none, every-more, every-done, was-false, was-true}
 use Rattle.table.proofs.well_formed.same_from.Statement.{statement}
 use Rattle.table.proofs.well_formed.same_from.Tie as tie
 
@@ -45,7 +45,7 @@ same-entry-requires : tie.Need-same-entry-requires Inv-loop μ-loop
 same-entry-requires c κs = search needs
 
 returns : tie.Need-returns Inv-loop μ-loop
-returns c = sym (every-no _ _ (c .before .before .before .before .before .loop .p) (search needs) (refused (c .before .same-entry .ensures) (c .if1 .taken)))
+returns c = sym (every-no _ _ (c .before .before .before .before .before .loop .p) (search needs) (was-false (c .before .same-entry .ensures) (c .if1 .taken)))
 
 add-p : tie.Need-add-p Inv-loop μ-loop
 add-p c = search needs
@@ -54,7 +54,7 @@ loop-less : tie.Need-loop-less Inv-loop μ-loop
 loop-less c = search needs
 
 loop-again : tie.Need-loop-again Inv-loop μ-loop
-loop-again c = (search needs, every-more _ _ (c .before .before .before .before .before .loop .inv .1) (passed (c .before .same-entry .ensures) (c .if1 .left)))
+loop-again c = (search needs, every-more _ _ (c .before .before .before .before .before .loop .inv .1) (was-true (c .before .same-entry .ensures) (c .if1 .left)))
 
 returns-2 : tie.Need-returns-2 Inv-loop μ-loop
 returns-2 c = every-done _ (c .before .loop .inv .1) (omega arith)
