@@ -3,7 +3,7 @@ use Prim.Native.Nat.{ℕ, _+_, _≤_, _<_}
 use native.Mathlib.Nat.{zero-add}
 use native.Mathlib.Omega.{arith}
 use native.Mathlib.Decide.{decLt}
-use mathlib.Core.Path.{_≡_, refl, ap, _∙_}
+use mathlib.Core.Path.{_≡_, refl, _∙_}
 use mathlib.Core.Logic.{_≢_, by-cases}
 use mathlib.Core.Bool.{cond}
 use mathlib.Core.List.{List}
@@ -17,11 +17,8 @@ abbrev pub filled : {A : Type 0} → ℕ → ℕ → (ℕ → A) → A → List 
 filled w j f z = tabulate w 0 (λ k. cond (ltb k j) (f k) z)
 
 module _ {A : Type 0} (w : ℕ) (f : ℕ → A) (z : A) where
-  pub filled-at : (j k : ℕ) → k < w → getD (filled w j f z) k z ≡ cond (ltb k j) (f k) z
-  filled-at j k h = getD-tabulate w 0 k _ z h ∙ ap (λ (i : ℕ). cond (ltb i j) (f i) z) (zero-add k)
-
-  pub filled-in : (j k : ℕ) → k < j → j ≤ w → getD (filled w j f z) k z ≡ f k
-  filled-in j k l h = filled-at j k (omega arith) ∙ rw (lt-ltb k j l) refl
+  pub filled-in : (d : A) (j k : ℕ) → k < j → j ≤ w → getD (filled w j f z) k d ≡ f k
+  filled-in d j k l h = getD-tabulate w 0 k _ d (omega arith) ∙ rw (zero-add k, lt-ltb k j l) refl
 
   pub filled-none : replicate w z ≡ filled w 0 f z
   filled-none = replicate-tabulate w 0 z _ (λ k l. rw (le-ltb k 0 (omega arith)) refl)

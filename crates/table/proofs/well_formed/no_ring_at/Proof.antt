@@ -38,7 +38,7 @@ returns c =
     let i = c .before .before .before .before .before .args .i in
     let shared = c .before .before .before .shared-prefixes .result in
     let e : (j : ℕ) → j < n → getD shared j 0 ≡ firstDifference (n - 1) (held rows j) (held rows i) =
-    λ j l. rw (c .before .before .before .shared-prefixes .ensures) (filled-in 32 _ 0 n j l (search needs)) in
+    λ j l. rw (c .before .before .before .shared-prefixes .ensures) (filled-in 32 _ 0 0 n j l (search needs)) in
     c .no-three .ensures ∙ every-same (n - 1) _ _ (λ p l. flags-judge (n - 1) n (held rows) i p l shared e (c .before .before .parts-with .result) (c .before .parts-with2 .result) (c .before .before .parts-with .ensures p l) (c .before .parts-with2 .ensures p l))
 
 pub no-ring-at-spec : {M : Type 1} → statement M
