@@ -6,16 +6,21 @@ use mathlib.Core.Bool.{Bool, true, false, cond}
 use mathlib.Core.List as Lists
 use mathlib.Core.List.{[]}
 use lib.ListN.{length, getD, take}
-use lib.Seq.{set-getD}
+use lib.Seq.{set-getD, length-take-le}
+use borrow.Author.Tests.{ne-eqb}
 use lib.Dec.{eqb}
 use Rattle.label.specs.Tests.{within}
-use Rattle.label.proofs.Facts.{getD-any, within-true}
+use Rattle.label.proofs.Facts.{getD-any, within-true, within-of}
 use Rattle.simulation.specs.Calls as Calls
 use Rattle.simulation.specs.Calls.{Call, judge, unless, jobFits, byCode, numberOf, place, reportLines}
 use Rattle.table.specs.Tables.{freshStation, at, store}
 use Rattle.table.specs.WellFormed.{wellFormed}
 use Rattle.step.specs.Steps.{carryOut, move, stepOf}
-use Rattle.step.specs.Contracts.{called, recordAfter, reportSize, placeOf}
+use Rattle.simulation.proofs.Judged.{Own, Verdict, turned, own, verdict}
+use Rattle.step.specs.Contracts.{refusalNumber, recordAfter, reportSize, placeOf, Decides}
+use Rattle.step.proofs.View.{step-carries, carried-count}
+use Rattle.step.proofs.ReportLaws.{length-report-lines}
+use Rattle.step.specs.declared.Decision.{Decision}
 use Rattle.table.specs.declared.Phase.{Phase}
 use Rattle.table.specs.declared.Station.{Station}
 use Rattle.table.specs.declared.Table.{Table}
@@ -53,22 +58,28 @@ module _ (t : Table) (c : Call) where
       go false e = judge-stranger (t .count) (at t 0 .phase) (at t (place c) .phase) c e
 
   -- what is stored, and what is reported, by the move
-  module _ (low : 2 ≤ t .count) (long : t .count ≤ length (at t (place c) .«scan_result»)) where
-    stored : (w : Calls.Move) → here ≡ place c → store t here (recordAfter t here (c .job) w) ≡ carryOut t c w .table
-    unfolding recordAfter carryOut
-    stored (Calls.Move.refused x) e = ap (λ l. record { count = t .count; stations = l }) (set-getD (t .stations) here _)
-    stored Calls.Move.beginsLabel e = rw e refl
-    stored Calls.Move.beginsScan e = rw e refl
-    stored Calls.Move.snapsLabel e = rw e refl
-    stored Calls.Move.snapsScan e = rw e refl
-    stored Calls.Move.updates e = rw e refl
-    stored Calls.Move.endsLabel e = rw e refl
-    stored Calls.Move.endsScan e = rw e refl
+  unchanged : store t here (at t here) ≡ t
+  unchanged = ap (λ l. record { count = t .count; stations = l }) (set-getD (t .stations) here _)
 
-    reported : (w : Calls.Move) → here ≡ place c
-        → (reportSize (t .count) w ≡ length (carryOut t c w .bytes))
-        × (carryOut t c w .bytes ≡ cond (eqb (reportSize (t .count) w) 0) [] (reportLines (c .line) 1 (take (t .count) (recordAfter t here (c .job) w .«scan_result»))))
-    unfolding recordAfter carryOut
+  stored : (w : Calls.Move) → here ≡ place c → store t here (recordAfter t here (c .job) w) ≡ carryOut t c w .table
+  unfolding recordAfter carryOut
+  stored (Calls.Move.refused x) e = unchanged
+  stored Calls.Move.beginsLabel e = rw e refl
+  stored Calls.Move.beginsScan e = rw e refl
+  stored Calls.Move.snapsLabel e = rw e refl
+  stored Calls.Move.snapsScan e = rw e refl
+  stored Calls.Move.updates e = rw e refl
+  stored Calls.Move.endsLabel e = rw e refl
+  stored Calls.Move.endsScan e = rw e refl
+
+  -- the bytes of report, as a decision gives them
+  Reported : Calls.Move → Type 0
+  Reported w = (reportSize (t .count) w ≡ length (carryOut t c w .bytes))
+      × (carryOut t c w .bytes ≡ cond (eqb (reportSize (t .count) w) 0) [] (reportLines (c .line) 1 (take (t .count) (recordAfter t here (c .job) w .«scan_result»))))
+
+  module _ (low : 2 ≤ t .count) (long : t .count ≤ length (at t here .«scan_result»)) where
+    reported : (w : Calls.Move) → here ≡ place c → Reported w
+    unfolding recordAfter carryOut Reported
     reported (Calls.Move.refused x) e = (refl, refl)
     reported Calls.Move.beginsLabel e = (refl, refl)
     reported Calls.Move.beginsScan e = (refl, refl)
@@ -77,6 +88,26 @@ module _ (t : Table) (c : Call) where
     reported Calls.Move.updates e = (refl, refl)
     reported Calls.Move.endsLabel e = (refl, refl)
     reported Calls.Move.endsScan e = (
-      sym (length-report-lines (c .line) 1 _ ∙ ap (λ k. k * 29) (length-take-le (t .count) _ long)),
+      sym (length-report-lines (c .line) 1 _ ∙ ap (λ k. k * 29) (length-take-le (t .count) _ (rw e at long))),
       rw (ne-eqb (t .count * 29) 0 (λ z. omega arith), e) refl,
     )
+
+    by-verdict : {w : Calls.Move} → Verdict (t .count) c w → (store t here (recordAfter t here (c .job) w) ≡ carryOut t c w .table) × Reported w
+    unfolding recordAfter carryOut Reported
+    by-verdict (turned x) = (unchanged, (refl, refl))
+    by-verdict {w} (own o) = (stored w (here-is o), reported w (here-is o))
+
+    -- a decision made with what the call amounts to
+    pub decided : (d : Decision) → wellFormed t ≡ true → refusalNumber (d .refusal) ≡ numberOf (move t c) → d .place ≡ here → here < 32
+        → d .«record» ≡ recordAfter t here (c .job) (move t c) → d .written ≡ reportSize (t .count) (move t c) → Decides t c d
+    unfolding move Reported
+    decided d ok r p h s w =
+        let v = by-verdict (verdict (t .count) (at t (place c) .phase) c (move t c) refl) in
+        let e = step-carries t c ok in record {
+          refusal = r ∙ sym (ap (λ x. x .refusal) e ∙ carried-count t c (move t c) .1);
+          inside = rw p h;
+          table = rw (p, s) (v .0 ∙ sym (ap (λ x. x .table) e));
+          written = w ∙ v .1 .0 ∙ sym (ap (λ x. length (x .bytes)) e);
+          bytes = ap (λ x. x .bytes) e ∙ v .1 .1
+              ∙ ap₂ (λ (k : ℕ) (x : Station). cond (eqb k 0) [] (reportLines (c .line) 1 (take (t .count) (x .«scan_result»)))) (sym w) (sym s);
+        }
