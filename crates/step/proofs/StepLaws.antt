@@ -15,9 +15,10 @@ use Rattle.simulation.specs.Calls as Calls
 use Rattle.simulation.specs.Calls.{Call, judge, unless, jobFits, byCode, numberOf, place, reportLines}
 use Rattle.table.specs.Tables.{freshStation, at, store}
 use Rattle.table.specs.WellFormed.{wellFormed}
+use Rattle.table.proofs.Orders.{passed}
 use Rattle.step.specs.Steps.{carryOut, move, stepOf}
 use Rattle.simulation.proofs.Judged.{Own, Verdict, turned, own, verdict}
-use Rattle.step.specs.Contracts.{refusalNumber, recordAfter, reportSize, placeOf, Decides}
+use Rattle.step.specs.Contracts.{refusalNumber, called, recordAfter, reportSize, placeOf, Decides}
 use Rattle.step.proofs.View.{step-carries, carried-count}
 use Rattle.step.proofs.ReportLaws.{length-report-lines}
 use Rattle.step.specs.declared.Decision.{Decision}
@@ -49,7 +50,7 @@ module _ (t : Table) (c : Call) where
   here-is : Own (t .count) c → here ≡ place c
   here-is o = rw (within-of 1 (t .count) (c .station) (o .from) (o .upto)) refl
 
-  pub same-move : judge (t .count) (at t here .phase) c ≡ move t c
+  same-move : judge (t .count) (at t here .phase) c ≡ move t c
   unfolding move
   same-move = go (within 1 (t .count) (c .station)) refl
     where
@@ -98,7 +99,7 @@ module _ (t : Table) (c : Call) where
     by-verdict {w} (own o) = (stored w (here-is o), reported w (here-is o))
 
     -- a decision made with what the call amounts to
-    pub decided : (d : Decision) → wellFormed t ≡ true → refusalNumber (d .refusal) ≡ numberOf (move t c) → d .place ≡ here → here < 32
+    decided : (d : Decision) → wellFormed t ≡ true → refusalNumber (d .refusal) ≡ numberOf (move t c) → d .place ≡ here → here < 32
         → d .«record» ≡ recordAfter t here (c .job) (move t c) → d .written ≡ reportSize (t .count) (move t c) → Decides t c d
     unfolding move Reported
     decided d ok r p h s w =
@@ -111,3 +112,26 @@ module _ (t : Table) (c : Call) where
           bytes = ap (λ x. x .bytes) e ∙ v .1 .1
               ∙ ap₂ (λ (k : ℕ) (x : Station). cond (eqb k 0) [] (reportLines (c .line) 1 (take (t .count) (x .«scan_result»)))) (sym w) (sym s);
         }
+
+judge-line : (line n : ℕ) (p : Phase) (code station job room : ℕ) → judge n p (called 0 code station job room) ≡ judge n p (called line code station job room)
+unfolding judge
+judge-line line n p code station job room = refl
+
+-- the code's decision: on the record at the place it judges the call, and by that it decides
+pub decide-law : (t : Table) → wellFormed t ≡ true → ((i : ℕ) → i < 32 → length (at t i .«scan_result») ≡ 32) → (code station job room : ℕ) (d : Decision) (p : Phase) (w : Calls.Move)
+    → d .place ≡ placeOf (t .count) station → p ≡ at t (d .place) .phase → w ≡ judge (t .count) p (called 0 code station job room)
+    → refusalNumber (d .refusal) ≡ numberOf w → d .«record» ≡ recordAfter t (d .place) job w → d .written ≡ reportSize (t .count) w
+    → (line : ℕ) → Decides t (called line code station job room) d
+decide-law t ok long code station job room d p w k ph judged r s n line =
+    decided t c (passed t ok .low) (omega (arith, long (placeOf (t .count) station) h, passed t ok .high)) d ok
+    (r ∙ ap numberOf same) k h (s ∙ ap₂ (λ (i : ℕ) (m : Calls.Move). recordAfter t i job m) k same) (n ∙ ap (reportSize (t .count)) same)
+  where
+    c : Call
+    c = called line code station job room
+
+    h : placeOf (t .count) station < 32
+    h = omega (arith, place-below (t .count) station (passed t ok .low), passed t ok .high)
+
+    same : w ≡ move t c
+    same = judged ∙ judge-line line (t .count) p code station job room
+        ∙ ap (λ (q : Phase). judge (t .count) q c) (ph ∙ ap (λ (i : ℕ). at t i .phase) k) ∙ same-move t c
