@@ -2,6 +2,7 @@
 use Prim.Native.Nat.{ℕ, suc, _-_, _*_, _≤_, _<_}
 use native.Mathlib.Omega.{arith}
 use mathlib.Core.Path.{_≡_, refl, sym, ap, ap₂, _∙_}
+use mathlib.Core.Logic.{_≢_}
 use mathlib.Core.Bool.{Bool, true, false, cond}
 use mathlib.Core.List as Lists
 use mathlib.Core.List.{[]}
@@ -17,8 +18,8 @@ use Rattle.table.specs.Tables.{freshStation, at, store}
 use Rattle.table.specs.WellFormed.{wellFormed}
 use Rattle.table.proofs.Orders.{passed}
 use Rattle.step.specs.Steps.{carryOut, move, stepOf}
-use Rattle.simulation.proofs.Judged.{Own, Verdict, turned, own, verdict}
-use Rattle.step.specs.Contracts.{refusalNumber, called, recordAfter, reportSize, placeOf, Decides}
+use Rattle.simulation.proofs.Judged.{Roomy, roomy, Own, Verdict, turned, own, verdict}
+use Rattle.step.specs.Contracts.{refusalNumber, called, recordAfter, reportSize, placeOf, due, Decides}
 use Rattle.step.proofs.View.{step-carries, carried-count}
 use Rattle.step.proofs.ReportLaws.{length-report-lines}
 use Rattle.step.specs.declared.Decision.{Decision}
@@ -42,6 +43,17 @@ place-below n station h = go (within 1 n station) refl
 judge-stranger : (n : ℕ) (p q : Phase) (c : Call) → within 1 n (c .station) ≡ false → judge n p c ≡ judge n q c
 unfolding judge
 judge-stranger n p q c e = rw e refl
+
+-- a move that writes has room for its lines
+has-room : (n room : ℕ) (w : Calls.Move) → Roomy n room w → reportSize n w ≢ 0 → n * 29 ≤ room
+has-room n room (Calls.Move.refused x) r d = absurd (d refl)
+has-room n room Calls.Move.beginsLabel r d = absurd (d refl)
+has-room n room Calls.Move.beginsScan r d = absurd (d refl)
+has-room n room Calls.Move.snapsLabel r d = absurd (d refl)
+has-room n room Calls.Move.snapsScan r d = absurd (d refl)
+has-room n room Calls.Move.updates r d = absurd (d refl)
+has-room n room Calls.Move.endsLabel r d = absurd (d refl)
+has-room n room Calls.Move.endsScan r d = r
 
 module _ (t : Table) (c : Call) where
   abbrev here : ℕ
@@ -76,7 +88,7 @@ module _ (t : Table) (c : Call) where
   -- the bytes of report, as a decision gives them
   Reported : Calls.Move → Type 0
   Reported w = (reportSize (t .count) w ≡ length (carryOut t c w .bytes))
-      × (carryOut t c w .bytes ≡ cond (eqb (reportSize (t .count) w) 0) [] (reportLines (c .line) 1 (take (t .count) (recordAfter t here (c .job) w .«scan_result»))))
+      × (carryOut t c w .bytes ≡ due (reportSize (t .count) w) (c .line) (take (t .count) (recordAfter t here (c .job) w .«scan_result»)))
 
   module _ (low : 2 ≤ t .count) (long : t .count ≤ length (at t here .«scan_result»)) where
     reported : (w : Calls.Move) → here ≡ place c → Reported w
@@ -109,8 +121,8 @@ module _ (t : Table) (c : Call) where
           inside = rw p h;
           table = rw (p, s) (v .0 ∙ sym (ap (λ x. x .table) e));
           written = w ∙ v .1 .0 ∙ sym (ap (λ x. length (x .bytes)) e);
-          bytes = ap (λ x. x .bytes) e ∙ v .1 .1
-              ∙ ap₂ (λ (k : ℕ) (x : Station). cond (eqb k 0) [] (reportLines (c .line) 1 (take (t .count) (x .«scan_result»)))) (sym w) (sym s);
+          bytes = ap (λ x. x .bytes) e ∙ v .1 .1 ∙ ap₂ (λ (k : ℕ) (x : Station). due k (c .line) (take (t .count) (x .«scan_result»))) (sym w) (sym s);
+          fits = λ d. has-room (t .count) (c .room) (move t c) (roomy (t .count) (at t (place c) .phase) c) (λ z. d (w ∙ z));
         }
 
 judge-line : (line n : ℕ) (p : Phase) (code station job room : ℕ) → judge n p (called 0 code station job room) ≡ judge n p (called line code station job room)
