@@ -1,10 +1,11 @@
 -- What `judge` tells: a call is refused or is a station's own, and no refusal is 13. Nothing else opens `judge`.
-use Prim.Native.Nat.{ℕ, _*_, _<_}
+use Prim.Native.Nat.{ℕ, _*_, _≤_, _<_}
 use native.Mathlib.Omega.{arith}
 use mathlib.Core.Path.{_≡_, refl, sym, subst}
 use mathlib.Core.Logic.{_≢_}
 use mathlib.Core.Bool.{Bool, true, false, cond}
 use lib.Dec.{leb, eqb}
+use borrow.Author.Tests.{eqb-true}
 use Rattle.label.specs.Tests.{within}
 use Rattle.label.proofs.Facts.{within-true}
 use Rattle.simulation.specs.Calls.{Call, place, Move, unless, fromIdle, fromSnap, fromUpdate, fromEnd, jobFits, byCode, judge, numberOf}
@@ -26,30 +27,50 @@ unless-true : (b : Bool) (r : ℕ) (m′ m : Move) → unless b r m′ ≡ m →
 unless-true true r m′ m e a = (refl, e)
 unless-true false r m′ m e a = absurd (subst Accepted (sym e) a)
 
--- an accepted call is a station's own
-pub accepted-place : (n : ℕ) (ph : Phase) (c : Call) (m : Move) → judge n ph c ≡ m → Accepted m → place c < n
+-- an accepted call is a station's own, with a job that fits 32 bits
+pub record Own (n : ℕ) (c : Call) : Type 0 where
+  pub from : 1 ≤ c .station
+  pub upto : c .station ≤ n
+  pub job : c .job ≤ 4294967295
+
+job-small : (code job : ℕ) → jobFits code job ≡ true → job ≤ 4294967295
+job-small code job = go (eqb code 1)
+  where
+    go : (b : Bool) → cond b (within 1 4294967295 job) (eqb job 0) ≡ true → job ≤ 4294967295
+    go true e = within-true 1 4294967295 job e .1
+    go false e = let z = eqb-true job 0 e in omega arith
+
+accepted-own : (n : ℕ) (ph : Phase) (c : Call) (m : Move) → judge n ph c ≡ m → Accepted m → Own n c
 unfolding judge
-accepted-place n ph c m e a =
-    let r = unless (jobFits (c .code) (c .job)) 11 (byCode n (c .code) (c .room) ph) in
-    let p = unless-true (within 1 5 (c .code)) 10 (unless (within 1 n (c .station)) 2 r) m e a in
-    let q = unless-true (within 1 n (c .station)) 2 r m (p .1) a in
+accepted-own n ph c m e a =
+    let r = byCode n (c .code) (c .room) ph in
+    let u = unless (jobFits (c .code) (c .job)) 11 r in
+    let p = unless-true (within 1 5 (c .code)) 10 (unless (within 1 n (c .station)) 2 u) m e a in
+    let q = unless-true (within 1 n (c .station)) 2 u m (p .1) a in
+    let v = unless-true (jobFits (c .code) (c .job)) 11 r m (q .1) a in
     let w = within-true 1 n (c .station) (q .0) in
-    omega (arith, w .0, w .1)
+    record { from = w .0; upto = w .1; job = job-small (c .code) (c .job) (v .0) }
+
+pub own-place : {n : ℕ} {c : Call} → Own n c → place c < n
+own-place o = omega (arith, o .from, o .upto)
+
+pub accepted-place : (n : ℕ) (ph : Phase) (c : Call) (m : Move) → judge n ph c ≡ m → Accepted m → place c < n
+accepted-place n ph c m e a = own-place (accepted-own n ph c m e a)
 
 -- a call is refused, or it is a station's own
 pub data Verdict (n : ℕ) (c : Call) : Move → Type 0 where
   turned : (x : ℕ) → Verdict n c (Move.refused x)
-  own : {w : Move} → place c < n → Verdict n c w
+  own : {w : Move} → Own n c → Verdict n c w
 
 pub verdict : (n : ℕ) (ph : Phase) (c : Call) (w : Move) → judge n ph c ≡ w → Verdict n c w
 verdict n ph c (Move.refused x) e = turned x
-verdict n ph c Move.beginsLabel e = own (accepted-place n ph c Move.beginsLabel e tt)
-verdict n ph c Move.beginsScan e = own (accepted-place n ph c Move.beginsScan e tt)
-verdict n ph c Move.snapsLabel e = own (accepted-place n ph c Move.snapsLabel e tt)
-verdict n ph c Move.snapsScan e = own (accepted-place n ph c Move.snapsScan e tt)
-verdict n ph c Move.updates e = own (accepted-place n ph c Move.updates e tt)
-verdict n ph c Move.endsLabel e = own (accepted-place n ph c Move.endsLabel e tt)
-verdict n ph c Move.endsScan e = own (accepted-place n ph c Move.endsScan e tt)
+verdict n ph c Move.beginsLabel e = own (accepted-own n ph c Move.beginsLabel e tt)
+verdict n ph c Move.beginsScan e = own (accepted-own n ph c Move.beginsScan e tt)
+verdict n ph c Move.snapsLabel e = own (accepted-own n ph c Move.snapsLabel e tt)
+verdict n ph c Move.snapsScan e = own (accepted-own n ph c Move.snapsScan e tt)
+verdict n ph c Move.updates e = own (accepted-own n ph c Move.updates e tt)
+verdict n ph c Move.endsLabel e = own (accepted-own n ph c Move.endsLabel e tt)
+verdict n ph c Move.endsScan e = own (accepted-own n ph c Move.endsScan e tt)
 
 -- no refusal is 13
 not-unless : (b : Bool) (r : ℕ) (m : Move) → r ≢ 13 → numberOf m ≢ 13 → numberOf (unless b r m) ≢ 13
