@@ -40,7 +40,7 @@ job-small code job = go (eqb code 1)
     go true e = within-true 1 4294967295 job e .1
     go false e = let z = eqb-true job 0 e in omega arith
 
-accepted-own : (n : ℕ) (ph : Phase) (c : Call) (m : Move) → judge n ph c ≡ m → Accepted m → Own n c
+pub accepted-own : (n : ℕ) (ph : Phase) (c : Call) (m : Move) → judge n ph c ≡ m → Accepted m → Own n c
 unfolding judge
 accepted-own n ph c m e a =
     let r = byCode n (c .code) (c .room) ph in

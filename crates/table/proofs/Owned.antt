@@ -3,8 +3,8 @@ use Prim.Native.Nat.{ℕ, zero, suc, _<_}
 use native.Mathlib.Nat.{le-of-suc-le-suc, not-suc-le-zero}
 use native.Mathlib.Omega.{arith}
 use mathlib.Core.Path.{_≡_, sym, ap, _∙_}
-use mathlib.Core.List.{List, [], _∷_}
-use lib.ListN.{length, getD, length-map}
+use mathlib.Core.List.{List, [], _∷_, map}
+use lib.ListN.{length, getD, length-map, List·getD-map}
 use base.Fml.{Fml}
 use mir.Val.{Val}
 use mir.Syntax.{w8}
@@ -17,9 +17,10 @@ use Rattle.table.specs.Tables.{at}
 use Rattle.table.specs.declared.Phase.the-variants.{Idle}
 use Rattle.table.specs.declared.Station.{Station}
 use Rattle.table.specs.declared.Table.{Table}
+use Rattle.table.proofs.Station as station
 use Rattle.table.proofs.Table.{the-row}
 
-stations-long : (t : Table) (vs : List Val) → shadow (the-row .own t vs) → length (t .stations) ≡ 32
+pub stations-long : (t : Table) (vs : List Val) → shadow (the-row .own t vs) → length (t .stations) ≡ 32
 stations-long t vs s = sym (length-map (t .stations) _) ∙ s .1 .1 .1 .0 .1 .0 .1
 
 -- what the code takes of a record that it reads; past the array's end a read would find a record of zeros
@@ -41,3 +42,17 @@ each-holds f P told z (x ∷ xs) (u ∷ us) s (suc i) h = each-holds f P told z 
 pub rows-long : (rows : List (List ℕ)) → Kinds.GoodK {n = 0} tt (pArr {k = 0} (eArr (eInt w8) 31) (eArr-laws (eInt w8) (eInt-laws w8) 31) 32) rows
     → (j : ℕ) → j < 32 → length (getD rows j []) ≡ 31
 rows-long rows g j h = each-holds _ (λ (l : List ℕ). length l ≡ 31) (λ x vs s. s .1 .0 .1) [] rows _ (g .1 .1) j (omega (arith, g .1 .0 .1))
+
+-- the same of an array that is a field, where each element x stands as `into x`
+each-mapped : {A d : Type 0} (into : A → d) (f : d → List Val → Fml) (P : A → Type 0) → ((x : A) (vs : List Val) → shadow (f (into x) vs) → P x)
+    → (z : A) (xs : List A) (us : List Val) → shadow (each d f (map into xs) us) → (i : ℕ) → i < length xs → P (getD xs i z)
+each-mapped {A} into f P told z xs us s i h =
+    each-holds f (λ y. (x : A) → y ≡ into x → P x) (λ y vs q x e. told x vs (rw e at q)) (into z) (map into xs) us s i (rw (length-map xs into) h)
+    (getD xs i z) (List·getD-map into xs i z)
+
+result-long : (x : Station) (vs : List Val) → shadow (station.the-row .own x vs) → length (x .«scan_result») ≡ 32
+result-long x vs s = sym (length-map (x .«scan_result») _) ∙ s .1 .1 .1 .1 .1 .1 .0 .1 .0 .1
+
+pub results-long : (t : Table) (vs : List Val) → shadow (the-row .own t vs) → (i : ℕ) → i < 32 → length (at t i .«scan_result») ≡ 32
+results-long t vs s i h =
+    each-mapped _ _ (λ (x : Station). length (x .«scan_result») ≡ 32) result-long _ (t .stations) _ (s .1 .1 .1 .0 .1 .1) i (omega (arith, stations-long t vs s))
