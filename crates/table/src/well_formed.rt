@@ -27,7 +27,7 @@ fn tally(n: usize, e: [Entry; 32]) -> [usize; 32]
         let x = e[p];
         let s = x.station as usize;
         if 1 <= s && s <= n {
-            r[s - 1] = r[s - 1] + 1;
+            r[s - 1] += 1;
         }
         p += 1;
     }

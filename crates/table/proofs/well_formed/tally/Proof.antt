@@ -43,9 +43,6 @@ add-r c =
     let i = getD e p blank .station - 1 in
     omega (arith, c .before .before .before .before .before .loop .inv .2 i (omega (arith, leb-true)), times-bound (suc i) (take p e), length-take p e, min-le-left p (length e))
 
-mul-r-2 : tie.Need-mul-r-2 Inv-loop μ-loop
-mul-r-2 c = search needs
-
 array-write-r : tie.Need-array-write-r Inv-loop μ-loop
 array-write-r c = omega (arith, leb-true)
 
@@ -90,7 +87,6 @@ tally-spec =
     mul-r
     array-read-r
     add-r
-    mul-r-2
     array-write-r
     add-p
     loop-less
