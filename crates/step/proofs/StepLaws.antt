@@ -1,28 +1,28 @@
 -- The decision on a call makes the answer of `stepOf`.
-use Prim.Native.Nat.{ℕ, suc, _-_, _*_, _≤_, _<_}
+use Prim.Native.Nat.{ℕ, _-_, _*_, _≤_, _<_}
 use native.Mathlib.Omega.{arith}
 use mathlib.Core.Path.{_≡_, refl, sym, ap, ap₂, _∙_}
 use mathlib.Core.Logic.{_≢_}
 use mathlib.Core.Bool.{Bool, true, false, cond}
 use mathlib.Core.List as Lists
-use mathlib.Core.List.{[]}
+use mathlib.Core.List.{[], _∷_}
 use lib.ListN.{length, getD, take}
 use lib.Seq.{set-getD, length-take-le}
 use borrow.Author.Tests.{ne-eqb}
-use lib.Dec.{eqb}
 use Rattle.label.specs.Tests.{within}
 use Rattle.label.proofs.Facts.{getD-any, within-true, within-of}
 use Rattle.simulation.specs.Calls as Calls
-use Rattle.simulation.specs.Calls.{Call, judge, unless, jobFits, byCode, numberOf, place, reportLines}
-use Rattle.table.specs.Tables.{freshStation, at, store}
+use Rattle.simulation.specs.Calls.{Call, judge, numberOf, place}
+use Rattle.table.specs.Tables.{at, store}
 use Rattle.table.specs.WellFormed.{wellFormed}
 use Rattle.table.proofs.Orders.{passed}
-use Rattle.step.specs.Steps.{carryOut, move, stepOf}
+use Rattle.step.specs.Steps.{refuse, carryOut, move, stepOf}
 use Rattle.simulation.proofs.Judged.{Roomy, roomy, Own, Verdict, turned, own, verdict}
-use Rattle.step.specs.Contracts.{refusalNumber, called, recordAfter, reportSize, placeOf, due, Decides}
+use Rattle.step.specs.Contracts.{refusalNumber, called, recordAfter, reportSize, placeOf, due, over, Decides, Steps}
 use Rattle.step.proofs.View.{step-carries, carried-count}
 use Rattle.step.proofs.ReportLaws.{length-report-lines}
 use Rattle.step.specs.declared.Decision.{Decision}
+use Rattle.step.specs.declared.Reply.{Reply}
 use Rattle.table.specs.declared.Phase.{Phase}
 use Rattle.table.specs.declared.Station.{Station}
 use Rattle.table.specs.declared.Table.{Table}
@@ -147,3 +147,20 @@ decide-law t ok long code station job room d p w k ph judged r s n line =
     same : w ≡ move t c
     same = judged ∙ judge-line line (t .count) p code station job room
         ∙ ap (λ (q : Phase). judge (t .count) q c) (ph ∙ ap (λ (i : ℕ). at t i .phase) k) ∙ same-move t c
+
+-- the outcome of a call: refused by 13, or as decided
+pub ill-formed : (t : Table) (c : Call) (buffer : Lists.List ℕ) (r : Reply) → wellFormed t ≡ false → refusalNumber (r .refusal) ≡ 13 → r .written ≡ 0 → Steps t c buffer t r buffer
+ill-formed t c buffer r e n w = record { table = ap (λ x. x .table) (sym s); refusal = n ∙ ap (λ x. x .refusal) (sym s); written = w ∙ ap (λ x. length (x .bytes)) (sym s); report = ap (λ x. over (x .bytes) buffer) (sym s) }
+  where
+    s : stepOf t c ≡ refuse t 13
+    s = unfold stepOf in rw (e, stepOf) refl
+
+pub carried-out : (t : Table) (c : Call) (buffer : Lists.List ℕ) (d : Decision) (r : Reply) (buffer′ : Lists.List ℕ) → Decides t c d → r .refusal ≡ d .refusal → r .written ≡ d .written
+    → buffer′ ≡ over (due (d .written) (c .line) (take (t .count) (d .«record» .«scan_result»))) buffer → Steps t c buffer (store t (d .place) (d .«record»)) r buffer′
+carried-out t c buffer d r buffer′ D e w b =
+    record { table = D .table; refusal = ap refusalNumber e ∙ D .refusal; written = w ∙ D .written; report = b ∙ ap (λ x. over x buffer) (sym (D .bytes)) }
+
+-- an empty buffer stays empty
+pub empty-buffer : (t : Table) (c : Call) (t′ : Table) (r : Reply) (buffer : Lists.List ℕ) → Steps t c [] t′ r buffer → length buffer ≡ 0 → Steps t c [] t′ r []
+empty-buffer t c t′ r [] s e = s
+empty-buffer t c t′ r (x ∷ l) s e = absurd (omega arith)

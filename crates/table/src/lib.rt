@@ -1,7 +1,7 @@
 // The table of labels: one record for each station.
 ghost use mathlib.Core.Path.{_≡_};
 ghost use mathlib.Core.Bool.{true};
-ghost use Prim.Native.Nat.{ℕ, _+_, _-_, _≤_, _<_};
+ghost use Prim.Native.Nat.{_+_, _-_, _≤_, _<_};
 ghost use Rattle.label.specs.Tests.{every, tabulate};
 ghost use Rattle.table.specs.Gathered.{rowsOf, jobsOf};
 ghost use Rattle.table.specs.Results.{freshEntry};

@@ -1,16 +1,11 @@
 use native.Mathlib.Omega.{arith}
-use Prim.Native.Nat.{ℕ, _<_}
 use mathlib.Core.Path.{refl, sym, _∙_}
 use Rattle.simulation.specs.Calls.{judge}
-use Rattle.table.specs.Tables.{at}
 use Rattle.table.proofs.Orders.{passed}
 use Rattle.table.proofs.Owned.{record-read, results-long}
-use Rattle.step.specs.Steps.{move}
-use Rattle.step.specs.Contracts.{moveOf, called, recordAfter, reportSize, placeOf}
+use Rattle.step.specs.Contracts.{called}
 use Rattle.step.proofs.StepLaws.{place-below, decide-law}
 use Rattle.simulation.proofs.Judged.{accepted-own}
-use Rattle.table.specs.declared.Phase.{Phase}
-use Rattle.table.specs.declared.Station.{Station}
 use borrow.Author.Needs.{needs}
 use Rattle.step.proofs.decide.Statement.{statement}
 use Rattle.step.proofs.decide.Tie as tie
@@ -31,7 +26,7 @@ refusal-of-requires : tie.Need-refusal-of-requires
 refusal-of-requires c κs = search needs
 
 record-after-requires : tie.Need-record-after-requires
-record-after-requires c κs = 
+record-after-requires c κs =
     let t = c .before .before .before .before .args .t1 in
     let a = c .before .before .before .before .args in
     let p = passed t (c .before .before .before .before .pre) in
@@ -41,7 +36,7 @@ report-size-requires : tie.Need-report-size-requires
 report-size-requires c κs = passed (c .before .before .before .before .before .args .t1) (c .before .before .before .before .before .pre) .high
 
 returns : tie.Need-returns
-returns c = 
+returns c =
     let t = c .before .before .before .before .before .before .args .t1 in
     let own = c .before .before .before .before .before .before .good .0 in
     let k = c .before .before .before .before .before .place-of .ensures in

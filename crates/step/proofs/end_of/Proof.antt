@@ -3,7 +3,6 @@ use mathlib.Core.Bool.{Bool}
 use Rattle.table.specs.declared.Operation.{Operation}
 use Rattle.table.specs.declared.Phase.the-variants.{End}
 use Rattle.simulation.specs.Calls.{fromEnd}
-use borrow.Author.Tests.{not-true}
 use borrow.Author.Needs.{needs}
 use Rattle.step.proofs.end_of.Statement.{statement}
 use Rattle.step.proofs.end_of.Tie as tie

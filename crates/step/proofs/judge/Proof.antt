@@ -28,7 +28,7 @@ job-fits-requires c κs = search needs
 
 returns-5 : tie.Need-returns-5
 unfolding judge
-returns-5 c = 
+returns-5 c =
     let e : jobFits (c .before .before .before .before .before .before .args .code) (c .before .before .before .before .before .before .args .job) ≡ false = sym (c .before .job-fits .ensures) ∙ not-true _ (c .if5 .taken) in
     simp (le-leb _ _ (c .before .before .before .before .before .if1 .left), le-leb _ _ (c .before .before .before .before .if2 .left), le-leb _ _ (c .before .before .before .if3 .left), le-leb _ _ (c .before .before .if4 .left), e)
 
@@ -37,7 +37,7 @@ by-code-requires c κs = search needs
 
 returns-6 : tie.Need-returns-6
 unfolding judge
-returns-6 c = 
+returns-6 c =
     let e : jobFits (c .before .before .before .before .before .before .before .args .code) (c .before .before .before .before .before .before .before .args .job) ≡ true = sym (c .before .before .job-fits .ensures) ∙ not-false _ (c .before .if5 .left) in
     simp (le-leb _ _ (c .before .before .before .before .before .before .if1 .left), le-leb _ _ (c .before .before .before .before .before .if2 .left), le-leb _ _ (c .before .before .before .before .if3 .left), le-leb _ _ (c .before .before .before .if4 .left), e) (c .by-code .ensures)
 

@@ -78,7 +78,7 @@ in-phase-requires-3 c κs = search needs
 
 returns : tie.Need-returns
 unfolding recordAfter
-returns c = 
+returns c =
     let t = c .before .before .before .args .t1 in
     let k = c .before .before .before .args .k in
     let job = c .before .before .before .args .job in
@@ -87,7 +87,7 @@ returns c =
 
 returns-2 : tie.Need-returns-2
 unfolding recordAfter
-returns-2 c = 
+returns-2 c =
     let t = c .before .before .before .before .args .t1 in
     let k = c .before .before .before .before .args .k in
     let job = c .before .before .before .before .args .job in
@@ -97,7 +97,7 @@ returns-2 c =
 
 returns-3 : tie.Need-returns-3
 unfolding recordAfter
-returns-3 c = 
+returns-3 c =
     let t = c .before .before .before .before .args .t1 in
     let k = c .before .before .before .before .args .k in
     let job = c .before .before .before .before .args .job in
@@ -107,7 +107,7 @@ returns-3 c =
 
 returns-4 : tie.Need-returns-4
 unfolding recordAfter
-returns-4 c = 
+returns-4 c =
     let t = c .before .before .before .before .before .args .t1 in
     let k = c .before .before .before .before .before .args .k in
     let job = c .before .before .before .before .before .args .job in
@@ -117,7 +117,7 @@ returns-4 c =
 
 returns-5 : tie.Need-returns-5
 unfolding recordAfter
-returns-5 c = 
+returns-5 c =
     let t = c .before .before .before .before .before .args .t1 in
     let k = c .before .before .before .before .before .args .k in
     let job = c .before .before .before .before .before .args .job in
@@ -127,7 +127,7 @@ returns-5 c =
 
 returns-6 : tie.Need-returns-6
 unfolding recordAfter
-returns-6 c = 
+returns-6 c =
     let t = c .before .before .before .before .args .t1 in
     let k = c .before .before .before .before .args .k in
     let job = c .before .before .before .before .args .job in
@@ -137,7 +137,7 @@ returns-6 c =
 
 returns-7 : tie.Need-returns-7
 unfolding recordAfter
-returns-7 c = 
+returns-7 c =
     let t = c .before .before .before .before .args .t1 in
     let k = c .before .before .before .before .args .k in
     let job = c .before .before .before .before .args .job in
@@ -147,7 +147,7 @@ returns-7 c =
 
 returns-8 : tie.Need-returns-8
 unfolding recordAfter
-returns-8 c = 
+returns-8 c =
     let t = c .before .before .before .before .args .t1 in
     let k = c .before .before .before .before .args .k in
     let job = c .before .before .before .before .args .job in
