@@ -1,0 +1,4 @@
+pub mod Lines
+pub mod Sessions
+pub mod Files
+pub mod Contracts
