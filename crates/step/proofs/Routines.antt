@@ -6,9 +6,8 @@ use mathlib.Core.List.{[], _∷_, map}
 use lib.ListN.{length, take}
 use lib.Seq.{take-at}
 use Rattle.label.specs.Tests.{All}
-use Rattle.simulation.specs.Calls.{Call}
 use Rattle.table.specs.Tables.{freshTable}
-use Rattle.step.specs.Steps.{Answer, stepOf}
+use Rattle.step.specs.Steps.{stepOf}
 use Rattle.step.specs.Demand.{run, seen, Demand3}
 use Rattle.step.specs.Contracts.{over, Steps}
 use Rattle.step.specs.Routines.{Made, callOf, Sequence, answered, RoutinesDemand}

@@ -8,7 +8,6 @@ use Rattle.label.specs.Tests.{All}
 use Rattle.simulation.specs.Calls.{Call}
 use Rattle.simulation.specs.Machine as Machine
 use Rattle.simulation.specs.Machine.{runᵘ}
-use Rattle.table.specs.Tables.{freshTable}
 use Rattle.step.specs.Steps.{Answer}
 use Rattle.step.specs.Demand.{seen, Demand3}
 use Rattle.step.specs.Contracts.{refusalNumber, called, over, Steps}
