@@ -3,3 +3,5 @@ pub mod Reachable
 pub mod Theorem
 pub mod Samples
 pub mod ReportLaws
+pub mod StepLaws
+pub mod Routines

@@ -1,0 +1,5 @@
+pub mod Lines
+pub mod Sessions
+pub mod Files
+pub mod Contracts
+pub mod Demand
