@@ -77,4 +77,3 @@ fn end_into(t: Table, report: &mut [u8]) -> Table {
     print::report(r, report);
     o.table
 }
-

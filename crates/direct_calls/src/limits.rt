@@ -60,7 +60,10 @@ fn jobs() {
     other_codes(1);
     other_codes(4294967296);
     print::text(b"each step that is due, job 1 and then its own:");
-    calls::run(Table::fresh(2), b"117 131 130 141 140 151 150 121 120 131 130 151 ");
+    calls::run(
+        Table::fresh(2),
+        b"117 131 130 141 140 151 150 121 120 131 130 151 ",
+    );
     print::text(b"\n");
 }
 
