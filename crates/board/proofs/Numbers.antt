@@ -15,7 +15,7 @@ use base.Fml.{Share, ftrue, fat, froom, fdies}
 use prog.Wp.{Heap, Env, Spot, spotOf, walk}
 use ghost.Atoms.{Atoms, sem}
 use contract.Lifetimes.{Lfts}
-use types.Kit.{Given, Item, ‵, raw, _⊛_, mean, ⋆, Goal, allocs, passes, frees, Seq, Step, step, _$_, _∵_, !, qed, by, move, drop, use1, split, join, fsplit, fjoin, done}
+use types.Kit.{Given, Item, ‵, raw, _⊛_, mean, ⋆, nth, del, pull, unpull, Goal, allocs, passes, frees, Seq, Step, step, _$_, _∵_, !, qed, by, move, drop, use1, split, join, fsplit, fjoin, done}
 use types.Run.{Reads, Walks, Finds, Opds, init, forget, stop, load, and-then, alloc1, pass1, free1}
 use denote.RattleType.{Denots, Valss, owns, flat}
 use denote.Laws.{Is, Ises, Are, Spells, valss, Tellss}
@@ -212,15 +212,22 @@ module _ {M : Type 1} {𝓤 : URA M} {H : Heap 𝓤} {A : Atoms 𝓤} {K : Type 
       }
 
   -- the operands: the entry of the numbers is in the context, beside X
-  pub read-nums : K → (k : ℕ) (bs ns : Nums k) {n : ℕ} (κs : Lfts n) (ss : List (Slot n)) (vs : Valss (typesAt ss κs)) (f : ℕ → ℕ) (E′ : Env 𝓤 H) {Γ : List (Item 𝓤)} {E : Env 𝓤 H} {xs : List Operand} (X : SProp 𝓤)
+  reading : K → (k : ℕ) (bs ns : Nums k) {n : ℕ} (κs : Lfts n) (ss : List (Slot n)) (vs : Valss (typesAt ss κs)) (f : ℕ → ℕ) (E′ : Env 𝓤 H) {Γ : List (Item 𝓤)} {E : Env 𝓤 H} {xs : List Operand} (X : SProp 𝓤)
       → ent 𝓤 (⋆ 𝓤 H A Γ) (sep 𝓤 (mean 𝓤 H A (cells 𝓤 k bs ns)) X) → ent 𝓤 (sep 𝓤 (mean 𝓤 H A (cells 𝓤 k bs ns)) X) (⋆ 𝓤 H A Γ) → ((i : ℕ) → spotOf 𝓤 H E (f i) ≡ spotOf 𝓤 H (env k bs E′) i)
       → Opds K W Γ E xs (flat (typesAt ss κs) vs) → Opds K W Γ E (reads k f xs) (flat (typesAt (nums k ss) κs) (vals κs ss k ns vs))
-  read-nums t zero bs ns κs ss vs f E′ X out into at os = os
-  read-nums t (suc k) bs ns κs ss vs f E′ X out into at os =
+  reading t zero bs ns κs ss vs f E′ X out into at os = os
+  reading t (suc k) bs ns κs ss vs f E′ X out into at os =
       let c : Item 𝓤 = ‵ (fat fullShare (tyInt w64) (bs .0) zero (vint w64 (ns .0))) in
       let d : Item 𝓤 = ‵ (fdies (tyInt w64) (bs .0)) in
       let cs : Item 𝓤 = cells 𝓤 k (bs .1) (ns .1) in
       and-then t (load t (from-at t (at 0) (stop t)) (reads-by t (sep 𝓤 (mean 𝓤 H A d) (sep 𝓤 (mean 𝓤 H A cs) X))
       (via 𝓤 _ out (qed W (((c ⊛ d) ⊛ cs) ∷ raw X ∷ []) ∵ split ! $ split ! $ done !)) (via 𝓤 _ (qed W (c ∷ d ∷ cs ∷ raw X ∷ []) ∵ join ! $ join ! $ done !) into)))
-      (read-nums t k (bs .1) (ns .1) κs ss vs (λ i. f (suc i)) E′ (sep 𝓤 (mean 𝓤 H A (c ⊛ d)) X)
+      (reading t k (bs .1) (ns .1) κs ss vs (λ i. f (suc i)) E′ (sep 𝓤 (mean 𝓤 H A (c ⊛ d)) X)
       (via 𝓤 _ out (qed W (((c ⊛ d) ⊛ cs) ∷ raw X ∷ []) ∵ split ! $ move ! (1 ∷ 0 ∷ []) $ done !)) (via 𝓤 _ (qed W (cs ∷ (c ⊛ d) ∷ raw X ∷ []) ∵ move ! (1 ∷ 0 ∷ []) $ join ! $ done !) into) (λ i. at (suc i)) os)
+
+  -- entry p of the context is that of the numbers
+  pub read-nums : K → (p : ℕ) (k : ℕ) (bs ns : Nums k) {n : ℕ} (κs : Lfts n) (ss : List (Slot n)) (vs : Valss (typesAt ss κs)) (f : ℕ → ℕ) (E′ : Env 𝓤 H) {Γ : List (Item 𝓤)} {E : Env 𝓤 H} {xs : List Operand} → nth 𝓤 H A p Γ ≡ cells 𝓤 k bs ns
+      → ((i : ℕ) → spotOf 𝓤 H E (f i) ≡ spotOf 𝓤 H (env k bs E′) i) → Opds K W Γ E xs (flat (typesAt ss κs) vs) → Opds K W Γ E (reads k f xs) (flat (typesAt (nums k ss) κs) (vals κs ss k ns vs))
+  read-nums t p k bs ns κs ss vs f E′ {Γ} e =
+      reading t k bs ns κs ss vs f E′ (⋆ 𝓤 H A (del 𝓤 H A p Γ)) (subst (λ (j : Item 𝓤). ent 𝓤 (⋆ 𝓤 H A Γ) (sep 𝓤 (mean 𝓤 H A j) (⋆ 𝓤 H A (del 𝓤 H A p Γ)))) e (pull 𝓤 H A p Γ))
+      (subst (λ (j : Item 𝓤). ent 𝓤 (sep 𝓤 (mean 𝓤 H A j) (⋆ 𝓤 H A (del 𝓤 H A p Γ))) (⋆ 𝓤 H A Γ)) e (unpull 𝓤 H A p Γ))
