@@ -101,6 +101,10 @@ lent-function k key = record {
       (seq (assign (place 0 []) (rvOpd (copy (place (after k 1) (field 1 ∷ []))))) return)))));
 }
 
+-- the locals after the numbers: the buffer, what the step returns, the table, and the buffer's pointer and slice
+abbrev rest-env : ℕ → ℕ → ℕ → ℕ → ℕ → List (Ty × ℕ)
+rest-env r₀ r₁ r₂ r₃ r₄ = (sliceTy (tyRef (named 1) mut (tyInt w8)), r₀) ∷ (S′.mir, r₁) ∷ (T′.mir, r₂) ∷ (tyRef erased mut (tyInt w8), r₃) ∷ (sliceTy (tyRef erased mut (tyInt w8)), r₄) ∷ []
+
 abbrev stay : Stays (report 2 1 tt) (yes, tt)
 stay = (gave-slice (1 ∷ []) tt (plain (λ _. u8)), tt)
 
@@ -200,8 +204,6 @@ module _ {M : Type 1} (𝓤 : URA M) (H : Heap 𝓤) (A : Atoms 𝓤) (W : Given
     walk =
         qed W ((‵ (flft κ q) ⊛ ‵ (flft κ′ q′) ⊛ ‵ ftrue) ∷ ‵ (owns (typesAt (lent-ended k .signature .params) κs) a av) ∷ []) ∵ enter ! C Λ (lent-function k key) (flat (typesAt (lent-ended k .signature .params) κs) av) _ $
         alloc1 ! (λ l₀. alloc1 ! (λ l₁. alloc-nums ! k (λ bs. alloc1 ! (λ r₀. alloc1 ! (λ r₁. alloc1 ! (λ r₂. alloc1 ! (λ r₃. alloc1 ! (λ r₄. alloc0 ! $ params1 ! $
-        -- the locals after the numbers: the buffer, what the step returns, the table, and the buffer's pointer and slice
-        let E : List (Ty × ℕ) = (sliceTy (tyRef (named 1) mut (tyInt w8)), r₀) ∷ (S′.mir, r₁) ∷ (T′.mir, r₂) ∷ (tyRef erased mut (tyInt w8), r₃) ∷ (sliceTy (tyRef erased mut (tyInt w8)), r₄) ∷ [] in
         -- [r₄; …; r₃; …; r₂; …; r₁; …; r₀; …; the numbers; _1; …; room for _0; …; the tokens; what the parameters own]
         pass1 ! (init ! 11 refl (tt, tt)) $ move ! (10 ∷ []) $ pass-nums ! k bs ns fit κs (report 2 1 tt) vs $ pass1 ! (init ! 9 refl (tt, (tt, (record { fits = room .0 }, tt)))) $ pass0 ! $
         -- [the numbers; r₄; …; r₃; …; r₂; …; r₁; …; r₀; …; _1; …; room for _0; …; the tokens; what the parameters own]
@@ -211,22 +213,22 @@ module _ {M : Type 1} (𝓤 : URA M) (H : Heap 𝓤) (A : Atoms 𝓤) (W : Given
         opens ! tt T.the-row {h = h} b o (λ us. spelt ! T.the-row (Is T.the-row) (shows 𝓤 H A T.the-row) (LL.vals T.the-type T′.the-laws) (LL.tells T.the-type T′.the-laws) fullShare h us b o $
         move ! (1 ∷ []) $ peeks ! T.the-row (Is T.the-row) (shows 𝓤 H A T.the-row) h (tv h ∷ []) (λ g. move ! (1 ∷ 0 ∷ []) $
         -- [the table's cell; what a Table owns; the open borrow; obs; auth; the buffer's token; true; what the buffer owns; true; the numbers; r₄; …; r₃; …; r₂; …; r₁; …; r₀; …; _1; …; room for _0; …]
-        assigns ! (of-opd ! (load ! (from ! (hop ! (look ! 20 refl) (stop !))) (look-raw ! 0 refl))) (from-at ! (past-is 𝓤 H k bs E 2) (stop !)) (init ! 14 refl (LL.lawful T.the-type T′.the-laws 𝓤 H A W .typed h _ g .0)) $
-        assigns ! (addr ! (from-at ! (past-is 𝓤 H k bs E 0) (fld ! refl (hop ! (look-in ! 18 (sub ! 0 refl (whole !))) (stop !))))) (from-at ! (past-is 𝓤 H k bs E 3) (stop !)) (init ! 12 refl (tt, tt)) $
-        assigns ! (agg ! (and-then ! (load ! (from-at ! (past-is 𝓤 H k bs E 3) (stop !)) (look ! 12 refl)) (and-then ! (load ! (from-at ! (past-is 𝓤 H k bs E 0) (fld ! refl (stop !))) (look-in ! 18 (sub ! 1 refl (whole !)))) (no-more !)))) (from-at ! (past-is 𝓤 H k bs E 4) (stop !)) (init ! 10 refl (tt, (tt, (record { fits = room .0 }, tt)))) $
+        assigns ! (of-opd ! (load ! (from ! (hop ! (look ! 20 refl) (stop !))) (look-raw ! 0 refl))) (from-at ! (past-is 𝓤 H k bs (rest-env r₀ r₁ r₂ r₃ r₄) 2) (stop !)) (init ! 14 refl (LL.lawful T.the-type T′.the-laws 𝓤 H A W .typed h _ g .0)) $
+        assigns ! (addr ! (from-at ! (past-is 𝓤 H k bs (rest-env r₀ r₁ r₂ r₃ r₄) 0) (fld ! refl (hop ! (look-in ! 18 (sub ! 0 refl (whole !))) (stop !))))) (from-at ! (past-is 𝓤 H k bs (rest-env r₀ r₁ r₂ r₃ r₄) 3) (stop !)) (init ! 12 refl (tt, tt)) $
+        assigns ! (agg ! (and-then ! (load ! (from-at ! (past-is 𝓤 H k bs (rest-env r₀ r₁ r₂ r₃ r₄) 3) (stop !)) (look ! 12 refl)) (and-then ! (load ! (from-at ! (past-is 𝓤 H k bs (rest-env r₀ r₁ r₂ r₃ r₄) 0) (fld ! refl (stop !))) (look-in ! 18 (sub ! 1 refl (whole !)))) (no-more !)))) (from-at ! (past-is 𝓤 H k bs (rest-env r₀ r₁ r₂ r₃ r₄) 4) (stop !)) (init ! 10 refl (tt, (tt, (record { fits = room .0 }, tt)))) $
         move ! (5 ∷ 7 ∷ 1 ∷ []) $ use3 W (raw (Step k Q 𝓤 H A .pre to)) goes $
         -- [what the step asks; the table's cell; the open borrow; obs; auth; true; true; the numbers; r₄; …]
-        calls-at ! fm (Step k Q 𝓤 H A) known to (and-then ! (load ! (from-at ! (past-is 𝓤 H k bs E 2) (stop !)) (look ! 12 refl)) (read-nums ! 7 k bs ns κs′ (report 1 0 tt) vs (λ i. suc (suc i)) E refl (λ i. refl) (and-then ! (load ! (from-at ! (past-is 𝓤 H k bs E 4) (stop !)) (look ! 8 refl)) (no-more !)))) (λ v.
+        calls-at ! fm (Step k Q 𝓤 H A) known to (and-then ! (load ! (from-at ! (past-is 𝓤 H k bs (rest-env r₀ r₁ r₂ r₃ r₄) 2) (stop !)) (look ! 12 refl)) (read-nums ! 7 k bs ns κs′ (report 1 0 tt) vs (λ i. suc (suc i)) (rest-env r₀ r₁ r₂ r₃ r₄) refl (λ i. refl) (and-then ! (load ! (from-at ! (past-is 𝓤 H k bs (rest-env r₀ r₁ r₂ r₃ r₄) 4) (stop !)) (look ! 8 refl)) (no-more !)))) (λ v.
         use1 W (later (some (λ (r : Outcome). ((‵ (flft κ′ q′) ⊛ ‵ ftrue) ⊛ ‵ (S.the-row .own r (v ∷ []))) ⊛ raw (ensured 𝓤 H A (step-ended k) (step-clauses k Q 𝓤) κs′ a′ tt r)))) (id⊢ 𝓤 _) $ await ! tt $ pick ! (λ r.
         -- what the step ensures, at some last contents of the buffer
         split ! $ move ! (1 ∷ []) $ use1 W (some (λ (ws : Lasts (step-ended k) κs′ a′). ‵ (lasting (step-ended k) κs′ a′ ws) ⊛ raw (fact 𝓤 (Ensured r ws)))) (id⊢ 𝓤 _) $ pick ! (λ ws.
         split ! $ move ! (1 ∷ []) $ heard ! (Ensured r ws) (λ e. fsplit ! $ drop ! $ use1 W (‵ (lastsOf κs′ (report 1 0 tt) (yes, tt) x (end ws))) (last-rest 𝓤 H A W κs′ (report 1 0 tt) x vs (yes, tt) k ns (ws .1)) $ fsplit ! $ fsplit ! $ move ! (1 ∷ []) $ feqL ! (λ l.
         move ! (2 ∷ []) $ split ! $ move ! (1 ∷ []) $ peeks ! S.the-row (Is S.the-row) (shows 𝓤 H A S.the-row) r (v ∷ []) (λ is.
         -- [what an Outcome owns; the buffer's token; its last contents; true; the table's cell; the open borrow; obs; auth; true; true; the numbers; r₄; …; r₃; …; r₂; …; r₁; …; r₀; …; _1; …; room for _0; …]
-        land ! (from-at ! (past-is 𝓤 H k bs E 1) (stop !)) (init ! 17 refl (LL.lawful S.the-type S′.the-laws 𝓤 H A W .typed r _ is .0)) $
+        land ! (from-at ! (past-is 𝓤 H k bs (rest-env r₀ r₁ r₂ r₃ r₄) 1) (stop !)) (init ! 17 refl (LL.lawful S.the-type S′.the-laws 𝓤 H A W .typed r _ is .0)) $
         rewrite ! 17 (λ (u : Val). ‵ (fat fullShare S′.mir r₁ 0 u)) (ap only (LL.tells S.the-type S′.the-laws r _ is)) refl $
-        drop ! $ assigns ! (of-opd ! (load ! (from-at ! (past-is 𝓤 H k bs E 1) (fld ! refl (stop !))) (look-in ! 16 (sub ! 0 refl (whole !))))) (from ! (hop ! (look ! 20 refl) (stop !))) (store-raw ! 3 refl (LL.lawful T.the-type T′.the-laws 𝓤 H A W .typed (r .table) _ (is-table r _ is) .0)) $
-        assigns ! (of-opd ! (load ! (from-at ! (past-is 𝓤 H k bs E 1) (fld ! refl (stop !))) (look-in ! 16 (sub ! 1 refl (whole !))))) (from ! (stop !)) (init ! 22 refl (LL.lawful R.the-type R′.the-laws 𝓤 H A W .typed (r .reply) _ (is-reply r _ is) .0)) $
+        drop ! $ assigns ! (of-opd ! (load ! (from-at ! (past-is 𝓤 H k bs (rest-env r₀ r₁ r₂ r₃ r₄) 1) (fld ! refl (stop !))) (look-in ! 16 (sub ! 0 refl (whole !))))) (from ! (hop ! (look ! 20 refl) (stop !))) (store-raw ! 3 refl (LL.lawful T.the-type T′.the-laws 𝓤 H A W .typed (r .table) _ (is-table r _ is) .0)) $
+        assigns ! (of-opd ! (load ! (from-at ! (past-is 𝓤 H k bs (rest-env r₀ r₁ r₂ r₃ r₄) 1) (fld ! refl (stop !))) (look-in ! 16 (sub ! 1 refl (whole !))))) (from ! (stop !)) (init ! 22 refl (LL.lawful R.the-type R′.the-laws 𝓤 H A W .typed (r .reply) _ (is-reply r _ is) .0)) $
         owned ! T.the-row (Is T.the-row) (LL.makes T.the-type T′.the-plain 𝓤 H A) (r .table) _ (is-table r _ is) $ move ! (4 ∷ 0 ∷ 5 ∷ 6 ∷ 7 ∷ []) $ closes ! tt T.the-row (r .table) (tv (r .table) ∷ []) b o $
         -- [obs; the borrow; the table's token; the buffer's token; its last contents; true; true; true; the numbers; r₄; …; r₃; …; r₂; …; r₁; …; r₀; …; _1; …; _0; …]
         returns ! (look ! 21 refl) $ forget ! 9 refl $ forget ! 11 refl $ forget ! 13 refl $ forget ! 15 refl $ forget ! 17 refl $ forget ! 19 refl $ forget ! 21 refl $
