@@ -1,10 +1,10 @@
--- `board::end` meets its contract: `Lent.antt`'s walk, at `step::end`, of which it knows only that it meets its contract.
+-- `board::end` meets its contract: `LentReport.antt`'s walk, at `step::end`, of which it knows only that it meets its contract.
 use lib.ListN.{length}
 use contract.Running.{givenOf, tables, tablesOf}
 use denote.Triple.Spec.{tripleOf}
 use denote.Triple.Table.{entered, cited}
 use Rattle.step.specs.Contracts.{called, Steps}
-use Rattle.board.proofs.Lent.{Says, Step, lent-meets}
+use Rattle.board.proofs.LentReport.{Says, Step, lent-meets}
 use Rattle.step.proofs.end.Symbol as step-def
 use Rattle.step.proofs.end.Symbol.{name as #step·end}
 use Rattle.step.proofs.end.Met as step-thm

@@ -1,11 +1,11 @@
--- `board::step` meets its contract: `Lent.antt`'s walk, at `step::step`, of which it knows only that it meets its contract.
+-- `board::step` meets its contract: `LentReport.antt`'s walk, at `step::step`, of which it knows only that it meets its contract.
 use mathlib.Core.Path.{_≡_}
 use lib.ListN.{length}
 use contract.Running.{givenOf, tables, tablesOf}
 use denote.Triple.Spec.{tripleOf}
 use denote.Triple.Table.{entered, cited}
 use Rattle.step.specs.Contracts.{called, Steps}
-use Rattle.board.proofs.Lent.{Says, Step, lent-meets}
+use Rattle.board.proofs.LentReport.{Says, Step, lent-meets}
 use Rattle.step.proofs.step.Symbol as step-def
 use Rattle.step.proofs.step.Symbol.{name as #step·step}
 use Rattle.step.proofs.step.Met as step-thm
