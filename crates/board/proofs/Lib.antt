@@ -1,3 +1,3 @@
 pub mod Lent
-pub mod LentReport
 pub mod Numbers
+pub mod Report
