@@ -1,6 +1,6 @@
 // Labels: rows of 31 digits, passed and returned by value. Of a label of m digits only the first m positions count.
 ghost use mathlib.Core.Path.{_≡_};
-ghost use Prim.Native.Nat.{ℕ, _≤_, _<_};
+ghost use Prim.Native.Nat.{_≤_, _<_};
 ghost use Rattle.label.specs.Labels.{below, next, agrees, firstDifference, labelBefore, nextLabel};
 ghost use Rattle.label.specs.Rows.{digit, row, rowFits, Digit, Valid};
 

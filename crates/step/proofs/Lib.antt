@@ -2,3 +2,5 @@ pub mod View
 pub mod Reachable
 pub mod Theorem
 pub mod Samples
+pub mod ReportLaws
+pub mod StepLaws

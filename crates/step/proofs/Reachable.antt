@@ -17,7 +17,7 @@ use Rattle.table.proofs.ResultLaws.{stored-fits, fresh-fits, same-entry}
 use Rattle.label.proofs.Facts.{both, within-of, every-all, getD-tabulate}
 use Rattle.label.proofs.Order.{Within, next-label-within}
 use Rattle.simulation.specs.Calls.{Call, place, Move}
-use Rattle.simulation.proofs.Judged.{Verdict, turned, own, verdict}
+use Rattle.simulation.proofs.Judged.{Verdict, turned, own, own-place, verdict}
 use Rattle.simulation.specs.Machine as Machine
 use Rattle.simulation.specs.Machine.{digits}
 use Rattle.simulation.proofs.Entries.{Entries, by-here}
@@ -137,8 +137,11 @@ module _ (t : Table) (r : Reached t) where
     good-step : {w : Move} → Verdict (t .count) c w → Good (carryOut t c w .table)
     unfolding carryOut
     good-step (turned x) = r .good
-    good-step {w} (own l) = by-move w
+    good-step {w} (own o) = by-move w
       where
+        l : place c < t .count
+        l = own-place o
+
         s : Fits (t .count) (at t (place c))
         s = r .good .each (place c) l
 

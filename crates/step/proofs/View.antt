@@ -20,7 +20,7 @@ use Rattle.simulation.specs.Calls.{Call, place, Move, numberOf}
 use Rattle.simulation.specs.Machine as Machine
 use Rattle.simulation.specs.Machine.{Holder, State, digits}
 use Rattle.simulation.proofs.Entries.{by-here}
-use Rattle.simulation.proofs.Judged.{Verdict, turned, own, verdict}
+use Rattle.simulation.proofs.Judged.{Verdict, turned, own, own-place, verdict}
 use Rattle.table.specs.Tables.{freshStation, freshTable, at, labels, store, stands, newestOf}
 use Rattle.table.specs.Tables.{pendingAfter, scanOf}
 use Rattle.step.specs.Steps.{Answer, carryOut, move, stepOf, snapped, scanned}
@@ -105,7 +105,7 @@ module _ (t : Table) (g : Led t) (c : Call) where
     where
       go : {w : Move} → Verdict (t .count) c w → viewAnswer (carryOut t c w) ≡ Machine.carryOut (t .count) (digits (t .count - 1)) (view t) c w
       go (turned x) = refl
-      go {w} (own l) = view-accepted w l
+      go {w} (own o) = view-accepted w (own-place o)
 
 -- every answer keeps the number of stations, and its refusal is the move's
 pub carried-count : (t : Table) (c : Call) (w : Move) → (carryOut t c w .table .count ≡ t .count) × (carryOut t c w .refusal ≡ numberOf w)

@@ -24,7 +24,7 @@ use Rattle.table.specs.Gathered.{rowsOf, held, standsIn, Orderly}
 use Rattle.table.specs.declared.Table.{Table}
 use Rattle.table.proofs.Orders.{passed, newest-station}
 use Rattle.table.proofs.Gathered.{held-labels, newest-gathered, gathered-orderly}
-use Rattle.table.proofs.Filled.{filled, filled-at}
+use Rattle.table.proofs.Filled.{filled, filled-in}
 
 -- COUNTS
 
@@ -182,7 +182,7 @@ level-shared n t top s k h e = firstFrom-same (n - 1) 0 _ _ (λ p l. ap (leb (n 
 -- the same with the label of station z, the shared digits kept in a list of w numbers
 module _ (w n : ℕ) (t : ℕ → Label) (z k : ℕ) (xs : List ℕ) (e : xs ≡ filled w n (λ j. firstDifference (n - 1) (t j) (t z)) 0) (h : n ≤ w) where
   shared-at : (j : ℕ) → j < n → getD xs j 0 ≡ firstDifference (n - 1) (t j) (t z)
-  shared-at j l = ap (λ (r : List ℕ). getD r j 0) e ∙ filled-at w _ 0 n j (omega arith) ∙ rw (lt-ltb j n l) refl
+  shared-at j l = ap (λ (r : List ℕ). getD r j 0) e ∙ filled-in w _ 0 0 n j l h
 
   pub shared-small : (j : ℕ) → j < n → getD xs j 0 < w
   shared-small j l = omega (arith, shared-at j l, difference-first (n - 1) (t j) (t z) .upto)

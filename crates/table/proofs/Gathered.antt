@@ -1,19 +1,17 @@
 -- The gathered rows and jobs of a table give the same order, newest station and scan as the table itself.
 use Prim.Native.Nat.{ℕ, suc, _-_, _≤_, _<_}
-use native.Mathlib.Nat.{zero-add}
 use native.Mathlib.Omega.{arith}
 use mathlib.Core.Path.{_≡_, refl, sym, ap, ap₂, subst, _∙_}
-use mathlib.Core.Bool.{true, not, _&&_, cond}
+use mathlib.Core.Bool.{true, not, _&&_}
 use mathlib.Core.List as Lists
 use mathlib.Core.List.{[], _∷_, _++_, map}
 use lib.ListN.{getD, take, replicate}
-use lib.Dec.{eqb, ltb}
-use borrow.Author.Tests.{lt-ltb}
+use lib.Dec.{eqb}
 use Rattle.label.specs.Tests.{newest, ordered, All}
 use Rattle.label.specs.Labels as Labels
 use Rattle.label.specs.Labels.{agrees, labelBefore}
 use Rattle.label.specs.Rows.{digit, Digit, noRing}
-use Rattle.label.proofs.Facts.{Same, every-same, newest-same, ordered-same, ordered-all, getD-tabulate}
+use Rattle.label.proofs.Facts.{Same, every-same, newest-same, ordered-same, ordered-all}
 use Rattle.table.specs.Results.{entry, blank, stored}
 use Rattle.table.specs.Tables.{at, labels, stands, newestOf, scanOf}
 use Rattle.table.specs.WellFormed.{wellFormed}
@@ -21,18 +19,14 @@ use Rattle.table.specs.Gathered.{rowsOf, jobsOf, held, standsIn, Orderly
 use Rattle.table.specs.declared.Entry.{Entry}
 use Rattle.table.specs.declared.Table.{Table}
 use Rattle.table.proofs.Orders.{passed, label-digits}
-use Rattle.table.proofs.Filled.{filled}
+use Rattle.table.proofs.Filled.{filled-in}
 use Rattle.table.proofs.OrderLaws.{orderIn, order-front}
 
--- an element of the filled part
-filled-below : {A : Type 0} (w n i : ℕ) (f : ℕ → A) (z d : A) → i < n → n ≤ w → getD (filled w n f z) i d ≡ f i
-filled-below w n i f z d l h = getD-tabulate w 0 i (λ j. cond (ltb j n) (f j) z) d (omega arith) ∙ rw (zero-add i, lt-ltb i n l) refl
-
 pub held-labels : (t : Table) (i : ℕ) → i < t .count → t .count ≤ 32 → held (rowsOf t) i ≡ labels t i
-held-labels t i l h = ap digit (filled-below 32 (t .count) i (λ j. at t j .label) (replicate 31 1) [] l h)
+held-labels t i l h = ap digit (filled-in 32 (λ j. at t j .label) (replicate 31 1) [] (t .count) i l h)
 
 pub held-job : (t : Table) (i : ℕ) → i < t .count → t .count ≤ 32 → getD (jobsOf t) i 0 ≡ at t i .job
-held-job t i l h = filled-below 32 (t .count) i (λ j. at t j .job) 0 0 l h
+held-job t i l h = filled-in 32 (λ j. at t j .job) 0 0 (t .count) i l h
 
 -- tests and results that see only the first m + 1 labels, or the listed processes
 no-ring-same : (m : ℕ) (t u : ℕ → Labels.Label) → ((i : ℕ) → i < suc m → t i ≡ u i) → noRing m t ≡ noRing m u
@@ -40,6 +34,9 @@ unfolding noRing
 no-ring-same m t u e =
     every-same m _ _ (λ p lp. every-same (suc m) _ _ (λ i li. every-same (suc m) _ _ (λ j lj. every-same (suc m) _ _ (λ k lk.
     λ x. not (agrees p (e i li x) (e j lj x) && agrees p (e j lj x) (e k lk x) && eqb (e i li x p) 3 && eqb (e j lj x p) 4 && eqb (e k lk x p) 5)))))
+
+pub no-ring-gathered : (t : Table) → 1 ≤ t .count → t .count ≤ 32 → noRing (t .count - 1) (held (rowsOf t)) ≡ noRing (t .count - 1) (labels t)
+no-ring-gathered t l h = no-ring-same (t .count - 1) (held (rowsOf t)) (labels t) (λ i k. held-labels t i (omega arith) h)
 
 pub stored-same : (size n : ℕ) (f g : ℕ → ℕ) (l : Lists.List ℕ) → All (λ i. f i ≡ g i) l → stored size n f l ≡ stored size n g l
 unfolding stored
@@ -79,5 +76,5 @@ gathered-orderly t e = let w = passed t e in record {
   low = w .low;
   high = w .high;
   valid = λ i l p lp. subst (λ (a : Labels.Label). Digit (a p)) (sym (held-labels t i l (w .high))) (label-digits t e i p l lp);
-  free = no-ring-same (t .count - 1) (held (rowsOf t)) (labels t) (λ i l. held-labels t i (omega (arith, w .low)) (w .high)) ∙ w .free;
+  free = no-ring-gathered t (omega (arith, w .low)) (w .high) ∙ w .free;
 }

@@ -3,5 +3,7 @@ pub mod Orders
 pub mod ChoiceLaws
 pub mod Filled
 pub mod Owned
+pub mod Checks
+pub mod Rings
 pub mod Gathered
 pub mod OrderLaws

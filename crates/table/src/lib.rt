@@ -1,15 +1,16 @@
 // The table of labels: one record for each station.
 ghost use mathlib.Core.Path.{_≡_};
 ghost use mathlib.Core.Bool.{true};
-ghost use Prim.Native.Nat.{ℕ, _≤_, _<_};
-ghost use Rattle.label.specs.Tests.{tabulate};
+ghost use Prim.Native.Nat.{_+_, _-_, _≤_, _<_};
+ghost use Rattle.label.specs.Tests.{every, tabulate};
 ghost use Rattle.table.specs.Gathered.{rowsOf, jobsOf};
 ghost use Rattle.table.specs.Results.{freshEntry};
-ghost use Rattle.table.specs.Tables.{freshTable, newestOf, pendingAfter, scanOf};
-ghost use Rattle.table.specs.WellFormed.{wellFormed};
+ghost use Rattle.table.specs.Tables.{at, freshTable, newestOf, pendingAfter, scanOf};
+ghost use Rattle.table.specs.WellFormed.{stationFits, isFresh, wellFormed};
 
 pub mod choice;
 pub mod order;
+mod well_formed;
 
 // What a process is doing: it takes a label, or it scans (document 01: mark, list).
 pub enum Operation {
@@ -113,6 +114,54 @@ impl Table {
             j += 1;
         }
         jobs
+    }
+
+    // Whether the records of all stations fit.
+    fn stations_fit(self) -> bool
+        requires { ⌜ (1 ≤ self .count) × (self .count ≤ 32) ⌝ }
+        ensures { λ r. ⌜ r ≡ every (self .count) (λ i. stationFits (self .count) (at self i)) ⌝ }
+    {
+        let n = self.count;
+        let mut i: usize = 0;
+        while i < n {
+            let s = self.stations[i];
+            if !well_formed::station_fits(n, s) {
+                return false;
+            }
+            i += 1;
+        }
+        true
+    }
+
+    // Whether the records past the stations are fresh.
+    fn rest_is_fresh(self) -> bool
+        requires { ⌜ self .count ≤ 32 ⌝ }
+        ensures { λ r. ⌜ r ≡ every (32 - self .count) (λ i. isFresh (self .count) (at self (self .count + i))) ⌝ }
+    {
+        let n = self.count;
+        let mut i: usize = 0;
+        while i < 32 - n {
+            let s = self.stations[n + i];
+            if !well_formed::is_fresh(n, s) {
+                return false;
+            }
+            i += 1;
+        }
+        true
+    }
+
+    // Whether the table is well-formed (document 01, refusal 13): the number of stations, all records, and no ring among the labels.
+    pub fn well_formed(self) -> bool
+        ensures { λ r. ⌜ r ≡ wellFormed self ⌝ }
+    {
+        let n = self.count;
+        if n < 2 || 32 < n {
+            return false;
+        }
+        if !self.stations_fit() || !self.rest_is_fresh() {
+            return false;
+        }
+        well_formed::no_ring(self.labels(), n)
     }
 
     // The newest station, from 0.

@@ -1,40 +1,34 @@
+use mathlib.Core.Path.{sym, ap}
+use Rattle.table.specs.declared.Phase.{Phase}
+use Rattle.simulation.specs.Calls.{fromIdle}
+use Rattle.step.specs.Contracts.{moveOf}
 use borrow.Author.Needs.{needs}
 use Rattle.step.proofs.begins.Statement.{statement}
 use Rattle.step.proofs.begins.Tie as tie
-use Rattle.step.proofs.begins.Reads as reads
-use Rattle.step.proofs.begins.Lts as lts
 
--- src/lib.rt:68:24
 enum-told : tie.Need-enum-told
 enum-told c = search needs
 
--- src/lib.rt:69:41
 enum-told-2 : tie.Need-enum-told-2
 enum-told-2 c = search needs
 
--- src/lib.rt:70:40
 enum-told-3 : tie.Need-enum-told-3
 enum-told-3 c = search needs
 
--- src/lib.rt:71:40
 enum-told-4 : tie.Need-enum-told-4
 enum-told-4 c = search needs
 
--- src/lib.rt:64:1
 returns : tie.Need-returns
 returns c = search needs
 
--- src/lib.rt:64:1
 returns-2 : tie.Need-returns-2
-returns-2 c = ?
+returns-2 c = sym (ap (λ (p : Phase). fromIdle (moveOf (c .before .before .args .m)) p) (c .enum-told2 .given .1))
 
--- src/lib.rt:64:1
 returns-3 : tie.Need-returns-3
-returns-3 c = ?
+returns-3 c = sym (ap (λ (p : Phase). fromIdle (moveOf (c .before .before .args .m)) p) (c .enum-told3 .given .1))
 
--- src/lib.rt:64:1
 returns-4 : tie.Need-returns-4
-returns-4 c = ?
+returns-4 c = sym (ap (λ (p : Phase). fromIdle (moveOf (c .before .before .args .m)) p) (c .enum-told4 .given .1))
 
 pub begins-spec : {M : Type 1} → statement M
 begins-spec =

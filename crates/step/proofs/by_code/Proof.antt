@@ -1,56 +1,40 @@
+use borrow.Author.Tests.{eq-eqb, ne-eqb}
 use borrow.Author.Needs.{needs}
 use Rattle.step.proofs.by_code.Statement.{statement}
 use Rattle.step.proofs.by_code.Tie as tie
-use Rattle.step.proofs.by_code.Reads as reads
-use Rattle.step.proofs.by_code.Lts as lts
-use Rattle.step.proofs.begins.Reads as begins-reads
-use Rattle.step.proofs.ends.Reads as ends-reads
-use Rattle.step.proofs.snaps.Reads as snaps-reads
-use Rattle.step.proofs.updates.Reads as updates-reads
 
--- src/lib.rt:140:9
 begins-requires : tie.Need-begins-requires
 begins-requires c κs = search needs
 
--- src/lib.rt:140:9
 returns : tie.Need-returns
-returns c = ?
+returns c = simp (eq-eqb _ _ (c .before .if1 .taken)) (c .begins .ensures)
 
--- src/lib.rt:143:9
 begins-requires-2 : tie.Need-begins-requires-2
 begins-requires-2 c κs = search needs
 
--- src/lib.rt:143:9
 returns-2 : tie.Need-returns-2
-returns-2 c = ?
+returns-2 c = simp (ne-eqb _ _ (c .before .before .if1 .left), eq-eqb _ _ (c .before .if2 .taken)) (c .begins2 .ensures)
 
--- src/lib.rt:146:9
 snaps-requires : tie.Need-snaps-requires
 snaps-requires c κs = search needs
 
--- src/lib.rt:146:9
 returns-3 : tie.Need-returns-3
-returns-3 c = ?
+returns-3 c = simp (ne-eqb _ _ (c .before .before .before .if1 .left), ne-eqb _ _ (c .before .before .if2 .left), eq-eqb _ _ (c .before .if3 .taken)) (c .snaps .ensures)
 
--- src/lib.rt:149:9
 updates-requires : tie.Need-updates-requires
 updates-requires c κs = search needs
 
--- src/lib.rt:149:9
 returns-4 : tie.Need-returns-4
-returns-4 c = ?
+returns-4 c = simp (ne-eqb _ _ (c .before .before .before .before .if1 .left), ne-eqb _ _ (c .before .before .before .if2 .left), ne-eqb _ _ (c .before .before .if3 .left), eq-eqb _ _ (c .before .if4 .taken)) (c .updates .ensures)
 
--- src/lib.rt:151:13
 mul-ends : tie.Need-mul-ends
 mul-ends c = search needs
 
--- src/lib.rt:151:5
 ends-requires : tie.Need-ends-requires
 ends-requires c κs = search needs
 
--- src/lib.rt:135:1
 returns-5 : tie.Need-returns-5
-returns-5 c = ?
+returns-5 c = simp (ne-eqb _ _ (c .before .before .before .before .if1 .left), ne-eqb _ _ (c .before .before .before .if2 .left), ne-eqb _ _ (c .before .before .if3 .left), ne-eqb _ _ (c .before .if4 .left)) (c .ends .ensures)
 
 pub by-code-spec : {M : Type 1} → statement M
 by-code-spec =

@@ -1,45 +1,49 @@
+use native.Mathlib.Omega.{arith}
+use mathlib.Core.Path.{refl, sym, _∙_}
+use Rattle.simulation.specs.Calls.{judge}
+use Rattle.table.proofs.Orders.{passed}
+use Rattle.table.proofs.Owned.{record-read, results-long}
+use Rattle.step.specs.Contracts.{called}
+use Rattle.step.proofs.StepLaws.{place-below, decide-law}
+use Rattle.simulation.proofs.Judged.{accepted-own}
 use borrow.Author.Needs.{needs}
 use Rattle.step.proofs.decide.Statement.{statement}
 use Rattle.step.proofs.decide.Tie as tie
-use Rattle.step.proofs.decide.Reads as reads
-use Rattle.step.proofs.decide.Lts as lts
-use Rattle.step.proofs.judge.Reads as judge-reads
-use Rattle.step.proofs.place_of.Reads as place-of-reads
-use Rattle.step.proofs.record_after.Reads as record-after-reads
-use Rattle.step.proofs.refusal_of.Reads as refusal-of-reads
-use Rattle.step.proofs.report_size.Reads as report-size-reads
 
--- src/lib.rt:342:9
 place-of-requires : tie.Need-place-of-requires
-place-of-requires c κs = ?
+place-of-requires c κs = omega (arith, passed (c .args .t1) (c .pre) .low)
 
--- src/lib.rt:343:13
 mul-s : tie.Need-mul-s
-mul-s c = ?
+mul-s c = omega (arith, c .place-of .ensures, place-below (c .before .args .t1 .count) (c .before .args .station) (passed (c .before .args .t1) (c .before .pre) .low), passed (c .before .args .t1) (c .before .pre) .high)
 
--- src/lib.rt:343:13
 element-copy-out-s : tie.Need-element-copy-out-s
-element-copy-out-s c = ?
+element-copy-out-s c = omega (arith, c .place-of .ensures, place-below (c .before .args .t1 .count) (c .before .args .station) (passed (c .before .args .t1) (c .before .pre) .low), passed (c .before .args .t1) (c .before .pre) .high)
 
--- src/lib.rt:345:9
 judge-requires : tie.Need-judge-requires
-judge-requires c κs = ?
+judge-requires c κs = passed (c .before .before .args .t1) (c .before .before .pre) .high
 
--- src/lib.rt:347:18
 refusal-of-requires : tie.Need-refusal-of-requires
 refusal-of-requires c κs = search needs
 
--- src/lib.rt:349:17
 record-after-requires : tie.Need-record-after-requires
-record-after-requires c κs = ?
+record-after-requires c κs =
+    let t = c .before .before .before .before .args .t1 in
+    let a = c .before .before .before .before .args in
+    let p = passed t (c .before .before .before .before .pre) in
+    (c .before .before .before .before .pre, (omega (arith, c .before .before .before .place-of .ensures, place-below (c .before .before .before .before .args .t1 .count) (c .before .before .before .before .args .station) (passed (c .before .before .before .before .args .t1) (c .before .before .before .before .pre) .low)), λ e. accepted-own _ _ (called 0 (a .code) (a .station) (a .job) (a .room)) _ (sym (c .before .judge .ensures) ∙ e) tt .job))
 
--- src/lib.rt:350:18
 report-size-requires : tie.Need-report-size-requires
-report-size-requires c κs = ?
+report-size-requires c κs = passed (c .before .before .before .before .before .args .t1) (c .before .before .before .before .before .pre) .high
 
--- src/lib.rt:337:1
 returns : tie.Need-returns
-returns c = ?
+returns c =
+    let t = c .before .before .before .before .before .before .args .t1 in
+    let own = c .before .before .before .before .before .before .good .0 in
+    let k = c .before .before .before .before .before .place-of .ensures in
+    let p = passed t (c .before .before .before .before .before .before .pre) in
+    decide-law t (c .before .before .before .before .before .before .pre) (results-long t _ own) _ _ _ _ _ _ _ k
+    (record-read (λ s. s .phase) t _ own (c .before .before .before .before .before .place-of .result) refl (omega (arith, k, place-below (t .count) (c .before .before .before .before .before .before .args .station) (p .low), p .high)))
+    (c .before .before .before .judge .ensures) (c .before .before .refusal-of .ensures) (c .before .record-after .ensures) (c .report-size .ensures)
 
 pub decide-spec : {M : Type 1} → statement M
 decide-spec =

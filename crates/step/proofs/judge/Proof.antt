@@ -1,42 +1,45 @@
+use mathlib.Core.Path.{_≡_, sym, _∙_}
+use mathlib.Core.Bool.{true, false}
+use Rattle.simulation.specs.Calls.{jobFits}
+use borrow.Author.Tests.{le-leb, lt-leb, not-true, not-false}
+use Rattle.simulation.specs.Calls.{judge}
 use borrow.Author.Needs.{needs}
 use Rattle.step.proofs.judge.Statement.{statement}
 use Rattle.step.proofs.judge.Tie as tie
-use Rattle.step.proofs.judge.Reads as reads
-use Rattle.step.proofs.judge.Lts as lts
-use Rattle.step.proofs.by_code.Reads as by-code-reads
-use Rattle.step.proofs.job_fits.Reads as job-fits-reads
 
--- src/lib.rt:170:9
 returns : tie.Need-returns
-returns c = ?
+unfolding judge
+returns c = simp (lt-leb _ _ (c .if1 .taken))
 
--- src/lib.rt:173:9
 returns-2 : tie.Need-returns-2
-returns-2 c = ?
+unfolding judge
+returns-2 c = simp (le-leb _ _ (c .before .if1 .left), lt-leb _ _ (c .if2 .taken))
 
--- src/lib.rt:176:9
 returns-3 : tie.Need-returns-3
-returns-3 c = ?
+unfolding judge
+returns-3 c = simp (le-leb _ _ (c .before .before .if1 .left), le-leb _ _ (c .before .if2 .left), lt-leb _ _ (c .if3 .taken))
 
--- src/lib.rt:179:9
 returns-4 : tie.Need-returns-4
-returns-4 c = ?
+unfolding judge
+returns-4 c = simp (le-leb _ _ (c .before .before .before .if1 .left), le-leb _ _ (c .before .before .if2 .left), le-leb _ _ (c .before .if3 .left), lt-leb _ _ (c .if4 .taken))
 
--- src/lib.rt:181:9
 job-fits-requires : tie.Need-job-fits-requires
 job-fits-requires c κs = search needs
 
--- src/lib.rt:182:9
 returns-5 : tie.Need-returns-5
-returns-5 c = ?
+unfolding judge
+returns-5 c =
+    let e : jobFits (c .before .before .before .before .before .before .args .code) (c .before .before .before .before .before .before .args .job) ≡ false = sym (c .before .job-fits .ensures) ∙ not-true _ (c .if5 .taken) in
+    simp (le-leb _ _ (c .before .before .before .before .before .if1 .left), le-leb _ _ (c .before .before .before .before .if2 .left), le-leb _ _ (c .before .before .before .if3 .left), le-leb _ _ (c .before .before .if4 .left), e)
 
--- src/lib.rt:184:5
 by-code-requires : tie.Need-by-code-requires
 by-code-requires c κs = search needs
 
--- src/lib.rt:165:1
 returns-6 : tie.Need-returns-6
-returns-6 c = ?
+unfolding judge
+returns-6 c =
+    let e : jobFits (c .before .before .before .before .before .before .before .args .code) (c .before .before .before .before .before .before .before .args .job) ≡ true = sym (c .before .before .job-fits .ensures) ∙ not-false _ (c .before .if5 .left) in
+    simp (le-leb _ _ (c .before .before .before .before .before .before .if1 .left), le-leb _ _ (c .before .before .before .before .before .if2 .left), le-leb _ _ (c .before .before .before .before .if3 .left), le-leb _ _ (c .before .before .before .if4 .left), e) (c .by-code .ensures)
 
 pub judge-spec : {M : Type 1} → statement M
 judge-spec =

@@ -1,19 +1,15 @@
+use borrow.Author.Tests.{le-leb, lt-leb}
 use Rattle.step.proofs.place_of.Statement.{statement}
 use Rattle.step.proofs.place_of.Tie as tie
-use Rattle.step.proofs.place_of.Reads as reads
-use Rattle.step.proofs.place_of.Lts as lts
 
--- src/lib.rt:328:9
 returns : tie.Need-returns
-returns c = ?
+returns c = simp (lt-leb _ _ (c .if1 .taken))
 
--- src/lib.rt:331:9
 returns-2 : tie.Need-returns-2
-returns-2 c = ?
+returns-2 c = simp (le-leb _ _ (c .before .if1 .left), lt-leb _ _ (c .if2 .taken))
 
--- src/lib.rt:323:1
 returns-3 : tie.Need-returns-3
-returns-3 c = ?
+returns-3 c = simp (le-leb _ _ (c .before .if1 .left), le-leb _ _ (c .if2 .left))
 
 pub place-of-spec : {M : Type 1} → statement M
 place-of-spec = tie.close (tie.spec returns returns-2 returns-3)

@@ -1,127 +1,159 @@
+use native.Mathlib.Omega.{arith}
+use mathlib.Core.Path.{ap, ap₂, sym, _∙_}
+use mathlib.Core.List.{List}
+use Prim.Native.Nat.{ℕ}
+use Rattle.table.proofs.Orders.{passed}
+use Rattle.table.proofs.Owned.{stations-long}
+use Rattle.step.specs.Steps.{begun, inPhase, snapped, scanned, updated}
+use Rattle.step.specs.Contracts.{moveOf, recordAfter}
+use Rattle.step.proofs.StepLaws.{station-read}
+use Rattle.table.specs.declared.Entry.{Entry}
+use Rattle.table.specs.declared.Phase.the-variants.{Idle, Snap}
+use Rattle.table.specs.declared.Operation.the-variants.{Scan}
+use Rattle.table.specs.declared.Station.{Station}
+use Rattle.step.specs.declared.Move.{Move}
 use borrow.Author.Needs.{needs}
 use Rattle.step.proofs.record_after.Statement.{statement}
 use Rattle.step.proofs.record_after.Tie as tie
-use Rattle.step.proofs.record_after.Reads as reads
-use Rattle.step.proofs.record_after.Lts as lts
-use Rattle.step.proofs.begun.Reads as begun-reads
-use Rattle.step.proofs.in_phase.Reads as in-phase-reads
-use Rattle.step.proofs.scanned.Reads as scanned-reads
-use Rattle.step.proofs.snapped.Reads as snapped-reads
-use Rattle.step.proofs.updated.Reads as updated-reads
-use Rattle.table.proofs.Table.pending_after.Reads as pending-after-reads
-use Rattle.table.proofs.Table.scan.Reads as scan-reads
 
--- src/lib.rt:309:13
 mul-s : tie.Need-mul-s
-mul-s c = ?
+mul-s c = omega (arith, passed (c .args .t1) (c .pre .0) .high, c .pre .1 .0)
 
--- src/lib.rt:309:13
 element-copy-out-s : tie.Need-element-copy-out-s
-element-copy-out-s c = ?
+element-copy-out-s c = omega (arith, passed (c .args .t1) (c .pre .0) .high, c .pre .1 .0)
 
--- src/lib.rt:311:29
 enum-told : tie.Need-enum-told
 enum-told c = search needs
 
--- src/lib.rt:312:38
 enum-told-2 : tie.Need-enum-told-2
 enum-told-2 c = search needs
 
--- src/lib.rt:312:38
 cast-begun : tie.Need-cast-begun
-cast-begun c = ?
+cast-begun c = omega (arith, c .before .before .before .pre .1 .1 (ap moveOf (c .enum-told2 .given .1)))
 
--- src/lib.rt:312:29
 begun-requires : tie.Need-begun-requires
 begun-requires c κs = search needs
 
--- src/lib.rt:313:52
 enum-told-3 : tie.Need-enum-told-3
 enum-told-3 c = search needs
 
--- src/lib.rt:313:28
 in-phase-requires : tie.Need-in-phase-requires
 in-phase-requires c κs = search needs
 
--- src/lib.rt:314:39
 enum-told-4 : tie.Need-enum-told-4
 enum-told-4 c = search needs
 
--- src/lib.rt:314:39
 pending-after-requires : tie.Need-pending-after-requires
 pending-after-requires c κs = search needs
 
--- src/lib.rt:314:28
 snapped-requires : tie.Need-snapped-requires
 snapped-requires c κs = search needs
 
--- src/lib.rt:315:38
 enum-told-5 : tie.Need-enum-told-5
 enum-told-5 c = search needs
 
--- src/lib.rt:315:38
 scan-requires : tie.Need-scan-requires
 scan-requires c κs = search needs
 
--- src/lib.rt:315:27
 scanned-requires : tie.Need-scanned-requires
 scanned-requires c κs = search needs
 
--- src/lib.rt:316:25
 enum-told-6 : tie.Need-enum-told-6
 enum-told-6 c = search needs
 
--- src/lib.rt:316:25
 updated-requires : tie.Need-updated-requires
 updated-requires c κs = search needs
 
--- src/lib.rt:317:39
 enum-told-7 : tie.Need-enum-told-7
 enum-told-7 c = search needs
 
--- src/lib.rt:317:27
 in-phase-requires-2 : tie.Need-in-phase-requires-2
 in-phase-requires-2 c κs = search needs
 
--- src/lib.rt:318:38
 enum-told-8 : tie.Need-enum-told-8
 enum-told-8 c = search needs
 
--- src/lib.rt:318:26
 in-phase-requires-3 : tie.Need-in-phase-requires-3
 in-phase-requires-3 c κs = search needs
 
--- src/lib.rt:303:1
 returns : tie.Need-returns
-returns c = ?
+unfolding recordAfter
+returns c =
+    let t = c .before .before .before .args .t1 in
+    let k = c .before .before .before .args .k in
+    let job = c .before .before .before .args .job in
+    station-read t k _ (omega (arith, passed t (c .before .before .before .pre .0) .high, stations-long t _ (c .before .before .before .good .0), c .before .before .before .pre .1 .0))
+    ∙ sym (ap (λ (m : Move). recordAfter t k job (moveOf m)) (c .enum-told .given .1))
 
--- src/lib.rt:303:1
 returns-2 : tie.Need-returns-2
-returns-2 c = ?
+unfolding recordAfter
+returns-2 c =
+    let t = c .before .before .before .before .args .t1 in
+    let k = c .before .before .before .before .args .k in
+    let job = c .before .before .before .before .args .job in
+    c .begun .ensures
+    ∙ ap (λ (s : Station). begun s job) (station-read t k _ (omega (arith, passed t (c .before .before .before .before .pre .0) .high, stations-long t _ (c .before .before .before .before .good .0), c .before .before .before .before .pre .1 .0)))
+    ∙ sym (ap (λ (m : Move). recordAfter t k job (moveOf m)) (c .before .enum-told2 .given .1))
 
--- src/lib.rt:303:1
 returns-3 : tie.Need-returns-3
-returns-3 c = ?
+unfolding recordAfter
+returns-3 c =
+    let t = c .before .before .before .before .args .t1 in
+    let k = c .before .before .before .before .args .k in
+    let job = c .before .before .before .before .args .job in
+    c .in-phase .ensures
+    ∙ ap (λ (s : Station). inPhase s (Snap Scan)) (station-read t k _ (omega (arith, passed t (c .before .before .before .before .pre .0) .high, stations-long t _ (c .before .before .before .before .good .0), c .before .before .before .before .pre .1 .0)))
+    ∙ sym (ap (λ (m : Move). recordAfter t k job (moveOf m)) (c .before .enum-told3 .given .1))
 
--- src/lib.rt:303:1
 returns-4 : tie.Need-returns-4
-returns-4 c = ?
+unfolding recordAfter
+returns-4 c =
+    let t = c .before .before .before .before .before .args .t1 in
+    let k = c .before .before .before .before .before .args .k in
+    let job = c .before .before .before .before .before .args .job in
+    c .snapped .ensures
+    ∙ ap₂ (λ (s : Station) (l : List ℕ). snapped s l) (station-read t k _ (omega (arith, passed t (c .before .before .before .before .before .pre .0) .high, stations-long t _ (c .before .before .before .before .before .good .0), c .before .before .before .before .before .pre .1 .0))) (c .before .pending-after .ensures)
+    ∙ sym (ap (λ (m : Move). recordAfter t k job (moveOf m)) (c .before .before .enum-told4 .given .1))
 
--- src/lib.rt:303:1
 returns-5 : tie.Need-returns-5
-returns-5 c = ?
+unfolding recordAfter
+returns-5 c =
+    let t = c .before .before .before .before .before .args .t1 in
+    let k = c .before .before .before .before .before .args .k in
+    let job = c .before .before .before .before .before .args .job in
+    c .scanned .ensures
+    ∙ ap₂ (λ (s : Station) (l : List Entry). scanned s l) (station-read t k _ (omega (arith, passed t (c .before .before .before .before .before .pre .0) .high, stations-long t _ (c .before .before .before .before .before .good .0), c .before .before .before .before .before .pre .1 .0))) (c .before .scan .ensures)
+    ∙ sym (ap (λ (m : Move). recordAfter t k job (moveOf m)) (c .before .before .enum-told5 .given .1))
 
--- src/lib.rt:303:1
 returns-6 : tie.Need-returns-6
-returns-6 c = ?
+unfolding recordAfter
+returns-6 c =
+    let t = c .before .before .before .before .args .t1 in
+    let k = c .before .before .before .before .args .k in
+    let job = c .before .before .before .before .args .job in
+    c .updated .ensures
+    ∙ ap (λ (s : Station). updated s) (station-read t k _ (omega (arith, passed t (c .before .before .before .before .pre .0) .high, stations-long t _ (c .before .before .before .before .good .0), c .before .before .before .before .pre .1 .0)))
+    ∙ sym (ap (λ (m : Move). recordAfter t k job (moveOf m)) (c .before .enum-told6 .given .1))
 
--- src/lib.rt:303:1
 returns-7 : tie.Need-returns-7
-returns-7 c = ?
+unfolding recordAfter
+returns-7 c =
+    let t = c .before .before .before .before .args .t1 in
+    let k = c .before .before .before .before .args .k in
+    let job = c .before .before .before .before .args .job in
+    c .in-phase2 .ensures
+    ∙ ap (λ (s : Station). inPhase s Idle) (station-read t k _ (omega (arith, passed t (c .before .before .before .before .pre .0) .high, stations-long t _ (c .before .before .before .before .good .0), c .before .before .before .before .pre .1 .0)))
+    ∙ sym (ap (λ (m : Move). recordAfter t k job (moveOf m)) (c .before .enum-told7 .given .1))
 
--- src/lib.rt:303:1
 returns-8 : tie.Need-returns-8
-returns-8 c = ?
+unfolding recordAfter
+returns-8 c =
+    let t = c .before .before .before .before .args .t1 in
+    let k = c .before .before .before .before .args .k in
+    let job = c .before .before .before .before .args .job in
+    c .in-phase3 .ensures
+    ∙ ap (λ (s : Station). inPhase s Idle) (station-read t k _ (omega (arith, passed t (c .before .before .before .before .pre .0) .high, stations-long t _ (c .before .before .before .before .good .0), c .before .before .before .before .pre .1 .0)))
+    ∙ sym (ap (λ (m : Move). recordAfter t k job (moveOf m)) (c .before .enum-told8 .given .1))
 
 pub record-after-spec : {M : Type 1} → statement M
 record-after-spec =

@@ -1,82 +1,82 @@
+-- The k lines written stand at the front of the buffer; what lies past them is as it was.
+use borrow.Rule.Slice.PartMut.{same-len-mid}
+use borrow.Author.Needs.{needs}
+use mathlib.Core.Path.{_≡_, refl, _∙_}
+use Prim.Native.Nat.{_+_, _*_, _≤_, _-_}
+use native.Mathlib.Omega.{arith}
+use lib.ListN.{length, take, length-take, length-drop}
+use Rattle.simulation.specs.Calls.{reportLines}
+use Rattle.step.specs.Contracts.{over}
+use Rattle.step.proofs.ReportLaws.{one-line-more}
 use Rattle.step.proofs.write_result.Statement.{statement}
 use Rattle.step.proofs.write_result.Tie as tie
-use Rattle.step.proofs.write_result.Reads as reads
-use Rattle.step.proofs.write_result.Lts as lts
-use Rattle.columns.proofs.write_report_line.Reads as write-report-line-reads
 
 abbrev Inv-loop : tie.InvT-loop
-Inv-loop n line out₀ result k₀ out k = ?
+Inv-loop n line out₀ result k₀ out k = (k ≤ n) × (length out ≡ length out₀) × (out ≡ over (reportLines line 1 (take k result)) out₀)
 
 abbrev μ-loop : tie.MeasureT-loop
-μ-loop n line out₀ result k₀ out k = ?
+μ-loop n line out₀ result k₀ out k = n - k
 
--- src/lib.rt:361:5
 loop-holds : tie.Need-loop-holds Inv-loop μ-loop
-loop-holds c = ?
+unfolding reportLines
+loop-holds c = (omega arith, refl, refl)
 
--- src/lib.rt:362:17
 mul-e : tie.Need-mul-e Inv-loop μ-loop
-mul-e c = ?
+mul-e c = omega arith
 
--- src/lib.rt:362:17
 array-copy-out-e : tie.Need-array-copy-out-e Inv-loop μ-loop
-array-copy-out-e c = ?
+array-copy-out-e c = omega arith
 
--- src/lib.rt:363:18
 mul-at : tie.Need-mul-at Inv-loop μ-loop
-mul-at c = ?
+mul-at c = omega arith
 
--- src/lib.rt:365:26
 add-write-report-line : tie.Need-add-write-report-line Inv-loop μ-loop
-add-write-report-line c = ?
+add-write-report-line c = omega arith
 
--- src/lib.rt:365:13
 sub-write-report-line : tie.Need-sub-write-report-line Inv-loop μ-loop
-sub-write-report-line c = ?
+sub-write-report-line c = omega arith
 
--- src/lib.rt:365:13
 part-write-report-line-start : tie.Need-part-write-report-line-start Inv-loop μ-loop
-part-write-report-line-start c = ?
+part-write-report-line-start c = omega arith
 
--- src/lib.rt:365:13
 part-write-report-line-end : tie.Need-part-write-report-line-end Inv-loop μ-loop
-part-write-report-line-end c = ?
+part-write-report-line-end c = omega arith
 
--- src/lib.rt:368:13
 add-write-report-line-2 : tie.Need-add-write-report-line-2 Inv-loop μ-loop
-add-write-report-line-2 c = ?
+add-write-report-line-2 c = omega arith
 
--- src/lib.rt:369:13
 cast-write-report-line : tie.Need-cast-write-report-line Inv-loop μ-loop
-cast-write-report-line c = ?
+cast-write-report-line c = search needs
 
--- src/lib.rt:370:13
 cast-write-report-line-2 : tie.Need-cast-write-report-line-2 Inv-loop μ-loop
-cast-write-report-line-2 c = ?
+cast-write-report-line-2 c = search needs
 
--- src/lib.rt:364:9
 write-report-line-requires : tie.Need-write-report-line-requires Inv-loop μ-loop
-write-report-line-requires c κs = ?
+write-report-line-requires c κs = simp (length-take, length-drop) (omega arith)
 
--- src/lib.rt:372:9
 add-k : tie.Need-add-k Inv-loop μ-loop
-add-k c = ?
+add-k c = omega arith
 
--- src/lib.rt:361:5
 loop-less : tie.Need-loop-less Inv-loop μ-loop
-loop-less c = ?
+loop-less c = omega arith
 
--- src/lib.rt:361:5
 loop-again : tie.Need-loop-again Inv-loop μ-loop
-loop-again c = ?
+loop-again c =
+    let start = c .before .before .before .before .before .before .before .before .before .before in
+    let l = c .before .before .before .before .before .before .before .before .loop in
+    let written = c .before .before .write-report-line in
+    let wide : length (start .args .t1) ≡ 32 = start .good .0 .1 .0 .1 in
+    let kept = same-len-mid (l .k * 29) (l .k * 29 + 29 - l .k * 29) (l .out) (written .last .0) (written .kept .0) in
+    (omega arith, kept ∙ l .inv .1, one-line-more _ _ _ _ _ _ _ (l .inv .2) (written .ensures) (omega arith))
 
--- src/lib.rt:355:1
 same-length : tie.Need-same-length Inv-loop μ-loop
-same-length c = ?
+same-length c = c .before .loop .inv .1
 
--- src/lib.rt:355:1
 returns : tie.Need-returns Inv-loop μ-loop
-returns c = ?
+returns c =
+    let l = c .before .loop in
+    let e : l .k ≡ c .before .before .before .args .n = omega arith in
+    rw e at (l .inv .2)
 
 pub write-result-spec : {M : Type 1} → statement M
 write-result-spec =

@@ -1,11 +1,11 @@
 use Prim.Native.Nat.{ℕ, _-_, _≤_}
-use mathlib.Core.Path.{_≡_, ap, _∙_}
+use mathlib.Core.Path.{_≡_, refl, ap, _∙_}
 use native.Mathlib.Omega.{arith}
 use borrow.Author.Tests.{ltb-true, ltb-false}
 use Rattle.table.specs.Tables.{at}
 use Rattle.table.specs.declared.Station.{Station}
-use Rattle.table.proofs.Filled.{getD-any, filled, filled-none, filled-more, filled-all}
-use Rattle.table.proofs.Owned.{stations-long}
+use Rattle.table.proofs.Filled.{filled, filled-none, filled-more, filled-all}
+use Rattle.table.proofs.Owned.{record-read}
 use borrow.Author.Needs.{needs}
 use Rattle.table.proofs.Table.jobs.Statement.{statement}
 use Rattle.table.proofs.Table.jobs.Tie as tie
@@ -41,8 +41,8 @@ loop-again : tie.Need-loop-again Inv-loop μ-loop
 loop-again c =
     let t = c .before .before .before .before .args .t1 in
     let j = c .before .before .before .loop .j in
-    let l = stations-long t _ (c .before .before .before .before .good .0) in
-    (search needs, omega (arith, ltb-true), rw (c .before .before .before .loop .inv .2) (filled-more 32 _ 0 j _ (search needs) (ap (λ (s : Station). s .job) (getD-any (t .stations) j _ _ (omega arith)))))
+    let e = record-read (λ (s : Station). s .job) t _ (c .before .before .before .before .good .0) j refl (search needs) in
+    (search needs, omega (arith, ltb-true), rw (c .before .before .before .loop .inv .2) (filled-more 32 _ 0 j _ (search needs) e))
 
 returns : tie.Need-returns Inv-loop μ-loop
 returns c = c .before .before .loop .inv .2 ∙ ap (λ k. filled {A = ℕ} 32 k (λ i. at (c .before .before .before .args .t1) i .job) 0) (omega (arith, ltb-false))

@@ -1,5 +1,5 @@
 use Prim.Native.Nat.{ℕ, _-_, _≤_}
-use mathlib.Core.Path.{_≡_, ap, _∙_}
+use mathlib.Core.Path.{_≡_, refl, ap, _∙_}
 use mathlib.Core.List.{List}
 use native.Mathlib.Omega.{arith}
 use lib.ListN.{replicate}
@@ -7,8 +7,8 @@ use borrow.Author.Needs.{needs}
 use borrow.Author.Tests.{ltb-true, ltb-false}
 use Rattle.table.specs.Tables.{at}
 use Rattle.table.specs.declared.Station.{Station}
-use Rattle.table.proofs.Filled.{getD-any, filled, filled-none, filled-more, filled-all}
-use Rattle.table.proofs.Owned.{stations-long}
+use Rattle.table.proofs.Filled.{filled, filled-none, filled-more, filled-all}
+use Rattle.table.proofs.Owned.{record-read}
 use Rattle.table.proofs.Table.labels.Statement.{statement}
 use Rattle.table.proofs.Table.labels.Tie as tie
 
@@ -43,8 +43,8 @@ loop-again : tie.Need-loop-again Inv-loop μ-loop
 loop-again c =
     let t = c .before .before .before .before .before .args .t1 in
     let j = c .before .before .before .before .loop .j in
-    let l = stations-long t _ (c .before .before .before .before .before .good .0) in
-    (search needs, omega (arith, ltb-true), rw (c .before .before .before .before .loop .inv .2) (filled-more 32 _ (replicate 31 1) j _ (search needs) (ap (λ (s : Station). s .label) (getD-any (t .stations) j _ _ (omega arith)))))
+    let e = record-read (λ (s : Station). s .label) t _ (c .before .before .before .before .before .good .0) j refl (search needs) in
+    (search needs, omega (arith, ltb-true), rw (c .before .before .before .before .loop .inv .2) (filled-more 32 _ (replicate 31 1) j _ (search needs) e))
 
 returns : tie.Need-returns Inv-loop μ-loop
 returns c = c .before .before .loop .inv .2 ∙ ap (λ k. filled {A = List ℕ} 32 k (λ i. at (c .before .before .before .args .t1) i .label) (replicate 31 1)) (omega (arith, ltb-false))

@@ -1,9 +1,8 @@
 use native.Mathlib.Omega.{arith}
-use mathlib.Core.Path.{ap, sym, _∙_}
-use Rattle.label.proofs.Facts.{getD-any}
+use mathlib.Core.Path.{refl, sym, _∙_}
 use Rattle.table.specs.declared.Station.{Station}
 use Rattle.table.proofs.Orders.{passed}
-use Rattle.table.proofs.Owned.{stations-long}
+use Rattle.table.proofs.Owned.{record-read}
 use Rattle.table.proofs.ChoiceLaws.{rows-orderly, newest-below, pending-kept, pending-new}
 use borrow.Author.Needs.{needs}
 use Rattle.table.proofs.Table.pending_after.Statement.{statement}
@@ -36,8 +35,7 @@ returns c =
     let k = c .before .before .before .before .before .args .k in
     let e = c .before .before .before .before .before .pre .0 in
     let r = c .before .before .before .before .labels in
-    let l = stations-long t _ (c .before .before .before .before .before .good .0) in
-    ap (λ (s : Station). s .«pending_label») (getD-any (t .stations) k _ _ (omega (arith, passed t e .high)))
+    record-read (λ (s : Station). s .«pending_label») t _ (c .before .before .before .before .before .good .0) k refl (omega (arith, passed t e .high))
     ∙ pending-kept t e (r .result) (r .ensures) (c .before .before .before .newest .result) (c .before .before .before .newest .ensures) k (c .before .before .if1 .taken)
 
 returns-2 : tie.Need-returns-2
