@@ -1,5 +1,5 @@
--- Numbers of 64 bits among the parameters of a walk, any count k of them, before the parameters ss. Each lemma is by induction on k; a walk cites it and names no single number.
---     nums, stays, args, vals, lasts     the slots, and the tuples of a signature, of `Walked.antt` and of `End.antt`, with k numbers put before those of ss
+-- Numbers of 64 bits among the parameters of a walk, any count k of them, before the parameters ss. Each lemma is by induction on k.
+--     nums, stays, args, vals, lasts     the slots and the tuples of a signature and of a walk, with k numbers put before those of ss
 --     Clause       what a contract says, as a relation of the numbers and of the rest
 --     locals, env, past, reads     the MIR: k locals, their part of the environment, the locals after them, and the operands that copy them
 --     rooms, cells     one entry of the context for all k locals: `alloc-nums` makes it, `pass-nums` fills it, `read-nums` reads it, `free-nums` gives it back
@@ -59,7 +59,8 @@ module _ {n : ℕ} where
     spells zero sp = sp
     spells (suc k) sp = (uint-vals w64, spells k sp)
 
-    pub tells : (k : ℕ) (sp : Spells (typesAt ss κs)) → Tellss (typesAt ss κs) (Ises (typesAt ss κs)) sp → Tellss (typesAt (nums k ss) κs) (Ises (typesAt (nums k ss) κs)) (spells k sp)
+    pub tells : (k : ℕ) (sp : Spells (typesAt ss κs)) → Tellss (typesAt ss κs) (Ises (typesAt ss κs)) sp
+        → Tellss (typesAt (nums k ss) κs) (Ises (typesAt (nums k ss) κs)) (spells k sp)
     tells zero sp tl = tl
     tells (suc k) sp tl = (uint-tells w64, tells k sp tl)
 
@@ -76,22 +77,26 @@ module _ {n : ℕ} where
     args-is zero a = refl
     args-is (suc k) a = λ i. (a .0, args-is k (a .1) i)
 
-    pub vals-is : (k : ℕ) (sp : Spells (typesAt ss κs)) (a : Denots (typesAt (nums k ss) κs)) → vals k (front k a) (valss (typesAt ss κs) sp (back k a)) ≡ valss (typesAt (nums k ss) κs) (spells k sp) a
+    pub vals-is : (k : ℕ) (sp : Spells (typesAt ss κs)) (a : Denots (typesAt (nums k ss) κs))
+        → vals k (front k a) (valss (typesAt ss κs) sp (back k a)) ≡ valss (typesAt (nums k ss) κs) (spells k sp) a
     vals-is zero sp a = refl
     vals-is (suc k) sp a = λ i. (vint w64 (a .0) ∷ [], vals-is k sp (a .1) i)
 
     module _ (sp : Spells (typesAt ss κs)) where
-      pub fit-of : (k : ℕ) (a : Denots (typesAt (nums k ss) κs)) → Are (typesAt (nums k ss) κs) (Ises (typesAt (nums k ss) κs)) a (valss (typesAt (nums k ss) κs) (spells k sp) a) → Fit k (front k a)
+      pub fit-of : (k : ℕ) (a : Denots (typesAt (nums k ss) κs))
+          → Are (typesAt (nums k ss) κs) (Ises (typesAt (nums k ss) κs)) a (valss (typesAt (nums k ss) κs) (spells k sp) a) → Fit k (front k a)
       fit-of zero a are = tt
       fit-of (suc k) a are = (are .0 .1, fit-of k (a .1) (are .1))
 
-      pub are-of : (k : ℕ) (a : Denots (typesAt (nums k ss) κs)) → Are (typesAt (nums k ss) κs) (Ises (typesAt (nums k ss) κs)) a (valss (typesAt (nums k ss) κs) (spells k sp) a)
+      pub are-of : (k : ℕ) (a : Denots (typesAt (nums k ss) κs))
+          → Are (typesAt (nums k ss) κs) (Ises (typesAt (nums k ss) κs)) a (valss (typesAt (nums k ss) κs) (spells k sp) a)
           → Are (typesAt ss κs) (Ises (typesAt ss κs)) (back k a) (valss (typesAt ss κs) sp (back k a))
       are-of zero a are = are
       are-of (suc k) a are = are-of k (a .1) (are .1)
 
     -- what is bound at exit, and what a contract says
-    abbrev pub Clause : (k : ℕ) → (Nums k → Denots (typesAt ss κs) → Outs κs ss (all yes ss) → Type 0) → Denots (typesAt (nums k ss) κs) → Outs κs (nums k ss) (all yes (nums k ss)) → Type 0
+    abbrev pub Clause : (k : ℕ) → (Nums k → Denots (typesAt ss κs) → Outs κs ss (all yes ss) → Type 0) → Denots (typesAt (nums k ss) κs)
+        → Outs κs (nums k ss) (all yes (nums k ss)) → Type 0
     Clause zero P a e = P tt a e
     Clause (suc k) P a e = Clause k (λ ns. P (a .0, ns)) (a .1) (e .1)
 
@@ -109,42 +114,52 @@ module _ {n : ℕ} where
       clause-in zero P ns w p = p
       clause-in (suc k) P ns w p = clause-in k (λ ms. P (ns .0, ms)) (ns .1) w p
 
-      pub clause-out : (k : ℕ) (P : Nums k → Denots (typesAt ss κs) → Outs κs ss (all yes ss) → Type 0) (ns : Nums k) (w : Fins κs (nums k ss) (all yes (nums k ss)) (args k ns x))
+      pub clause-out : (k : ℕ) (P : Nums k → Denots (typesAt ss κs) → Outs κs ss (all yes ss) → Type 0) (ns : Nums k)
+          (w : Fins κs (nums k ss) (all yes (nums k ss)) (args k ns x))
           → Clause k P (args k ns x) (outs κs (nums k ss) (all yes (nums k ss)) (args k ns x) w) → P ns x (outs κs ss (all yes ss) x (last k ns w))
       clause-out zero P ns w p = p
       clause-out (suc k) P ns w p = clause-out k (λ ms. P (ns .0, ms)) (ns .1) (w .1) p
 
-      pub fit-in : (hs : Stays ss (all yes ss)) (k : ℕ) (ns : Nums k) (w : Fins κs ss (all yes ss) x) → fitsOf κs ss (all yes ss) hs x w → fitsOf κs (nums k ss) (all yes (nums k ss)) (stays k ss hs) (args k ns x) (lasts k ns w)
+      pub fit-in : (hs : Stays ss (all yes ss)) (k : ℕ) (ns : Nums k) (w : Fins κs ss (all yes ss) x) → fitsOf κs ss (all yes ss) hs x w
+          → fitsOf κs (nums k ss) (all yes (nums k ss)) (stays k ss hs) (args k ns x) (lasts k ns w)
       fit-in hs zero ns w f = f
       fit-in hs (suc k) ns w f = (tt, fit-in hs k (ns .1) w f)
 
 -- ---- what the parameters own, and what is had of them
 module _ {M : Type 1} (𝓤 : URA M) (H : Heap 𝓤) (A : Atoms 𝓤) (W : Given 𝓤 H A) {n : ℕ} where
-  pub go-nums : (k : ℕ) (ss : List (Slot n)) (hs : Stays ss (all yes ss)) → AllGo 𝓤 H A W n ss (all yes ss) hs → AllGo 𝓤 H A W n (nums k ss) (all yes (nums k ss)) (stays k ss hs)
+  pub go-nums : (k : ℕ) (ss : List (Slot n)) (hs : Stays ss (all yes ss)) → AllGo 𝓤 H A W n ss (all yes ss) hs
+      → AllGo 𝓤 H A W n (nums k ss) (all yes (nums k ss)) (stays k ss hs)
   go-nums zero ss hs gs = gs
   go-nums (suc k) ss hs gs = (goes-none 𝓤 H A W n (λ _. u64) yes (λ κs x f. refl), go-nums k ss hs gs)
 
   module _ (κs : Lfts n) (ss : List (Slot n)) (x : Denots (typesAt ss κs)) (vs : Valss (typesAt ss κs)) where
-    pub own-rest : (k : ℕ) (ns : Nums k) → ent 𝓤 (sem 𝓤 H A (owns (typesAt (nums k ss) κs) (args κs ss k ns x) (vals κs ss k ns vs))) (sem 𝓤 H A (owns (typesAt ss κs) x vs))
+    pub own-rest : (k : ℕ) (ns : Nums k) → ent 𝓤 (sem 𝓤 H A (owns (typesAt (nums k ss) κs) (args κs ss k ns x) (vals κs ss k ns vs)))
+        (sem 𝓤 H A (owns (typesAt ss κs) x vs))
     own-rest zero ns = id⊢ 𝓤 _
-    own-rest (suc k) ns = qed W (‵ (owns (typesAt (nums (suc k) ss) κs) (args κs ss (suc k) ns x) (vals κs ss (suc k) ns vs)) ∷ []) ∵ fsplit ! $ drop ! $ by ! (own-rest k (ns .1))
+    own-rest (suc k) ns = qed W (‵ (owns (typesAt (nums (suc k) ss) κs) (args κs ss (suc k) ns x) (vals κs ss (suc k) ns vs)) ∷ []) ∵ fsplit ! $ drop ! $
+        by ! (own-rest k (ns .1))
 
-    pub own-all : (k : ℕ) (ns : Nums k) → Fit k ns → ent 𝓤 (sem 𝓤 H A (owns (typesAt ss κs) x vs)) (sem 𝓤 H A (owns (typesAt (nums k ss) κs) (args κs ss k ns x) (vals κs ss k ns vs)))
+    pub own-all : (k : ℕ) (ns : Nums k) → Fit k ns → ent 𝓤 (sem 𝓤 H A (owns (typesAt ss κs) x vs))
+        (sem 𝓤 H A (owns (typesAt (nums k ss) κs) (args κs ss k ns x) (vals κs ss k ns vs)))
     own-all zero ns fit = id⊢ 𝓤 _
-    own-all (suc k) ns fit = qed W (‵ (owns (typesAt ss κs) x vs) ∷ []) ∵ use1 W (‵ (owns (typesAt (nums k ss) κs) (args κs ss k (ns .1) x) (vals κs ss k (ns .1) vs))) (own-all k (ns .1) (fit .1)) $
+    own-all (suc k) ns fit = qed W (‵ (owns (typesAt ss κs) x vs) ∷ []) ∵ use1 W (‵ (owns (typesAt (nums k ss) κs) (args κs ss k (ns .1) x) (vals κs ss k (ns .1) vs)))
+        (own-all k (ns .1) (fit .1)) $
         owned ! u64 (Is u64) (uint-makes 𝓤 H A W w64) (ns .0) _ (refl, fit .0) $ fjoin ! $ done !
 
     pub has-all : (hs : Stays ss (all yes ss)) (w : Fins κs ss (all yes ss) x) (k : ℕ) (ns : Nums k) → Fit k ns
-        → ent 𝓤 (sem 𝓤 H A (hasOf κs ss (all yes ss) hs x w vs)) (sem 𝓤 H A (hasOf κs (nums k ss) (all yes (nums k ss)) (stays k ss hs) (args κs ss k ns x) (lasts κs ss x k ns w) (vals κs ss k ns vs)))
+        → ent 𝓤 (sem 𝓤 H A (hasOf κs ss (all yes ss) hs x w vs)) (sem 𝓤 H A (hasOf κs (nums k ss) (all yes (nums k ss)) (stays k ss hs) (args κs ss k ns x)
+        (lasts κs ss x k ns w) (vals κs ss k ns vs)))
     has-all hs w zero ns fit = id⊢ 𝓤 _
     has-all hs w (suc k) ns fit = qed W (‵ (hasOf κs ss (all yes ss) hs x w vs) ∷ []) ∵
-        use1 W (‵ (hasOf κs (nums k ss) (all yes (nums k ss)) (stays k ss hs) (args κs ss k (ns .1) x) (lasts κs ss x k (ns .1) w) (vals κs ss k (ns .1) vs))) (has-all hs w k (ns .1) (fit .1)) $
+        use1 W (‵ (hasOf κs (nums k ss) (all yes (nums k ss)) (stays k ss hs) (args κs ss k (ns .1) x) (lasts κs ss x k (ns .1) w) (vals κs ss k (ns .1) vs)))
+        (has-all hs w k (ns .1) (fit .1)) $
         owned ! u64 (Is u64) (uint-makes 𝓤 H A W w64) (ns .0) _ (refl, fit .0) $ fjoin ! $ done !
 
     pub last-rest : (k : ℕ) (ns : Nums k) (w : Fins κs (nums k ss) (all yes (nums k ss)) (args κs ss k ns x))
         → ent 𝓤 (sem 𝓤 H A (lastsOf κs (nums k ss) (all yes (nums k ss)) (args κs ss k ns x) w)) (sem 𝓤 H A (lastsOf κs ss (all yes ss) x (last κs ss x k ns w)))
     last-rest zero ns w = id⊢ 𝓤 _
-    last-rest (suc k) ns w = qed W (‵ (lastsOf κs (nums (suc k) ss) (all yes (nums (suc k) ss)) (args κs ss (suc k) ns x) w) ∷ []) ∵ fsplit ! $ drop ! $ by ! (last-rest k (ns .1) (w .1))
+    last-rest (suc k) ns w = qed W (‵ (lastsOf κs (nums (suc k) ss) (all yes (nums (suc k) ss)) (args κs ss (suc k) ns x) w) ∷ []) ∵ fsplit ! $ drop ! $
+        by ! (last-rest k (ns .1) (w .1))
 
 -- ---- the MIR
 abbrev pub locals : ℕ → List Local → List Local
@@ -186,24 +201,30 @@ module _ {M : Type 1} (𝓤 : URA M) (H : Heap 𝓤) (A : Atoms 𝓤) (Γ : List
 
 module _ {M : Type 1} {𝓤 : URA M} {H : Heap 𝓤} {A : Atoms 𝓤} {K : Type 0} {W : Given 𝓤 H A} where
   -- a place whose spot is known by an equation
-  pub from-at : K → {Γ : List (Item 𝓤)} {E : Env 𝓤 H} {i : ℕ} {st : List PStep} {sp sp′ : Spot 𝓤 H} → spotOf 𝓤 H E i ≡ sp → Walks K W Γ E sp st sp′ → Finds K W Γ E (place i st) sp′
+  pub from-at : K → {Γ : List (Item 𝓤)} {E : Env 𝓤 H} {i : ℕ} {st : List PStep} {sp sp′ : Spot 𝓤 H} → spotOf 𝓤 H E i ≡ sp → Walks K W Γ E sp st sp′
+      → Finds K W Γ E (place i st) sp′
   from-at t {Γ} {E} {i} {st} e w = record { go = λ Kt h. subst (λ (s : Spot 𝓤 H). ent 𝓤 (⋆ 𝓤 H A Γ) (walk 𝓤 H E s st Kt)) (sym e) (w .go Kt h) }
 
-  pub alloc-nums : K → (k : ℕ) {Γ : List (Item 𝓤)} {ls : List Local} {Kt : Env 𝓤 H → Goal 𝓤 H} → ((bs : Nums k) → Seq K W (rooms 𝓤 k bs ∷ Γ) (allocs ls (λ E. Kt (env k bs E)))) → Seq K W Γ (allocs (locals k ls) Kt)
+  pub alloc-nums : K → (k : ℕ) {Γ : List (Item 𝓤)} {ls : List Local} {Kt : Env 𝓤 H → Goal 𝓤 H}
+      → ((bs : Nums k) → Seq K W (rooms 𝓤 k bs ∷ Γ) (allocs ls (λ E. Kt (env k bs E)))) → Seq K W Γ (allocs (locals k ls) Kt)
   alloc-nums t zero h = nothing t $ h tt
   alloc-nums t (suc k) h = alloc1 t (λ b. alloc-nums t k (λ bs. move t (1 ∷ 2 ∷ 0 ∷ []) $ join t $ join t $ h (b, bs)))
 
-  pub pass-nums : K → (k : ℕ) (bs ns : Nums k) → Fit k ns → {n : ℕ} (κs : Lfts n) (ss : List (Slot n)) (vs : Valss (typesAt ss κs)) {Γ : List (Item 𝓤)} {E : Env 𝓤 H} {g : Goal 𝓤 H}
-      → Step K W (cells 𝓤 k bs ns ∷ Γ) (passes E (flat (typesAt ss κs) vs) g) (rooms 𝓤 k bs ∷ Γ) (passes (env k bs E) (flat (typesAt (nums k ss) κs) (vals κs ss k ns vs)) g)
+  pub pass-nums : K → (k : ℕ) (bs ns : Nums k) → Fit k ns
+      → {n : ℕ} (κs : Lfts n) (ss : List (Slot n)) (vs : Valss (typesAt ss κs)) {Γ : List (Item 𝓤)} {E : Env 𝓤 H} {g : Goal 𝓤 H}
+      → Step K W (cells 𝓤 k bs ns ∷ Γ) (passes E (flat (typesAt ss κs) vs) g) (rooms 𝓤 k bs ∷ Γ)
+      (passes (env k bs E) (flat (typesAt (nums k ss) κs) (vals κs ss k ns vs)) g)
   pass-nums t zero bs ns fit κs ss vs = step (λ s. s)
-  pass-nums t (suc k) bs ns fit κs ss vs = step (λ s. split t $ split t $ pass1 t (init t 0 refl (tt, record { fits = fit .0 })) $ move t (2 ∷ []) $ pass-nums t k (bs .1) (ns .1) (fit .1) κs ss vs $ move t (1 ∷ 2 ∷ []) $ join t $ join t $ s)
+  pass-nums t (suc k) bs ns fit κs ss vs = step (λ s. split t $ split t $ pass1 t (init t 0 refl (tt, record { fits = fit .0 })) $ move t (2 ∷ []) $
+      pass-nums t k (bs .1) (ns .1) (fit .1) κs ss vs $ move t (1 ∷ 2 ∷ []) $ join t $ join t $ s)
 
   pub free-nums : K → (k : ℕ) (bs ns : Nums k) {Γ : List (Item 𝓤)} {E : Env 𝓤 H} {g : Goal 𝓤 H} → Step K W Γ (frees E g) (cells 𝓤 k bs ns ∷ Γ) (frees (env k bs E) g)
   free-nums t zero bs ns = drop t
   free-nums t (suc k) bs ns = step (λ s. split t $ split t $ forget t 0 refl $ free1 t $ free-nums t k (bs .1) (ns .1) $ s)
 
   -- a cell that is in the context, beside X
-  reads-by : K → {Γ : List (Item 𝓤)} {τ : Ty} {b : ℕ} {v : Val} (X : SProp 𝓤) → ent 𝓤 (⋆ 𝓤 H A Γ) (sep 𝓤 (H .at fullShare τ b zero v) X) → ent 𝓤 (sep 𝓤 (H .at fullShare τ b zero v) X) (⋆ 𝓤 H A Γ) → Reads K W Γ τ b zero v
+  reads-by : K → {Γ : List (Item 𝓤)} {τ : Ty} {b : ℕ} {v : Val} (X : SProp 𝓤) → ent 𝓤 (⋆ 𝓤 H A Γ) (sep 𝓤 (H .at fullShare τ b zero v) X)
+      → ent 𝓤 (sep 𝓤 (H .at fullShare τ b zero v) X) (⋆ 𝓤 H A Γ) → Reads K W Γ τ b zero v
   reads-by t {Γ} {τ} {b} {v} X out into =
       let At : Val → SProp 𝓤 = λ u. H .at fullShare τ b zero u in
       record {
@@ -218,11 +239,14 @@ module _ {M : Type 1} {𝓤 : URA M} {H : Heap 𝓤} {A : Atoms 𝓤} {K : Type 
   look-first t p {Γ} {τ} {b} {v} {j} is =
       let c : SProp 𝓤 = H .at fullShare τ b zero v in
       let X : SProp 𝓤 = ⋆ 𝓤 H A (del 𝓤 H A p Γ) in
-      reads-by t (sep 𝓤 (mean 𝓤 H A j) X) (via 𝓤 (sep 𝓤 (sep 𝓤 c (mean 𝓤 H A j)) X) (taken 𝓤 H A Γ p is) (assoc∗ 𝓤 c (mean 𝓤 H A j) X)) (via 𝓤 (sep 𝓤 (sep 𝓤 c (mean 𝓤 H A j)) X) (assoc′ 𝓤 c (mean 𝓤 H A j) X) (put-back 𝓤 H A Γ p is))
+      reads-by t (sep 𝓤 (mean 𝓤 H A j) X) (via 𝓤 (sep 𝓤 (sep 𝓤 c (mean 𝓤 H A j)) X) (taken 𝓤 H A Γ p is) (assoc∗ 𝓤 c (mean 𝓤 H A j) X))
+      (via 𝓤 (sep 𝓤 (sep 𝓤 c (mean 𝓤 H A j)) X) (assoc′ 𝓤 c (mean 𝓤 H A j) X) (put-back 𝓤 H A Γ p is))
 
   -- the operands: the entry of the numbers is in the context, beside X
-  reading : K → (k : ℕ) (bs ns : Nums k) {n : ℕ} (κs : Lfts n) (ss : List (Slot n)) (vs : Valss (typesAt ss κs)) (f : ℕ → ℕ) (E′ : Env 𝓤 H) {Γ : List (Item 𝓤)} {E : Env 𝓤 H} {xs : List Operand} (X : SProp 𝓤)
-      → ent 𝓤 (⋆ 𝓤 H A Γ) (sep 𝓤 (mean 𝓤 H A (cells 𝓤 k bs ns)) X) → ent 𝓤 (sep 𝓤 (mean 𝓤 H A (cells 𝓤 k bs ns)) X) (⋆ 𝓤 H A Γ) → ((i : ℕ) → spotOf 𝓤 H E (f i) ≡ spotOf 𝓤 H (env k bs E′) i)
+  reading : K → (k : ℕ) (bs ns : Nums k) {n : ℕ} (κs : Lfts n) (ss : List (Slot n)) (vs : Valss (typesAt ss κs)) (f : ℕ → ℕ) (E′ : Env 𝓤 H) {Γ : List (Item 𝓤)}
+      {E : Env 𝓤 H} {xs : List Operand} (X : SProp 𝓤)
+      → ent 𝓤 (⋆ 𝓤 H A Γ) (sep 𝓤 (mean 𝓤 H A (cells 𝓤 k bs ns)) X) → ent 𝓤 (sep 𝓤 (mean 𝓤 H A (cells 𝓤 k bs ns)) X) (⋆ 𝓤 H A Γ)
+      → ((i : ℕ) → spotOf 𝓤 H E (f i) ≡ spotOf 𝓤 H (env k bs E′) i)
       → Opds K W Γ E xs (flat (typesAt ss κs) vs) → Opds K W Γ E (reads k f xs) (flat (typesAt (nums k ss) κs) (vals κs ss k ns vs))
   reading t zero bs ns κs ss vs f E′ X out into at os = os
   reading t (suc k) bs ns κs ss vs f E′ X out into at os =
@@ -232,9 +256,12 @@ module _ {M : Type 1} {𝓤 : URA M} {H : Heap 𝓤} {A : Atoms 𝓤} {K : Type 
       and-then t (load t (from-at t (at 0) (stop t)) (reads-by t (sep 𝓤 (mean 𝓤 H A d) (sep 𝓤 (mean 𝓤 H A cs) X))
       (via 𝓤 _ out (qed W (((c ⊛ d) ⊛ cs) ∷ raw X ∷ []) ∵ split ! $ split ! $ done !)) (via 𝓤 _ (qed W (c ∷ d ∷ cs ∷ raw X ∷ []) ∵ join ! $ join ! $ done !) into)))
       (reading t k (bs .1) (ns .1) κs ss vs (λ i. f (suc i)) E′ (sep 𝓤 (mean 𝓤 H A (c ⊛ d)) X)
-      (via 𝓤 _ out (qed W (((c ⊛ d) ⊛ cs) ∷ raw X ∷ []) ∵ split ! $ move ! (1 ∷ 0 ∷ []) $ done !)) (via 𝓤 _ (qed W (cs ∷ (c ⊛ d) ∷ raw X ∷ []) ∵ move ! (1 ∷ 0 ∷ []) $ join ! $ done !) into) (λ i. at (suc i)) os)
+      (via 𝓤 _ out (qed W (((c ⊛ d) ⊛ cs) ∷ raw X ∷ []) ∵ split ! $ move ! (1 ∷ 0 ∷ []) $ done !)) (via 𝓤 _ (qed W (cs ∷ (c ⊛ d) ∷ raw X ∷ []) ∵ move ! (1 ∷ 0 ∷ []) $
+      join ! $ done !) into) (λ i. at (suc i)) os)
 
   -- entry p of the context is that of the numbers
-  pub read-nums : K → (p : ℕ) (k : ℕ) (bs ns : Nums k) {n : ℕ} (κs : Lfts n) (ss : List (Slot n)) (vs : Valss (typesAt ss κs)) (f : ℕ → ℕ) (E′ : Env 𝓤 H) {Γ : List (Item 𝓤)} {E : Env 𝓤 H} {xs : List Operand} → nth 𝓤 H A p Γ ≡ cells 𝓤 k bs ns
-      → ((i : ℕ) → spotOf 𝓤 H E (f i) ≡ spotOf 𝓤 H (env k bs E′) i) → Opds K W Γ E xs (flat (typesAt ss κs) vs) → Opds K W Γ E (reads k f xs) (flat (typesAt (nums k ss) κs) (vals κs ss k ns vs))
+  pub read-nums : K → (p : ℕ) (k : ℕ) (bs ns : Nums k) {n : ℕ} (κs : Lfts n) (ss : List (Slot n)) (vs : Valss (typesAt ss κs)) (f : ℕ → ℕ) (E′ : Env 𝓤 H) {Γ : List
+      (Item 𝓤)} {E : Env 𝓤 H} {xs : List Operand} → nth 𝓤 H A p Γ ≡ cells 𝓤 k bs ns
+      → ((i : ℕ) → spotOf 𝓤 H E (f i) ≡ spotOf 𝓤 H (env k bs E′) i) → Opds K W Γ E xs (flat (typesAt ss κs) vs)
+      → Opds K W Γ E (reads k f xs) (flat (typesAt (nums k ss) κs) (vals κs ss k ns vs))
   read-nums t p k bs ns κs ss vs f E′ {Γ} is = reading t k bs ns κs ss vs f E′ (⋆ 𝓤 H A (del 𝓤 H A p Γ)) (taken 𝓤 H A Γ p is) (put-back 𝓤 H A Γ p is)
