@@ -1,7 +1,7 @@
 // Schedule files: lines, the session that serves them, and the report of a whole file.
 ghost use mathlib.Core.Path.{_≡_};
 ghost use Rattle.schedule.specs.Lines.{lineRead};
-ghost use Rattle.schedule.specs.Sessions.{nextLine};
+ghost use Rattle.schedule.specs.Sessions.{nextLine, headerOf, closed, session};
 use columns::Column;
 use columns::read_column;
 use step::Refusal;
@@ -57,4 +57,43 @@ pub fn next_line(lines: u32, line: &[u8]) -> Line
         return Line::Refused(Refusal::TooManyLines);
     }
     read_line(line)
+}
+
+// A session that its header has ended.
+fn closed_by(r: Refusal) -> Session
+    ensures { λ s. ⌜ s ≡ closed r ⌝ }
+{
+    Session {
+        lines: 0,
+        refusal: r,
+        table: Table::fresh(2),
+    }
+}
+
+// Opens a session: the header has the number of stations, code 0 and job 0.
+pub fn open(header: &[u8]) -> Session
+    ensures { λ r. ⌜ r ≡ headerOf (now (header .entry)) ⌝ }
+{
+    match read_line(header) {
+        Line::Refused(r) => closed_by(r),
+        Line::Step { station, code, job } => {
+            if code != 0 {
+                return closed_by(Refusal::UnknownStep);
+            }
+            if station < 2 {
+                return closed_by(Refusal::StationCount);
+            }
+            if 32 < station {
+                return closed_by(Refusal::StationCount);
+            }
+            if job != 0 {
+                return closed_by(Refusal::JobOutOfRange);
+            }
+            Session {
+                lines: 1,
+                refusal: Refusal::Accepted,
+                table: Table::fresh(station as usize),
+            }
+        }
+    }
 }
