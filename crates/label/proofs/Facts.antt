@@ -3,9 +3,9 @@ use Prim.Native.Nat.{ℕ, zero, suc, _+_, _≤_, _<_}
 use native.Mathlib.Nat.{zero-add, not-suc-le-zero, le-refl, le-step, lt-suc-self, eq-or-lt-of-le, le-of-suc-le-suc}
 use native.Mathlib.Omega.{arith}
 use mathlib.Core.Path.{_≡_, refl, sym, ap, ap₂, _∙_}
-use mathlib.Core.Logic.{_≢_, _⊎_, inl, inr, by-cases}
-use native.Mathlib.Decide.{ℕ-discrete}
-use mathlib.Core.Bool.{Bool, true, false, not, _&&_, cond, true≢false}
+use mathlib.Core.Logic.{_≢_, _⊎_, inl, inr, by-cases, Dec·not-not}
+use native.Mathlib.Decide.{ℕ-discrete, decLt}
+use mathlib.Core.Bool.{Bool, true, false, not, _&&_, _||_, cond, true≢false}
 use mathlib.Core.List as Lists
 use mathlib.Core.List.{[], _∷_}
 use lib.ListN.{length, getD, take, set, replicate, length-set}
@@ -32,6 +32,24 @@ right-no false e = refl
 
 pub tf : {b : Bool} → b ≡ true → b ≡ false → ⊥
 tf p q = true≢false (sym p ∙ q)
+
+-- a test that cannot be passed
+pub is-false : {b : Bool} → (b ≡ true → ⊥) → b ≡ false
+is-false {b = true} h = absurd (h refl)
+is-false {b = false} h = refl
+
+pub or-right : (a : Bool) {b : Bool} → b ≡ true → (a || b) ≡ true
+or-right true e = refl
+or-right false e = e
+
+pub or-cases : (a b : Bool) → (a || b) ≡ true → (a ≡ true) ⊎ (b ≡ true)
+or-cases true b e = inl refl
+or-cases false b e = inr e
+
+-- from a computed test a → b, to a fact
+pub implied : (a b : Bool) → (not a || b) ≡ true → a ≡ true → b ≡ true
+implied true b h e = h
+implied false b h e = absurd (tf e refl)
 
 pub within-true : (low high x : ℕ) → within low high x ≡ true → (low ≤ x) × (x ≤ high)
 within-true low high x e = let h = and-both (leb low x) (leb x high) e in (leb-true low x (h .0), leb-true x high (h .1))
@@ -64,11 +82,7 @@ every-same zero f g h = refl
 every-same (suc k) f g h = ap₂ _&&_ (every-same k f g (λ i l. h i (le-step l))) (h k (lt-suc-self k))
 
 pub every-no : (k : ℕ) (f : ℕ → Bool) (i : ℕ) → i < k → f i ≡ false → every k f ≡ false
-every-no k f i l e = go (every k f) refl
-  where
-    go : (x : Bool) → every k f ≡ x → x ≡ false
-    go true h = absurd (tf (every-at k f h i l) e)
-    go false h = refl
+every-no k f i l e = is-false (λ h. tf (every-at k f h i l) e)
 
 -- THE FIRST
 
@@ -90,6 +104,12 @@ first (suc k) h f = go (f h) refl (first k (suc h) f)
         pick : (q : ℕ) → q < firstFrom k (suc h) f → (h ≡ q) ⊎ (h < q) → f q ≡ false
         pick q b (inl p) = ap f (sym p) ∙ e
         pick q b (inr p) = r .earlier q p b
+
+-- a number is the first that passes if no earlier one does and it passes, or is the last
+pub first-is : (k : ℕ) (f : ℕ → Bool) (r : ℕ) → r ≤ k → ((q : ℕ) → q < r → f q ≡ false) → (r < k → f r ≡ true) → r ≡ firstFrom k 0 f
+first-is k f r u e h = let s = first k 0 f in Dec·not-not (ℕ-discrete r (firstFrom k 0 f)) .0 (λ d. by-cases (decLt r (firstFrom k 0 f))
+    (λ l. tf (h (omega (arith, s .upto))) (s .earlier r (omega arith) l))
+    (λ l. tf (s .found (omega arith)) (e (firstFrom k 0 f) (omega arith))))
 
 pub firstFrom-same : (k h : ℕ) (f g : ℕ → Bool) → ((i : ℕ) → i < h + k → f i ≡ g i) → firstFrom k h f ≡ firstFrom k h g
 unfolding firstFrom
@@ -231,3 +251,16 @@ pub getD-any : {A : Type 0} (l : Lists.List A) (i : ℕ) (d e : A) → i < lengt
 getD-any [] i d e h = absurd (not-suc-le-zero h)
 getD-any (x ∷ l) zero d e h = refl
 getD-any (x ∷ l) (suc i) d e h = getD-any l i d e (le-of-suc-le-suc h)
+
+-- an array's elements after a store at k
+pub set-each : {A : Type 0} (w : ℕ) (r : Lists.List A) (k : ℕ) (v d : A) (f g : ℕ → A) → k < length r → ((i : ℕ) → i < w → getD r i d ≡ f i)
+    → v ≡ g k → ((i : ℕ) → i < w → i ≢ k → f i ≡ g i) → (i : ℕ) → i < w → getD (set r k v) i d ≡ g i
+set-each w r k v d f g h old here other i l = by-cases (ℕ-discrete i k)
+    (λ e. rw e (getD-set-same r k v d h ∙ here))
+    (λ n. getD-set-other r k i v d n ∙ old i l ∙ other i l n)
+
+-- P holds of each element that is read
+pub all-at : {A : Type 0} (P : A → Type 0) (l : Lists.List A) (d : A) → All P l → (p : ℕ) → p < length l → P (getD l p d)
+all-at P [] d a p h = absurd (omega arith)
+all-at P (x ∷ l) d a zero h = a .0
+all-at P (x ∷ l) d a (suc p) h = all-at P l d (a .1) p (omega arith)

@@ -1,14 +1,14 @@
 -- The order of labels, for any number m of positions (the paper's section 4), and what follows a label.
 use mathlib.Core.Path.{_≡_, refl, sym, _∙_, ap, fun-ext}
 use mathlib.Core.Logic.{_≢_, _⊎_, inl, inr, by-cases}
-use mathlib.Core.Bool.{Bool, true, false, not, _&&_}
+use mathlib.Core.Bool.{Bool, true, false, not}
 use Prim.Native.Nat.{ℕ, suc, _≤_, _<_}
 use native.Mathlib.Decide.{ℕ-discrete, decLt}
 use native.Mathlib.Omega.{arith}
 use lib.Dec.{ltb, leb, eqb}
-use borrow.Author.Tests.{eqb-true, lt-ltb, le-ltb, le-leb, lt-leb, eq-eqb, not-true, not-false}
+use borrow.Author.Tests.{eqb-true, lt-ltb, le-ltb, le-leb, lt-leb, eq-eqb, ne-eqb, not-true, not-false}
 use Rattle.label.specs.Labels.{Label, below, next, agrees, firstDifference, labelBelow, labelBefore, nextLabel}
-use Rattle.label.proofs.Facts.{tf, every-all, every-at, First, first}
+use Rattle.label.proofs.Facts.{tf, is-false, every-all, every-at, First, first, first-is}
 use Rattle.label.proofs.Digits.{Tri, lt, eq, gt, compare, Below, below-ne, below-asym, below-not, below-next, next-within}
 
 -- a and b have the same first h digits
@@ -50,11 +50,7 @@ Lt-asym {m} {a} {b} l r = go (compare (l .at) (r .at))
 
 -- ---- what the tests say of labels that differ first at p
 apart : (m : ℕ) (a b : Label) (p : ℕ) → p < m → a p ≢ b p → agrees m a b ≡ false
-apart m a b p l d = go (agrees m a b) refl
-  where
-    go : (x : Bool) → agrees m a b ≡ x → x ≡ false
-    go true e = absurd (d (agrees-true m a b e p l))
-    go false e = refl
+apart m a b p l d = is-false (λ e. d (agrees-true m a b e p l))
 
 module _ (m : ℕ) (a b : Label) where
   pub difference-first : First m 0 (λ p. not (eqb (a p) (b p))) (firstDifference m a b)
@@ -68,20 +64,12 @@ module _ (m : ℕ) (a b : Label) where
   difference-apart l e = tf (eq-eqb _ _ e) (not-true _ (difference-first .found (omega arith)))
 
   pub difference-at : (p : ℕ) → p < m → Agree p a b → a p ≢ b p → firstDifference m a b ≡ p
-  difference-at p l s d = go (compare (firstDifference m a b) p)
-    where
-      go : Tri (firstDifference m a b < p) (firstDifference m a b ≡ p) (p < firstDifference m a b) → firstDifference m a b ≡ p
-      go (lt h) = absurd (difference-apart (omega arith) (s _ h))
-      go (eq e) = e
-      go (gt h) = absurd (d (difference-same p h))
+  unfolding firstDifference
+  difference-at p l s d = sym (first-is m _ p (omega arith) (λ q h. ap not (eq-eqb _ _ (s q h))) (λ _. ap not (ne-eqb _ _ d)))
 
   pub difference-none : Agree m a b → firstDifference m a b ≡ m
-  difference-none s = go (compare (firstDifference m a b) m)
-    where
-      go : Tri (firstDifference m a b < m) (firstDifference m a b ≡ m) (m < firstDifference m a b) → firstDifference m a b ≡ m
-      go (lt h) = absurd (difference-apart h (s _ h))
-      go (eq e) = e
-      go (gt h) = absurd (omega (arith, difference-first .upto))
+  unfolding firstDifference
+  difference-none s = sym (first-is m _ m (omega arith) (λ q h. ap not (eq-eqb _ _ (s q h))) (λ h. absurd (omega arith)))
 
   -- agreement in the first h digits is a difference no earlier than h
   pub agrees-upto : (h : ℕ) → h ≤ m → agrees h a b ≡ leb h (firstDifference m a b)
@@ -95,12 +83,7 @@ below-at m a b p l s d = rw (difference-at m a b p l s d, lt-ltb p m l) refl
 
 never : (m : ℕ) (a : Label) → labelBelow m a a ≡ false
 unfolding labelBelow
-never m a = go (ltb (firstDifference m a a) m) (below (a (firstDifference m a a)) (a (firstDifference m a a))) refl
-  where
-    go : (x y : Bool) → below (a (firstDifference m a a)) (a (firstDifference m a a)) ≡ y → (x && y) ≡ false
-    go true true e = absurd (below-ne {a = a (firstDifference m a a)} (record { fact = e }) refl)
-    go true false e = refl
-    go false y e = refl
+never m a = rw (difference-none m a a (λ q l. refl), le-ltb m m (omega arith)) refl
 
 -- ---- the test "stands before", by how the two labels stand
 pub before-less : (m : ℕ) (a : Label) (i : ℕ) (b : Label) (j : ℕ) → Lt m a b → labelBefore m a i b j ≡ true

@@ -1,8 +1,8 @@
 -- Labels whose digits are 1 to 5 and of which no three close a ring are in a total order, with their stations (document 01, 13; the paper's Lemma 4.2).
 use mathlib.Core.Path.{_≡_, refl, sym, _∙_, ap}
 use mathlib.Core.Logic.{_≢_, _⊎_, inl, inr, by-cases, Dec·not-not}
-use mathlib.Core.Bool.{Bool, true, false, not, _&&_, _||_, true≢false}
-use Prim.Native.Nat.{ℕ, zero, suc, _-_, _≤_, _<_}
+use mathlib.Core.Bool.{Bool, true, false, not, _&&_, _||_}
+use Prim.Native.Nat.{ℕ, zero, suc, _+_, _-_, _≤_, _<_}
 use native.Mathlib.Decide.{ℕ-discrete}
 use native.Mathlib.Omega.{arith}
 use lib.Dec.{ltb, eqb}
@@ -10,7 +10,7 @@ use borrow.Author.Tests.{ltb-true, eqb-true, lt-ltb, le-ltb, ne-eqb, not-true}
 use mathlib.Core.List.{List, [], _∷_}
 use Rattle.label.specs.Tests.{every, newest, inserted, ordered, All}
 use Rattle.label.specs.Labels.{Label, below, agrees, firstDifference, labelBelow, labelBefore}
-use Rattle.label.proofs.Facts.{tf, both, and-both, every-all, every-at, First, first, inserted-all, ordered-all}
+use Rattle.label.proofs.Facts.{tf, is-false, or-right, or-cases, implied, both, and-both, every-all, every-at, First, first, inserted-all, ordered-all}
 use Rattle.label.proofs.Digits.{Tri, lt, eq, gt, compare, Below, below-small}
 use Rattle.label.proofs.Order.{Agree, agrees-true, agree-agrees, difference-same, difference-apart, Lt, before-less, before-same}
 
@@ -23,14 +23,6 @@ pub record Total (n : ℕ) (b : ℕ → ℕ → Bool) : Type 0 where
   pub irrefl : (i : ℕ) → i < n → b i i ≡ false
   pub trans : (i j k : ℕ) → i < n → j < n → k < n → b i j ≡ true → b j k ≡ true → b i k ≡ true
   pub connex : (i j : ℕ) → i < n → j < n → i ≢ j → (b i j ≡ true) ⊎ (b j i ≡ true)
-
-pub or-cases : (x y : Bool) → (x || y) ≡ true → (x ≡ true) ⊎ (y ≡ true)
-or-cases true y e = inl refl
-or-cases false y e = inr e
-
-or-right : (x y : Bool) → y ≡ true → (x || y) ≡ true
-or-right true y e = refl
-or-right false y e = e
 
 -- DIGITS, by computing
 
@@ -71,10 +63,6 @@ digit-next a b c h k =
     let u = below-small k in
     first₁ (or-cases (below a c) _ (implied (below a b && below b c) _ (every-at 6 _ (every-at 6 _ (every-at 6 _ triples a (s .0)) b (s .1)) c (u .1)) (both (h .fact) (k .fact))))
   where
-    implied : (x y : Bool) → (not x || y) ≡ true → x ≡ true → y ≡ true
-    implied true y p q = p
-    implied false y p q = absurd (true≢false (sym q))
-
     third : (turn b c a ≡ true) ⊎ (turn c a b ≡ true) → Next a b c
     third (inl e) = let w = turn-true b c a e in ring₂ (w .0) (w .1) (w .2)
     third (inr e) = let w = turn-true c a b e in ring₃ (w .0) (w .1) (w .2)
@@ -113,7 +101,7 @@ before-true m a i b j e = go (or-cases (labelBelow m a b) (agrees m a b && ltb i
 
 pub before-of : (m : ℕ) (a : Label) (i : ℕ) (b : Label) (j : ℕ) → Before m a i b j → labelBefore m a i b j ≡ true
 before-of m a i b j (inl l) = before-less m a i b j l
-before-of m a i b j (inr h) = unfold labelBefore in or-right (labelBelow m a b) (agrees m a b && ltb i j) (both (agree-agrees m a b (h .0)) (lt-ltb i j (h .1)))
+before-of m a i b j (inr h) = unfold labelBefore in or-right (labelBelow m a b) (both (agree-agrees m a b (h .0)) (lt-ltb i j (h .1)))
 
 module _ {m : ℕ} {t : ℕ → Label} (r : Ringless m t) where
   lt-trans : (i j k : ℕ) → i ≤ m → j ≤ m → k ≤ m → Lt m (t i) (t j) → Lt m (t j) (t k) → Lt m (t i) (t k)
@@ -181,22 +169,41 @@ module _ {m : ℕ} {t : ℕ → Label} (r : Ringless m t) where
       sides i j d (eq s) (eq h) = absurd (d h)
       sides i j d (eq s) (gt h) = inr (before-of m (t j) j (t i) i (inr ((λ q l. sym (s q l)), h)))
 
+module _ {n : ℕ} {b : ℕ → ℕ → Bool} (o : Total n b) where
+  -- not both ways round
+  pub one-way : (i j : ℕ) → i < n → j < n → b i j ≡ true → b j i ≡ false
+  one-way i j li lj e = is-false (λ u. tf (o .trans i j i li lj li e u) (o .irrefl i li))
+
+  pub other-way : (i j : ℕ) → i < n → j < n → i ≢ j → b i j ≡ false → b j i ≡ true
+  other-way i j li lj d e = go (o .connex i j li lj d)
+    where
+      go : (b i j ≡ true) ⊎ (b j i ≡ true) → b j i ≡ true
+      go (inl u) = absurd (tf u e)
+      go (inr u) = u
+
+  -- the newest of the stations before j, and of one more
+  pub newest-one : (i : ℕ) → i < 1 → 1 ≤ n → b 0 i ≡ false
+  newest-one i h l = let e : i ≡ 0 = omega arith in rw e (o .irrefl 0 l)
+
+  pub newest-kept : (z j : ℕ) {x : Bool} → ((i : ℕ) → i < j → b z i ≡ false) → x ≡ b z j → x ≡ false → (i : ℕ) → i < j + 1 → b z i ≡ false
+  newest-kept z j old e f i h = by-cases (ℕ-discrete i j) (λ q. rw q (sym e ∙ f)) (λ q. old i (omega arith))
+
+  pub newest-next : (z j : ℕ) {x : Bool} → ((i : ℕ) → i < j → b z i ≡ false) → x ≡ b z j → x ≡ true → z < n → j < n → (i : ℕ) → i < j + 1 → b j i ≡ false
+  newest-next z j old e f lz lj i h = by-cases (ℕ-discrete i j) (λ q. rw q (o .irrefl j lj))
+      (λ q. is-false (λ u. tf (o .trans z j i lz lj (omega arith) (sym e ∙ f) u) (old i (omega arith))))
+
 -- THE NEWEST: in a total order some station has no other after it, and `newest` is that one
 
-highest : (n : ℕ) (b : ℕ → ℕ → Bool) → Total n b → (k : ℕ) → suc k ≤ n → (i : ℕ) × (i ≤ k) × ((j : ℕ) → j ≤ k → b i j ≡ false)
-highest n b o zero l = (0, omega arith, λ j h. let e : j ≡ 0 = omega arith in rw e (o .irrefl 0 (omega arith)))
+highest : (n : ℕ) (b : ℕ → ℕ → Bool) → Total n b → (k : ℕ) → suc k ≤ n → (i : ℕ) × (i < suc k) × ((j : ℕ) → j < suc k → b i j ≡ false)
+highest n b o zero l = (0, omega arith, λ j h. newest-one o j (omega arith) l)
 highest n b o (suc k) l = go (highest n b o k (omega arith))
   where
-    go : (i : ℕ) × (i ≤ k) × ((j : ℕ) → j ≤ k → b i j ≡ false) → (i : ℕ) × (i ≤ suc k) × ((j : ℕ) → j ≤ suc k → b i j ≡ false)
+    go : (i : ℕ) × (i < suc k) × ((j : ℕ) → j < suc k → b i j ≡ false) → (i : ℕ) × (i < suc (suc k)) × ((j : ℕ) → j < suc (suc k) → b i j ≡ false)
     go (i, li, h) = pick (b i (suc k)) refl
       where
-        not-up : b i (suc k) ≡ true → (j : ℕ) → j ≤ k → (x : Bool) → b (suc k) j ≡ x → x ≡ false
-        not-up e j lj true p = absurd (tf (o .trans i (suc k) j (omega arith) (omega arith) (omega arith) e p) (h j lj))
-        not-up e j lj false p = refl
-
-        pick : (x : Bool) → b i (suc k) ≡ x → (i : ℕ) × (i ≤ suc k) × ((j : ℕ) → j ≤ suc k → b i j ≡ false)
-        pick false e = (i, omega arith, λ j lj. by-cases (ℕ-discrete j (suc k)) (λ q. rw q e) (λ q. h j (omega arith)))
-        pick true e = (suc k, omega arith, λ j lj. by-cases (ℕ-discrete j (suc k)) (λ q. rw q (o .irrefl (suc k) (omega arith))) (λ q. not-up e j (omega arith) (b (suc k) j) refl))
+        pick : (x : Bool) → b i (suc k) ≡ x → (i : ℕ) × (i < suc (suc k)) × ((j : ℕ) → j < suc (suc k) → b i j ≡ false)
+        pick false e = (i, omega arith, λ j lj. newest-kept o i (suc k) h refl e j (omega arith))
+        pick true e = (suc k, omega arith, λ j lj. newest-next o i (suc k) h refl e (omega arith) (omega arith) j (omega arith))
 
 pub newest-inside : (n : ℕ) (b : ℕ → ℕ → Bool) → Total n b → 1 ≤ n → newest n b < n
 unfolding newest
@@ -208,7 +215,7 @@ newest-inside n b o l = go (compare (newest n b) n) (highest n b o (n - 1) (omeg
     f : First n 0 test (newest n b)
     f = first n 0 test
 
-    go : Tri (newest n b < n) (newest n b ≡ n) (n < newest n b) → (i : ℕ) × (i ≤ n - 1) × ((j : ℕ) → j ≤ n - 1 → b i j ≡ false) → newest n b < n
+    go : Tri (newest n b < n) (newest n b ≡ n) (n < newest n b) → (i : ℕ) × (i < suc (n - 1)) × ((j : ℕ) → j < suc (n - 1) → b i j ≡ false) → newest n b < n
     go (lt h) w = h
     go (eq h) w = absurd (tf (every-all n _ (λ j lj. ap not (w .2 j (omega arith)))) (f .earlier (w .0) (omega arith) (omega (arith, w .1))))
     go (gt h) w = absurd (omega (arith, f .upto))
@@ -216,14 +223,10 @@ newest-inside n b o l = go (compare (newest n b) n) (highest n b o (n - 1) (omeg
 -- every other station stands before it
 pub newest-last : (n : ℕ) (b : ℕ → ℕ → Bool) → Total n b → 1 ≤ n → (j : ℕ) → j < n → j ≢ newest n b → b j (newest n b) ≡ true
 unfolding newest
-newest-last n b o l j lj d = go (o .connex j (newest n b) lj (newest-inside n b o l) d)
-  where
-    f : First n 0 (λ i. every n (λ j. not (b i j))) (newest n b)
-    f = first n 0 (λ i. every n (λ j. not (b i j)))
-
-    go : (b j (newest n b) ≡ true) ⊎ (b (newest n b) j ≡ true) → b j (newest n b) ≡ true
-    go (inl e) = e
-    go (inr e) = absurd (tf e (not-true _ (every-at n _ (f .found (omega (arith, newest-inside n b o l))) j lj)))
+newest-last n b o l j lj d =
+    let f = first n 0 (λ i. every n (λ j. not (b i j))) in
+    let h = newest-inside n b o l in
+    other-way o (newest n b) j h lj (λ e. d (sym e)) (not-true _ (every-at n _ (f .found (omega arith)) j lj))
 
 -- and no other station stands before none
 pub newest-only : (n : ℕ) (b : ℕ → ℕ → Bool) → Total n b → (i : ℕ) → i < n → ((j : ℕ) → j < n → b i j ≡ false) → i ≡ newest n b
@@ -248,11 +251,7 @@ module _ (n : ℕ) (b : ℕ → ℕ → Bool) (o : Total n b) where
     where
       go : Sorted b (inserted b i l) → (x : Bool) → b i j ≡ x → Sorted b (elim x [ true ↦ i ∷ j ∷ l | false ↦ j ∷ inserted b i l ])
       go r true e = ((e, all-map₂ (λ k. (k < n) × (k ≢ i)) (λ k. b j k ≡ true) (λ k. b i k ≡ true) (λ k h u. o .trans i j k li (a .0 .0) (h .0) e u) l (a .1) (s .0)), s)
-      go r false e = (inserted-all (λ k. b j k ≡ true) b i l (pick (o .connex j i (a .0 .0) li (a .0 .1))) (s .0), r)
-        where
-          pick : (b j i ≡ true) ⊎ (b i j ≡ true) → b j i ≡ true
-          pick (inl h) = h
-          pick (inr h) = absurd (tf h e)
+      go r false e = (inserted-all (λ k. b j k ≡ true) b i l (other-way o i j li (a .0 .0) (λ q. a .0 .1 (sym q)) e) (s .0), r)
 
   pub ordered-sorted : (k : ℕ) → k ≤ n → Sorted b (ordered k b)
   unfolding ordered

@@ -8,6 +8,8 @@ use mathlib.Core.List as Lists
 use mathlib.Core.List.{[], _∷_}
 use lib.ListN.{length, getD, take}
 use lib.Seq.{set-getD, length-take-le}
+use mir.Val.{Val}
+use denote.Shadow.{shadow}
 use borrow.Author.Tests.{ne-eqb}
 use Rattle.label.specs.Tests.{within}
 use Rattle.label.proofs.Facts.{getD-any, within-true, within-of}
@@ -16,20 +18,26 @@ use Rattle.simulation.specs.Calls.{Call, judge, numberOf, place}
 use Rattle.table.specs.Tables.{at, store}
 use Rattle.table.specs.WellFormed.{wellFormed}
 use Rattle.table.proofs.Orders.{passed}
+use Rattle.table.proofs.Owned.{stations-long}
+use Rattle.table.proofs.Table.{the-row}
 use Rattle.step.specs.Steps.{refuse, carryOut, move, stepOf}
 use Rattle.simulation.proofs.Judged.{Roomy, roomy, Own, Verdict, turned, own, verdict}
-use Rattle.step.specs.Contracts.{refusalNumber, called, recordAfter, reportSize, placeOf, due, over, Decides, Steps}
+use Rattle.step.specs.Contracts.{refusalNumber, moveOf, called, recordAfter, reportSize, placeOf, due, over, Decides, Steps}
 use Rattle.step.proofs.View.{step-carries, carried-count}
 use Rattle.step.proofs.ReportLaws.{length-report-lines}
 use Rattle.step.specs.declared.Decision.{Decision}
+use Rattle.step.specs.declared.Move.{Move}
 use Rattle.step.specs.declared.Reply.{Reply}
 use Rattle.table.specs.declared.Phase.{Phase}
 use Rattle.table.specs.declared.Station.{Station}
 use Rattle.table.specs.declared.Table.{Table}
 
--- the record that the code reads
-pub station-read : (t : Table) (k : ℕ) (d : Station) → k < length (t .stations) → getD (t .stations) k d ≡ at t k
-station-read t k d h = getD-any (t .stations) k d _ h
+-- the record v that f makes of the one read at place k is that of the move m, which is w
+pub record-made : (f : Station → Station) (w : Move) (t : Table) (vs : Lists.List Val) → shadow (the-row .own t vs) → wellFormed t ≡ true → (k job : ℕ) → k < t .count
+    → (d : Station) {v : Station} {m : Move} → v ≡ f (getD (t .stations) k d) → f (at t k) ≡ recordAfter t k job (moveOf w) → m ≡ w → v ≡ recordAfter t k job (moveOf m)
+record-made f w t vs s ok k job h d made law told =
+    made ∙ ap f (getD-any (t .stations) k d _ (omega (arith, passed t ok .high, stations-long t vs s))) ∙ law
+    ∙ sym (ap (λ (m : Move). recordAfter t k job (moveOf m)) told)
 
 -- the place of a station that there is, and of one that there is not
 pub place-below : (n station : ℕ) → 2 ≤ n → placeOf n station < n

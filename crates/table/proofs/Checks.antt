@@ -1,18 +1,17 @@
--- Laws of the loops that judge a table: a test of each number, an array that changes at one place, counts of a result's stations.
+-- Laws of the loops that judge a table: a test of each number, counts of a result's stations.
 use Prim.Native.Nat.{ℕ, suc, _+_, _≤_, _<_}
-use native.Mathlib.Decide.{ℕ-discrete}
 use native.Mathlib.Numerals.{add-one}
 use native.Mathlib.Omega.{arith}
 use mathlib.Core.Path.{_≡_, refl, sym, ap, _∙_}
-use mathlib.Core.Logic.{_≢_, by-cases}
+use mathlib.Core.Logic.{_≢_}
 use mathlib.Core.Bool.{Bool, true, false, not, _&&_, cond}
 use mathlib.Core.List.{List, [], _∷_, _++_}
 use lib.ListN.{length, getD, set, take}
-use lib.Seq.{take-suc, getD-set-same, getD-set-other}
+use lib.Seq.{take-suc}
 use lib.Dec.{eqb}
 use borrow.Author.Tests.{eq-eqb, ne-eqb, not-true, not-false}
 use Rattle.label.specs.Tests.{every}
-use Rattle.label.proofs.Facts.{both, left-no}
+use Rattle.label.proofs.Facts.{both, left-no, set-each}
 use Rattle.table.specs.Results.{blank, times}
 use Rattle.table.specs.declared.Entry.{Entry}
 
@@ -42,13 +41,6 @@ and-yes {a} {b} p e = rw p e
 
 pub and-no : {a v : Bool} (b : Bool) → v ≡ a → v ≡ false → v ≡ (a && b)
 and-no b p e = e ∙ sym (left-no b (sym p ∙ e))
-
--- an array's elements after a store at k
-pub set-each : {A : Type 0} (w : ℕ) (r : List A) (k : ℕ) (v d : A) (f g : ℕ → A) → k < length r → ((i : ℕ) → i < w → getD r i d ≡ f i)
-    → v ≡ g k → ((i : ℕ) → i < w → i ≢ k → f i ≡ g i) → (i : ℕ) → i < w → getD (set r k v) i d ≡ g i
-set-each w r k v d f g h old here other i l = by-cases (ℕ-discrete i k)
-    (λ e. rw e (getD-set-same r k v d h ∙ here))
-    (λ n. getD-set-other r k i v d n ∙ old i l ∙ other i l n)
 
 -- HOW OFTEN A STATION STANDS IN A RESULT
 

@@ -8,13 +8,12 @@ use mathlib.Core.Logic.{_≢_, by-cases}
 use mathlib.Core.Bool.{Bool, true, false, not, _&&_, cond}
 use mathlib.Core.List.{List}
 use lib.ListN.{length, getD, set}
-use lib.Seq.{getD-set-same, getD-set-other}
 use lib.Dec.{eqb, leb, ltb}
 use borrow.Author.Tests.{eq-eqb, ne-eqb, le-leb, lt-leb, lt-ltb, le-ltb}
 use Rattle.label.specs.Tests.{count, firstFrom, newest}
 use Rattle.label.specs.Labels.{Label, agrees, firstDifference, nextLabel, others, level, newLabel}
 use Rattle.label.specs.Rows.{row}
-use Rattle.label.proofs.Facts.{right-no, tf, First, first, firstFrom-same, count-bound}
+use Rattle.label.proofs.Facts.{right-no, first-is, firstFrom-same, count-bound, set-each}
 use Rattle.label.proofs.Digits.{Tri, lt, eq, gt, compare}
 use Rattle.label.proofs.Order.{agrees-upto, difference-first}
 use Rattle.label.proofs.Choice.{level-spec}
@@ -24,7 +23,7 @@ use Rattle.table.specs.Gathered.{rowsOf, held, standsIn, Orderly}
 use Rattle.table.specs.declared.Table.{Table}
 use Rattle.table.proofs.Orders.{passed, newest-station}
 use Rattle.table.proofs.Gathered.{held-labels, newest-gathered, gathered-orderly}
-use Rattle.table.proofs.Filled.{filled, filled-in}
+use Rattle.label.proofs.Filled.{filled, filled-in}
 
 -- COUNTS
 
@@ -71,20 +70,11 @@ module _ (w : ℕ) (f : ℕ → Bool) (s : ℕ → ℕ) (r : List ℕ) (j : ℕ)
   tally-miss e q l = old q l ∙ sym (count-no j (λ i. f i && eqb (s i) q) (rw e refl))
 
   pub tally-hit : f j ≡ true → s j < w → s j < length r → (q : ℕ) → q < w → getD (set r (s j) (getD r (s j) 0 + 1)) q 0 ≡ count (j + 1) (λ i. f i && eqb (s i) q)
-  tally-hit e ls h q l = by-cases (ℕ-discrete q (s j))
-      (λ p. rw p (getD-set-same r (s j) (getD r (s j) 0 + 1) 0 h ∙ ap (λ n. n + 1) (old (s j) ls) ∙ sym (count-yes j (λ i. f i && eqb (s i) (s j)) (rw (e, eq-eqb (s j) (s j) refl) refl))))
-      (λ d. getD-set-other r (s j) q _ 0 d ∙ old q l ∙ sym (count-no j (λ i. f i && eqb (s i) q) (rw (e, ne-eqb (s j) q (λ p. d (sym p))) refl)))
+  tally-hit e ls h = set-each w r (s j) _ 0 (λ q. count j (λ i. f i && eqb (s i) q)) _ h old
+      (ap (λ n. n + 1) (old (s j) ls) ∙ sym (count-yes j (λ i. f i && eqb (s i) (s j)) (rw (e, eq-eqb (s j) (s j) refl) refl)))
+      (λ q l d. sym (count-no j (λ i. f i && eqb (s i) q) (rw (e, ne-eqb (s j) q (λ p. d (sym p))) refl)))
 
 -- THE LEVEL
-
--- a number is the first that passes if no earlier one does and it passes, or is the last
-pub first-is : (k : ℕ) (f : ℕ → Bool) (r : ℕ) → r ≤ k → ((q : ℕ) → q < r → f q ≡ false) → (r < k → f r ≡ true) → r ≡ firstFrom k 0 f
-first-is k f r u e h = go (first k 0 f) (compare r (firstFrom k 0 f))
-  where
-    go : First k 0 f (firstFrom k 0 f) → Tri (r < firstFrom k 0 f) (r ≡ firstFrom k 0 f) (firstFrom k 0 f < r) → r ≡ firstFrom k 0 f
-    go s (lt l) = absurd (tf (h (omega (arith, s .upto))) (s .earlier r (omega arith) l))
-    go s (eq q) = q
-    go s (gt l) = absurd (tf (s .found (omega arith)) (e (firstFrom k 0 f) l))
 
 less-or-same : (b : Bool) (x p : ℕ) → cond (b && ltb x p) 1 0 + cond (b && eqb x p) 1 0 ≡ cond (b && ltb x (p + 1)) 1 0
 less-or-same false x p = refl

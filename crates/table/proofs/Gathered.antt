@@ -19,7 +19,7 @@ use Rattle.table.specs.Gathered.{rowsOf, jobsOf, held, standsIn, Orderly
 use Rattle.table.specs.declared.Entry.{Entry}
 use Rattle.table.specs.declared.Table.{Table}
 use Rattle.table.proofs.Orders.{passed, label-digits}
-use Rattle.table.proofs.Filled.{filled-in}
+use Rattle.label.proofs.Filled.{filled-in}
 use Rattle.table.proofs.OrderLaws.{orderIn, order-front}
 
 pub held-labels : (t : Table) (i : ℕ) → i < t .count → t .count ≤ 32 → held (rowsOf t) i ≡ labels t i

@@ -1,7 +1,6 @@
 pub mod ResultLaws
 pub mod Orders
 pub mod ChoiceLaws
-pub mod Filled
 pub mod Owned
 pub mod Checks
 pub mod Rings

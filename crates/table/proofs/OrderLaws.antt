@@ -1,26 +1,21 @@
--- Laws of the searches for the newest station and for the scan order.
+-- Laws of the search for the scan order.
 use Prim.Native.Nat.{ℕ, zero, suc, _+_, _-_, _≤_, _<_}
 use native.Mathlib.Omega.{arith}
 use native.Mathlib.Numerals.{add-one}
 use native.Mathlib.Decide.{ℕ-discrete}
 use mathlib.Core.Path.{_≡_, refl, sym, ap, _∙_}
-use mathlib.Core.Logic.{_≢_, _⊎_, inl, inr, by-cases}
+use mathlib.Core.Logic.{by-cases}
 use mathlib.Core.Bool.{Bool, true, false}
 use mathlib.Core.List.{List, [], _∷_, _++_, map, map-append, append-assoc}
 use lib.ListN.{length, getD, set, take, drop, replicate, length-map, drop-of-length-le, List·getD-append}
 use lib.Seq.{take-all, take-suc, drop-cons, split-at, set-at, take-at, drop-append-add, length-take-le, getD-take}
-use Rattle.label.specs.Tests.{inserted, ordered, All}
-use Rattle.label.proofs.Facts.{tf, ordered-all, ordered-length}
-use Rattle.label.proofs.Total.{Total, Sorted, ordered-sorted}
+use Rattle.label.specs.Tests.{inserted, ordered}
+use Rattle.label.proofs.Facts.{all-at, ordered-all, ordered-length}
+use Rattle.label.proofs.Total.{Total, one-way, other-way, Sorted, ordered-sorted}
 use Rattle.table.specs.Results.{entry, blank, stored}
 use Rattle.table.specs.declared.Entry.{Entry}
 
 -- LISTS
-
-pub all-at : {A : Type 0} (P : A → Type 0) (l : List A) (d : A) → All P l → (p : ℕ) → p < length l → P (getD l p d)
-all-at P [] d a p h = absurd (omega arith)
-all-at P (x ∷ l) d a zero h = a .0
-all-at P (x ∷ l) d a (suc p) h = all-at P l d (a .1) p (omega arith)
 
 pub sorted-at : (b : ℕ → ℕ → Bool) (l : List ℕ) → Sorted b l → (p q : ℕ) → p < q → q < length l → b (getD l p 0) (getD l q 0) ≡ true
 sorted-at b [] s p q h k = absurd (omega arith)
@@ -87,35 +82,6 @@ listed-below b k l e p h = rw (← getD-take k l p 0 h, e) (all-at (λ i. i < k)
 -- A TOTAL ORDER
 
 module _ {n : ℕ} {b : ℕ → ℕ → Bool} (o : Total n b) where
-  -- not both ways round
-  pub one-way : (i j : ℕ) → i < n → j < n → b i j ≡ true → b j i ≡ false
-  one-way i j li lj e = go (b j i) refl
-    where
-      go : (x : Bool) → b j i ≡ x → x ≡ false
-      go true u = absurd (tf (o .trans i j i li lj li e u) (o .irrefl i li))
-      go false u = refl
-
-  pub other-way : (i j : ℕ) → i < n → j < n → i ≢ j → b i j ≡ false → b j i ≡ true
-  other-way i j li lj d e = go (o .connex i j li lj d)
-    where
-      go : (b i j ≡ true) ⊎ (b j i ≡ true) → b j i ≡ true
-      go (inl u) = absurd (tf u e)
-      go (inr u) = u
-
-  -- the newest of the stations before j, and of one more
-  pub newest-one : (i : ℕ) → i < 1 → 1 ≤ n → b 0 i ≡ false
-  newest-one i h l = let e : i ≡ 0 = omega arith in rw e (o .irrefl 0 l)
-
-  pub newest-kept : (z j : ℕ) {x : Bool} → ((i : ℕ) → i < j → b z i ≡ false) → x ≡ b z j → x ≡ false → (i : ℕ) → i < j + 1 → b z i ≡ false
-  newest-kept z j old e f i h = by-cases (ℕ-discrete i j) (λ q. rw q (sym e ∙ f)) (λ q. old i (omega arith))
-
-  pub newest-next : (z j : ℕ) {x : Bool} → ((i : ℕ) → i < j → b z i ≡ false) → x ≡ b z j → x ≡ true → z < n → j < n → (i : ℕ) → i < j + 1 → b j i ≡ false
-  newest-next z j old e f lz lj i h = by-cases (ℕ-discrete i j) (λ q. rw q (o .irrefl j lj)) (λ q. go (b j i) refl (omega arith))
-    where
-      go : (x : Bool) → b j i ≡ x → i < j → x ≡ false
-      go true u l = absurd (tf (o .trans z j i lz lj (omega arith) (sym e ∙ f) u) (old i l))
-      go false u l = refl
-
   -- the first k stations in order, at the front of an array, and the place of station k among them
   module _ (k : ℕ) (lk : k < n) (l : List ℕ) (e : take k l ≡ ordered k b) where
     listed : (p : ℕ) → p < k → getD l p 0 < k
@@ -135,13 +101,13 @@ module _ {n : ℕ} {b : ℕ → ℕ → Bool} (o : Total n b) where
         (λ f. o .trans k (getD l p 0) (getD l q 0) lk (omega (arith, listed p h)) (omega (arith, listed q w)) at-place (listed-sorted p q (omega arith) w))
       where
         at-place : b k (getD l p 0) ≡ true
-        at-place = other-way (getD l p 0) k (omega (arith, listed p h)) lk (λ f. omega (arith, listed p h)) (sym u ∙ x)
+        at-place = other-way o (getD l p 0) k (omega (arith, listed p h)) lk (λ f. omega (arith, listed p h)) (sym u ∙ x)
 
     pub order-next : (q : ℕ) → q ≤ k → ((p : ℕ) → p < q → b (getD l p 0) k ≡ true) → ((p : ℕ) → q ≤ p → p < k → b k (getD l p 0) ≡ true)
         → ordered (k + 1) b ≡ putIn q k (take k l)
     unfolding ordered
     order-next q h early late = rw (add-one k, ordered, ← e) (inserted-at b k (take k l) q (omega (arith, long))
-        (λ p u. rw (getD-take k l p 0 (omega arith)) (one-way (getD l p 0) k (omega (arith, listed p (omega arith))) lk (early p u)))
+        (λ p u. rw (getD-take k l p 0 (omega arith)) (one-way o (getD l p 0) k (omega (arith, listed p (omega arith))) lk (early p u)))
         (λ u. let v : q < k = omega (arith, long) in rw (getD-take k l q 0 v) (late q (omega arith) v)))
       where
         long : length (take k l) ≡ k

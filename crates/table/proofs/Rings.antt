@@ -11,11 +11,11 @@ use lib.ListN.{length, getD, set}
 use lib.Dec.{eqb}
 use borrow.Author.Tests.{eqb-true, eq-eqb, ne-eqb, not-true}
 use Rattle.label.specs.Tests.{every}
-use Rattle.label.specs.Labels.{Label, agrees, firstDifference}
+use Rattle.label.specs.Labels.{Label, firstDifference}
 use Rattle.label.specs.Rows.{noRing}
-use Rattle.label.proofs.Facts.{tf, and-both, both, left-no, right-no, every-all, every-at, every-no, every-same}
-use Rattle.label.proofs.Order.{Agree, agrees-true, agree-agrees, difference-same, difference-at}
-use Rattle.table.proofs.Checks.{set-each}
+use Rattle.label.proofs.Facts.{tf, is-false, and-both, both, left-no, right-no, every-all, every-at, every-no, every-same, set-each}
+use Rattle.label.proofs.Order.{Agree, difference-same, difference-at}
+use Rattle.label.proofs.RowLaws.{ring, ring-true, ring-of}
 
 -- some number below n passes
 abbrev pub some : ℕ → (ℕ → Bool) → Bool
@@ -68,18 +68,10 @@ alike true b p q = sym (p refl)
 alike false true p q = q refl
 alike false false p q = refl
 
-never : (b : Bool) → (b ≡ true → ⊥) → not b ≡ true
-never true h = absurd (h refl)
-never false h = refl
-
 every-swap : (m n : ℕ) (f : ℕ → ℕ → Bool) → every m (λ p. every n (f p)) ≡ every n (λ i. every m (λ p. f p i))
 every-swap m n f = alike _ _
     (λ e. every-all n _ (λ i li. every-all m _ (λ p lp. every-at n _ (every-at m _ e p lp) i li)))
     (λ e. every-all m _ (λ p lp. every-all n _ (λ i li. every-at m _ (every-at n _ e i li) p lp)))
-
--- labels i, j, k agree before p and have the digits 3, 4, 5 there
-abbrev pub ring : (ℕ → Label) → ℕ → ℕ → ℕ → ℕ → Bool
-ring t i p j k = agrees p (t i) (t j) && agrees p (t j) (t k) && eqb (t i p) 3 && eqb (t j p) 4 && eqb (t k p) 5
 
 pub no-ring-each : (n : ℕ) (t : ℕ → Label) → 1 ≤ n → noRing (n - 1) t ≡ every n (λ i. every (n - 1) (λ p. every n (λ j. every n (λ k. not (ring t i p j k)))))
 unfolding noRing
@@ -108,16 +100,11 @@ module _ (m n : ℕ) (t : ℕ → Label) (i p : ℕ) (inside : p < m) where
 
   ring-flagged : (j k : ℕ) → j < n → k < n → ring t i p j k ≡ true → flagged ≡ true
   ring-flagged j k lj lk e =
-      let e₁ = and-both _ (eqb (t k p) 5) e in
-      let e₂ = and-both _ (eqb (t j p) 4) (e₁ .0) in
-      let e₃ = and-both _ (eqb (t i p) 3) (e₂ .0) in
-      let e₄ = and-both (agrees p (t i) (t j)) (agrees p (t j) (t k)) (e₃ .0) in
-      let ij = agrees-true p (t i) (t j) (e₄ .0) in
-      let jk = agrees-true p (t j) (t k) (e₄ .1) in
-      let three : t i p ≡ 3 = eqb-true (t i p) 3 (e₃ .1) in
-      both (both (e₃ .1)
-      (parting-of 4 j lj (λ x l. sym (ij x l)) (eqb-true (t j p) 4 (e₂ .1)) (λ q. omega arith)))
-      (parting-of 5 k lk (λ x l. sym (ij x l ∙ jk x l)) (eqb-true (t k p) 5 (e₁ .1)) (λ q. omega arith))
+      let r = ring-true t i p j k e in
+      let three = r .2 in
+      both (both (eq-eqb _ 3 three)
+      (parting-of 4 j lj (λ x l. sym (r .0 x l)) (r .3) (λ q. omega arith)))
+      (parting-of 5 k lk (λ x l. sym (r .0 x l ∙ r .1 x l)) (r .4) (λ q. omega arith))
 
   flagged-ring : flagged ≡ true → (j : ℕ) × (k : ℕ) × (j < n) × (k < n) × (ring t i p j k ≡ true)
   flagged-ring e =
@@ -125,15 +112,13 @@ module _ (m n : ℕ) (t : ℕ → Label) (i p : ℕ) (inside : p < m) where
       let e₂ = and-both (eqb (t i p) 3) (some n (parting 4)) (e₁ .0) in
       let u = parting-has 4 (e₂ .1) in
       let v = parting-has 5 (e₁ .1) in
-      let ij = agree-agrees p (t i) (t (u .0)) (λ x l. sym (u .2 x l)) in
-      let jk = agree-agrees p (t (u .0)) (t (v .0)) (λ x l. u .2 x l ∙ sym (v .2 x l)) in
-      (u .0, v .0, u .1, v .1, both (both (both (both ij jk) (e₂ .0)) (eq-eqb _ 4 (u .3))) (eq-eqb _ 5 (v .3)))
+      (u .0, v .0, u .1, v .1, ring-of t i p (u .0) (v .0) (λ x l. sym (u .2 x l)) (λ x l. u .2 x l ∙ sym (v .2 x l)) (eqb-true (t i p) 3 (e₂ .0)) (u .3) (v .3))
 
   -- the flags tell whether some ring has its 3 there
   ring-flags : not flagged ≡ every n (λ j. every n (λ k. not (ring t i p j k)))
   ring-flags = alike _ _
-      (λ e. every-all n _ (λ j lj. every-all n _ (λ k lk. never (ring t i p j k) (λ h. tf (ring-flagged j k lj lk h) (not-true _ e)))))
-      (λ e. never flagged (λ h. let r = flagged-ring h in tf (r .4) (not-true _ (every-at n _ (every-at n _ e (r .0) (r .2)) (r .1) (r .3)))))
+      (λ e. every-all n _ (λ j lj. every-all n _ (λ k lk. ap not (is-false (λ h. tf (ring-flagged j k lj lk h) (not-true _ e))))))
+      (λ e. ap not (is-false (λ h. let r = flagged-ring h in tf (r .4) (not-true _ (every-at n _ (every-at n _ e (r .0) (r .2)) (r .1) (r .3))))))
 
   -- the same with the shared digits and the flags kept in lists
   module _ (shared : List ℕ) (e : (j : ℕ) → j < n → getD shared j 0 ≡ firstDifference m (t j) (t i)) where

@@ -1,17 +1,13 @@
 use native.Mathlib.Omega.{arith}
-use mathlib.Core.Path.{ap, ap₂, sym, _∙_}
-use mathlib.Core.List.{List}
-use Prim.Native.Nat.{ℕ}
+use mathlib.Core.Path.{refl, ap}
+use Rattle.table.specs.Tables.{at}
 use Rattle.table.proofs.Orders.{passed}
-use Rattle.table.proofs.Owned.{stations-long}
 use Rattle.step.specs.Steps.{begun, inPhase, snapped, scanned, updated}
 use Rattle.step.specs.Contracts.{moveOf, recordAfter}
-use Rattle.step.proofs.StepLaws.{station-read}
-use Rattle.table.specs.declared.Entry.{Entry}
+use Rattle.step.proofs.StepLaws.{record-made}
 use Rattle.table.specs.declared.Phase.the-variants.{Idle, Snap}
 use Rattle.table.specs.declared.Operation.the-variants.{Scan}
-use Rattle.table.specs.declared.Station.{Station}
-use Rattle.step.specs.declared.Move.{Move}
+use Rattle.step.specs.declared.Move.the-variants.{Refused, BeginLabel, BeginScan, SnapLabel, SnapScan, Update, EndLabel, EndScan}
 use borrow.Author.Needs.{needs}
 use Rattle.step.proofs.record_after.Statement.{statement}
 use Rattle.step.proofs.record_after.Tie as tie
@@ -79,81 +75,50 @@ in-phase-requires-3 c κs = search needs
 returns : tie.Need-returns
 unfolding recordAfter
 returns c =
-    let t = c .before .before .before .args .t1 in
-    let k = c .before .before .before .args .k in
-    let job = c .before .before .before .args .job in
-    station-read t k _ (omega (arith, passed t (c .before .before .before .pre .0) .high, stations-long t _ (c .before .before .before .good .0), c .before .before .before .pre .1 .0))
-    ∙ sym (ap (λ (m : Move). recordAfter t k job (moveOf m)) (c .enum-told .given .1))
+    let a = c .before .before .before in
+    record-made (λ s. s) (Refused _) (a .args .t1) _ (a .good .0) (a .pre .0) (a .args .k) (a .args .job) (a .pre .1 .0) _ refl refl (c .enum-told .given .1)
 
 returns-2 : tie.Need-returns-2
 unfolding recordAfter
 returns-2 c =
-    let t = c .before .before .before .before .args .t1 in
-    let k = c .before .before .before .before .args .k in
-    let job = c .before .before .before .before .args .job in
-    c .begun .ensures
-    ∙ ap (λ (s : Station). begun s job) (station-read t k _ (omega (arith, passed t (c .before .before .before .before .pre .0) .high, stations-long t _ (c .before .before .before .before .good .0), c .before .before .before .before .pre .1 .0)))
-    ∙ sym (ap (λ (m : Move). recordAfter t k job (moveOf m)) (c .before .enum-told2 .given .1))
+    let a = c .before .before .before .before in
+    record-made (λ s. begun s (a .args .job)) BeginLabel (a .args .t1) _ (a .good .0) (a .pre .0) (a .args .k) (a .args .job) (a .pre .1 .0) _ (c .begun .ensures) refl (c .before .enum-told2 .given .1)
 
 returns-3 : tie.Need-returns-3
 unfolding recordAfter
 returns-3 c =
-    let t = c .before .before .before .before .args .t1 in
-    let k = c .before .before .before .before .args .k in
-    let job = c .before .before .before .before .args .job in
-    c .in-phase .ensures
-    ∙ ap (λ (s : Station). inPhase s (Snap Scan)) (station-read t k _ (omega (arith, passed t (c .before .before .before .before .pre .0) .high, stations-long t _ (c .before .before .before .before .good .0), c .before .before .before .before .pre .1 .0)))
-    ∙ sym (ap (λ (m : Move). recordAfter t k job (moveOf m)) (c .before .enum-told3 .given .1))
+    let a = c .before .before .before .before in
+    record-made (λ s. inPhase s (Snap Scan)) BeginScan (a .args .t1) _ (a .good .0) (a .pre .0) (a .args .k) (a .args .job) (a .pre .1 .0) _ (c .in-phase .ensures) refl (c .before .enum-told3 .given .1)
 
 returns-4 : tie.Need-returns-4
 unfolding recordAfter
 returns-4 c =
-    let t = c .before .before .before .before .before .args .t1 in
-    let k = c .before .before .before .before .before .args .k in
-    let job = c .before .before .before .before .before .args .job in
-    c .snapped .ensures
-    ∙ ap₂ (λ (s : Station) (l : List ℕ). snapped s l) (station-read t k _ (omega (arith, passed t (c .before .before .before .before .before .pre .0) .high, stations-long t _ (c .before .before .before .before .before .good .0), c .before .before .before .before .before .pre .1 .0))) (c .before .pending-after .ensures)
-    ∙ sym (ap (λ (m : Move). recordAfter t k job (moveOf m)) (c .before .before .enum-told4 .given .1))
+    let a = c .before .before .before .before .before in
+    record-made (λ s. snapped s (c .before .pending-after .result)) SnapLabel (a .args .t1) _ (a .good .0) (a .pre .0) (a .args .k) (a .args .job) (a .pre .1 .0) _ (c .snapped .ensures) (ap (snapped (at (a .args .t1) (a .args .k))) (c .before .pending-after .ensures)) (c .before .before .enum-told4 .given .1)
 
 returns-5 : tie.Need-returns-5
 unfolding recordAfter
 returns-5 c =
-    let t = c .before .before .before .before .before .args .t1 in
-    let k = c .before .before .before .before .before .args .k in
-    let job = c .before .before .before .before .before .args .job in
-    c .scanned .ensures
-    ∙ ap₂ (λ (s : Station) (l : List Entry). scanned s l) (station-read t k _ (omega (arith, passed t (c .before .before .before .before .before .pre .0) .high, stations-long t _ (c .before .before .before .before .before .good .0), c .before .before .before .before .before .pre .1 .0))) (c .before .scan .ensures)
-    ∙ sym (ap (λ (m : Move). recordAfter t k job (moveOf m)) (c .before .before .enum-told5 .given .1))
+    let a = c .before .before .before .before .before in
+    record-made (λ s. scanned s (c .before .scan .result)) SnapScan (a .args .t1) _ (a .good .0) (a .pre .0) (a .args .k) (a .args .job) (a .pre .1 .0) _ (c .scanned .ensures) (ap (scanned (at (a .args .t1) (a .args .k))) (c .before .scan .ensures)) (c .before .before .enum-told5 .given .1)
 
 returns-6 : tie.Need-returns-6
 unfolding recordAfter
 returns-6 c =
-    let t = c .before .before .before .before .args .t1 in
-    let k = c .before .before .before .before .args .k in
-    let job = c .before .before .before .before .args .job in
-    c .updated .ensures
-    ∙ ap (λ (s : Station). updated s) (station-read t k _ (omega (arith, passed t (c .before .before .before .before .pre .0) .high, stations-long t _ (c .before .before .before .before .good .0), c .before .before .before .before .pre .1 .0)))
-    ∙ sym (ap (λ (m : Move). recordAfter t k job (moveOf m)) (c .before .enum-told6 .given .1))
+    let a = c .before .before .before .before in
+    record-made (λ s. updated s) Update (a .args .t1) _ (a .good .0) (a .pre .0) (a .args .k) (a .args .job) (a .pre .1 .0) _ (c .updated .ensures) refl (c .before .enum-told6 .given .1)
 
 returns-7 : tie.Need-returns-7
 unfolding recordAfter
 returns-7 c =
-    let t = c .before .before .before .before .args .t1 in
-    let k = c .before .before .before .before .args .k in
-    let job = c .before .before .before .before .args .job in
-    c .in-phase2 .ensures
-    ∙ ap (λ (s : Station). inPhase s Idle) (station-read t k _ (omega (arith, passed t (c .before .before .before .before .pre .0) .high, stations-long t _ (c .before .before .before .before .good .0), c .before .before .before .before .pre .1 .0)))
-    ∙ sym (ap (λ (m : Move). recordAfter t k job (moveOf m)) (c .before .enum-told7 .given .1))
+    let a = c .before .before .before .before in
+    record-made (λ s. inPhase s Idle) EndLabel (a .args .t1) _ (a .good .0) (a .pre .0) (a .args .k) (a .args .job) (a .pre .1 .0) _ (c .in-phase2 .ensures) refl (c .before .enum-told7 .given .1)
 
 returns-8 : tie.Need-returns-8
 unfolding recordAfter
 returns-8 c =
-    let t = c .before .before .before .before .args .t1 in
-    let k = c .before .before .before .before .args .k in
-    let job = c .before .before .before .before .args .job in
-    c .in-phase3 .ensures
-    ∙ ap (λ (s : Station). inPhase s Idle) (station-read t k _ (omega (arith, passed t (c .before .before .before .before .pre .0) .high, stations-long t _ (c .before .before .before .before .good .0), c .before .before .before .before .pre .1 .0)))
-    ∙ sym (ap (λ (m : Move). recordAfter t k job (moveOf m)) (c .before .enum-told8 .given .1))
+    let a = c .before .before .before .before in
+    record-made (λ s. inPhase s Idle) EndScan (a .args .t1) _ (a .good .0) (a .pre .0) (a .args .k) (a .args .job) (a .pre .1 .0) _ (c .in-phase3 .ensures) refl (c .before .enum-told8 .given .1)
 
 pub record-after-spec : {M : Type 1} → statement M
 record-after-spec =

@@ -13,7 +13,6 @@ use Rattle.table.specs.Gathered.{held}
 use Rattle.table.specs.Tables.{at, labels}
 use Rattle.table.specs.WellFormed.{stationFits, isFresh, wellFormed}
 use Rattle.table.proofs.Checks.{and-yes, was-false, was-true}
-use Rattle.table.proofs.Rings.{ring}
 use Rattle.table.proofs.Gathered.{no-ring-gathered}
 use borrow.Author.Tests.{ltb-true, ltb-false, lt-leb}
 use Rattle.label.proofs.Facts.{within-of}

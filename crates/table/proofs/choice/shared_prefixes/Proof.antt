@@ -5,7 +5,7 @@ use borrow.Author.Needs.{needs}
 use Rattle.label.specs.Labels.{firstDifference}
 use Rattle.label.specs.Rows.{digit}
 use Rattle.table.specs.Gathered.{held}
-use Rattle.table.proofs.Filled.{filled, filled-none, filled-more}
+use Rattle.label.proofs.Filled.{filled, filled-none, filled-more}
 use Rattle.table.proofs.choice.shared_prefixes.Statement.{statement}
 use Rattle.table.proofs.choice.shared_prefixes.Tie as tie
 

@@ -3,10 +3,9 @@ use mathlib.Core.Path.{_≡_}
 use mathlib.Core.Logic.{⊎-elim}
 use mathlib.Core.Bool.{false}
 use native.Mathlib.Omega.{arith}
-use Rattle.label.proofs.Total.{newest-only}
 use Rattle.table.specs.Gathered.{standsIn}
 use Rattle.table.proofs.Orders.{orderly-total}
-use Rattle.table.proofs.OrderLaws.{newest-one, newest-kept, newest-next}
+use Rattle.label.proofs.Total.{newest-one, newest-kept, newest-next, newest-only}
 use borrow.Author.Needs.{needs}
 use Rattle.table.proofs.order.newest.Statement.{statement}
 use Rattle.table.proofs.order.newest.Tie as tie

@@ -7,7 +7,8 @@ use Rattle.label.specs.Tests.{every}
 use Rattle.label.proofs.Facts.{every-no}
 use Rattle.table.specs.Gathered.{held}
 use Rattle.table.proofs.Checks.{every-none, every-more, every-done, was-false, was-true}
-use Rattle.table.proofs.Rings.{ring, no-ring-each}
+use Rattle.label.proofs.RowLaws.{ring}
+use Rattle.table.proofs.Rings.{no-ring-each}
 use Rattle.table.proofs.well_formed.no_ring.Statement.{statement}
 use Rattle.table.proofs.well_formed.no_ring.Tie as tie
 

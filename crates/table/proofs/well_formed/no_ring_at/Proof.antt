@@ -6,7 +6,7 @@ use Rattle.label.specs.Labels.{firstDifference}
 use Rattle.label.proofs.Facts.{every-same}
 use Rattle.table.specs.Gathered.{held}
 use Rattle.table.proofs.Rings.{flags-judge}
-use Rattle.table.proofs.Filled.{filled-in}
+use Rattle.label.proofs.Filled.{filled-in}
 use Rattle.table.proofs.well_formed.no_ring_at.Statement.{statement}
 use Rattle.table.proofs.well_formed.no_ring_at.Tie as tie
 
