@@ -161,7 +161,7 @@ fn step_line(s: Session, code: u64, station: u64, job: u64, report: &mut [u8]) -
 {
     let lines = s.lines;
     let standing = s.refusal;
-    let mut t = s.table;
+    let t = s.table;
     let n = t.count;
     let d = step::decide(t, code, station, job, report.len());
     let place = d.place;
@@ -170,12 +170,13 @@ fn step_line(s: Session, code: u64, station: u64, job: u64, report: &mut [u8]) -
     let written = d.written;
     let result = record.scan_result;
     step::write_due(written, result, n, lines as u64 + 1, report);
-    t.stations[place] = record;
+    let mut next = t;
+    next.stations[place] = record;
     Served {
         session: Session {
             lines: lines + 1,
             refusal: standing,
-            table: t,
+            table: next,
         },
         reply: Reply { refusal, written },
     }
