@@ -15,23 +15,23 @@ use step::Refusal;
 use step::Reply;
 use table::Entry;
 
-// Writes the line of a refusal to the front of `out`, and nothing for no refusal; hands back its bytes.
-fn print_refusal(number: u64, refusal: Refusal, out: &mut [u8]) -> usize
+// Writes the refusal line of the line that follows `lines` others to the front of `out`, and nothing for no refusal; hands back its bytes.
+fn print_refusal(lines: u32, refusal: Refusal, out: &mut [u8]) -> usize
     requires { ⌜ 29 ≤ length (now out) ⌝ }
-    ensures { λ r. ⌜ r ≡ length (printed number (refusalNumber refusal) []) ⌝ }
-    ensures { λ _. ⌜ now (out .exit) ≡ over (printed number (refusalNumber refusal) []) (now (out .entry)) ⌝ }
+    ensures { λ r. ⌜ r ≡ length (printed (lines + 1) (refusalNumber refusal) []) ⌝ }
+    ensures { λ _. ⌜ now (out .exit) ≡ over (printed (lines + 1) (refusalNumber refusal) []) (now (out .entry)) ⌝ }
 {
     let k = refusal.number();
     if k == 0 {
         return 0;
     }
-    columns::write_report_line(&mut out[0..29], number, k, 0, 0, 0);
+    columns::write_report_line(&mut out[0..29], lines as u64 + 1, k, 0, 0, 0);
     29
 }
 
 // Writes what a decided line prints to the front of `out`: its refusal, or the `written` bytes that are due; hands back its bytes.
 fn print_line(
-    number: u64,
+    lines: u32,
     refusal: Refusal,
     written: usize,
     result: [Entry; 32],
@@ -40,15 +40,15 @@ fn print_line(
 ) -> usize
     requires { ⌜ n ≤ 32 ⌝ }
     requires { ⌜ 928 ≤ length (now out) ⌝ }
-    requires { ⌜ written ≡ length (due written number (take n result)) ⌝ }
-    ensures { λ r. ⌜ r ≡ length (printed number (refusalNumber refusal) (due written number (take n result))) ⌝ }
-    ensures { λ _. ⌜ now (out .exit) ≡ over (printed number (refusalNumber refusal) (due written number (take n result))) (now (out .entry)) ⌝ }
+    requires { ⌜ written ≡ length (due written (lines + 1) (take n result)) ⌝ }
+    ensures { λ r. ⌜ r ≡ length (printed (lines + 1) (refusalNumber refusal) (due written (lines + 1) (take n result))) ⌝ }
+    ensures { λ _. ⌜ now (out .exit) ≡ over (printed (lines + 1) (refusalNumber refusal) (due written (lines + 1) (take n result))) (now (out .entry)) ⌝ }
 {
     if refusal.number() == 0 {
-        step::write_due(written, result, n, number, out);
+        step::write_due(written, result, n, lines as u64 + 1, out);
         return written;
     }
-    print_refusal(number, refusal, out)
+    print_refusal(lines, refusal, out)
 }
 
 // The line that starts at a place: 18 bytes, or what is left.
@@ -70,7 +70,7 @@ pub fn report_header(s: Session, out: &mut [u8]) -> usize
     ensures { λ _. ⌜ now (out .exit) ≡ over (headerPrinted s) (now (out .entry)) ⌝ }
 {
     let refusal = s.refusal;
-    print_refusal(1, refusal, out)
+    print_refusal(0, refusal, out)
 }
 
 // Serves the lines of a part of the file, up to a final refusal, and writes what they print.
@@ -95,7 +95,7 @@ pub fn report_lines(s: Session, chunk: &[u8], out: &mut [u8]) -> Served
         let line = line_at(chunk, at);
         match next_line(lines, line) {
             Line::Refused(r) => {
-                let k = print_refusal(lines as u64 + 1, r, &mut out[written..written + 928]);
+                let k = print_refusal(lines, r, &mut out[written..written + 928]);
                 return Served {
                     session: Session {
                         lines,
@@ -115,7 +115,7 @@ pub fn report_lines(s: Session, chunk: &[u8], out: &mut [u8]) -> Served
                 let record = d.record;
                 let result = record.scan_result;
                 let k = print_line(
-                    lines as u64 + 1,
+                    lines,
                     verdict,
                     d.written,
                     result,

@@ -1,48 +1,47 @@
+use mathlib.Core.Path.{_≡_, sym, ap, _∙_}
+use Prim.Native.Nat.{ℕ, _+_, _-_}
+use native.Mathlib.Omega.{arith}
+use lib.ListN.{length, take, drop, length-drop}
+use lib.Seq.{take-all}
 use borrow.Author.Needs.{needs}
 use Rattle.schedule.proofs.chunk.line_at.Statement.{statement}
 use Rattle.schedule.proofs.chunk.line_at.Tie as tie
-use Rattle.schedule.proofs.chunk.line_at.Reads as reads
-use Rattle.schedule.proofs.chunk.line_at.Lts as lts
 
--- src/chunk.rt:59:14
 sub-if1 : tie.Need-sub-if1
 sub-if1 c = search needs
 
--- src/chunk.rt:60:20
 add-result : tie.Need-add-result
 add-result c = search needs
 
--- src/chunk.rt:60:9
 sub-result : tie.Need-sub-result
 sub-result c = search needs
 
--- src/chunk.rt:60:9
 part-result-start : tie.Need-part-result-start
 part-result-start c = search needs
 
--- src/chunk.rt:60:9
 part-result-end : tie.Need-part-result-end
 part-result-end c = search needs
 
--- src/chunk.rt:62:9
 sub-result-2 : tie.Need-sub-result-2
 sub-result-2 c = search needs
 
--- src/chunk.rt:62:9
 part-result-start-2 : tie.Need-part-result-start-2
 part-result-start-2 c = search needs
 
--- src/chunk.rt:62:9
 part-result-end-2 : tie.Need-part-result-end-2
 part-result-end-2 c = search needs
 
--- src/chunk.rt:55:1
 returns : tie.Need-returns
-returns c = ?
+returns c =
+    let a = c .before .before .args in
+    let e : a .at + 18 - a .at ≡ 18 = omega arith in
+    ap (λ (k : ℕ). take k (drop (a .at) (a .chunk .now))) e
 
--- src/chunk.rt:55:1
 returns-2 : tie.Need-returns-2
-returns-2 c = ?
+returns-2 c =
+    let a = c .before .before .args in
+    let l = length-drop (a .at) (a .chunk .now) in
+    take-all (length (a .chunk .now) - a .at) (drop (a .at) (a .chunk .now)) (omega arith) ∙ sym (take-all 18 (drop (a .at) (a .chunk .now)) (omega arith))
 
 pub line-at-spec : {M : Type 1} → statement M
 line-at-spec =

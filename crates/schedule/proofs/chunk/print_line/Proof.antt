@@ -1,45 +1,39 @@
+use mathlib.Core.Path.{sym, _∙_}
+use Rattle.schedule.proofs.ChunkLaws.{prints-accepted, prints-any}
 use borrow.Author.Needs.{needs}
 use Rattle.schedule.proofs.chunk.print_line.Statement.{statement}
 use Rattle.schedule.proofs.chunk.print_line.Tie as tie
-use Rattle.schedule.proofs.chunk.print_line.Reads as reads
-use Rattle.schedule.proofs.chunk.print_line.Lts as lts
-use Rattle.schedule.proofs.chunk.print_refusal.Reads as print-refusal-reads
-use Rattle.step.proofs.Refusal.number.Reads as number-reads
-use Rattle.step.proofs.write_due.Reads as write-due-reads
 
--- src/chunk.rt:47:8
 number-requires : tie.Need-number-requires
 number-requires c κs = search needs
 
--- src/chunk.rt:48:9
+add-write-due : tie.Need-add-write-due
+add-write-due c = search needs
+
 write-due-requires : tie.Need-write-due-requires
 write-due-requires c κs = search needs
 
--- src/chunk.rt:49:9
 same-length : tie.Need-same-length
 same-length c = search needs
 
--- src/chunk.rt:49:9
 returns : tie.Need-returns
-returns c = ?
+returns c = prints-accepted _ _ _ _ _ _ (sym (c .before .before .before .before .before .number .ensures) ∙ c .before .before .before .before .if1 .taken) (c .before .before .before .before .before .before .before .pre .1 .1, c .before .before .write-due .ensures)
 
--- src/chunk.rt:51:5
 print-refusal-requires : tie.Need-print-refusal-requires
 print-refusal-requires c κs = search needs
 
--- src/chunk.rt:33:1
 same-length-2 : tie.Need-same-length-2
 same-length-2 c = search needs
 
--- src/chunk.rt:33:1
 returns-2 : tie.Need-returns-2
-returns-2 c = ?
+returns-2 c = prints-any _ _ _ _ _ _ (λ z. c .before .before .before .before .if1 .left (c .before .before .before .before .before .number .ensures ∙ z)) (c .before .before .print-refusal .ensures)
 
 pub print-line-spec : {M : Type 1} → statement M
 print-line-spec =
     tie.close
     (tie.spec
     number-requires
+    add-write-due
     write-due-requires
     same-length
     returns

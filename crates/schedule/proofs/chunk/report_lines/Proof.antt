@@ -1,155 +1,132 @@
+use borrow.Author.Needs.{needs}
+use borrow.Rule.Slice.PartMut.{same-len-mid}
+use mathlib.Core.Path.{refl, sym, ap, _∙_}
+use Prim.Native.Nat.{_+_, _-_}
+use native.Mathlib.Omega.{arith}
+use lib.ListN.{length, length-take, length-drop}
+use Rattle.step.specs.Contracts.{refusalNumber}
+use Rattle.step.proofs.Reachable.{reached-passes}
+use Rattle.schedule.specs.Sessions.{session}
+use Rattle.schedule.proofs.ChunkLaws.{serves-final, Sofar, sofar-start, sofar-end, sofar-more, sofar-stop, as-long, room-here, at-next, next-served, printed-refusal, printed-due}
 use Rattle.schedule.proofs.chunk.report_lines.Statement.{statement}
 use Rattle.schedule.proofs.chunk.report_lines.Tie as tie
-use Rattle.schedule.proofs.chunk.report_lines.Reads as reads
-use Rattle.schedule.proofs.chunk.report_lines.Lts as lts
-use Rattle.schedule.proofs.chunk.line_at.Reads as line-at-reads
-use Rattle.schedule.proofs.chunk.print_line.Reads as print-line-reads
-use Rattle.schedule.proofs.chunk.print_refusal.Reads as print-refusal-reads
-use Rattle.schedule.proofs.next_line.Reads as next-line-reads
-use Rattle.step.proofs.Refusal.number.Reads as number-reads
-use Rattle.step.proofs.decide.Reads as decide-reads
 
 abbrev Inv-loop : tie.InvT-loop
-Inv-loop chunk out₀ refusal t₀ lines₀ written₀ at₀ out t lines written at = ?
+Inv-loop chunk out₀ refusal t₀ lines₀ written₀ at₀ out t lines written at = Sofar (session lines₀ refusal t₀) chunk out₀ t lines written at out
 
 abbrev μ-loop : tie.MeasureT-loop
-μ-loop chunk out₀ refusal t₀ lines₀ written₀ at₀ out t lines written at = ?
+μ-loop chunk out₀ refusal t₀ lines₀ written₀ at₀ out t lines written at = length chunk - at
 
--- src/chunk.rt:88:8
 number-requires : tie.Need-number-requires Inv-loop μ-loop
-number-requires c κs = ?
+number-requires c κs = search needs
 
--- src/chunk.rt:89:9
 returns : tie.Need-returns Inv-loop μ-loop
-returns c = ?
+returns c = (serves-final _ _ _ _ (λ z. c .if1 .taken (c .before .number .ensures ∙ z)) refl refl refl, c .before .before .before .before .before .pre .0)
 
--- src/chunk.rt:94:5
 loop-holds : tie.Need-loop-holds Inv-loop μ-loop
-loop-holds c = ?
+loop-holds c = sofar-start (c .before .before .before .before .before .args .s) _ _ (sym (c .before .number .ensures) ∙ c .if1 .left) (c .before .before .before .before .before .pre .0) (c .before .before .before .before .before .pre .1)
 
--- src/chunk.rt:95:13
 line-at-requires : tie.Need-line-at-requires Inv-loop μ-loop
-line-at-requires c κs = ?
+line-at-requires c κs = omega arith
 
--- src/chunk.rt:96:15
 next-line-requires : tie.Need-next-line-requires Inv-loop μ-loop
-next-line-requires c κs = ?
+next-line-requires c κs = search needs
 
--- src/chunk.rt:97:27
 enum-known-r : tie.Need-enum-known-r Inv-loop μ-loop
-enum-known-r c = ?
+enum-known-r c = search needs
 
--- src/chunk.rt:98:39
-cast-print-refusal : tie.Need-cast-print-refusal Inv-loop μ-loop
-cast-print-refusal c = ?
-
--- src/chunk.rt:98:39
 add-print-refusal : tie.Need-add-print-refusal Inv-loop μ-loop
-add-print-refusal c = ?
+add-print-refusal c = omega (arith, room-here (c .before .before .before .before .before .before .loop .inv) (c .before .before .before .before .before .loop-test .taken))
 
--- src/chunk.rt:98:78
-add-print-refusal-2 : tie.Need-add-print-refusal-2 Inv-loop μ-loop
-add-print-refusal-2 c = ?
-
--- src/chunk.rt:98:60
 sub-print-refusal : tie.Need-sub-print-refusal Inv-loop μ-loop
-sub-print-refusal c = ?
+sub-print-refusal c = omega arith
 
--- src/chunk.rt:98:60
 part-print-refusal-start : tie.Need-part-print-refusal-start Inv-loop μ-loop
-part-print-refusal-start c = ?
+part-print-refusal-start c = omega arith
 
--- src/chunk.rt:98:60
 part-print-refusal-end : tie.Need-part-print-refusal-end Inv-loop μ-loop
-part-print-refusal-end c = ?
+part-print-refusal-end c = omega (arith, room-here (c .before .before .before .before .before .before .loop .inv) (c .before .before .before .before .before .loop-test .taken))
 
--- src/chunk.rt:98:21
 print-refusal-requires : tie.Need-print-refusal-requires Inv-loop μ-loop
-print-refusal-requires c κs = ?
+print-refusal-requires c κs = simp (length-take, length-drop) (omega (arith, room-here (c .before .before .before .before .before .before .before .loop .inv) (c .before .before .before .before .before .before .loop-test .taken)))
 
--- src/chunk.rt:107:34
-add-t29 : tie.Need-add-t29 Inv-loop μ-loop
-add-t29 c = ?
+add-t27 : tie.Need-add-t27 Inv-loop μ-loop
+add-t27 c =
+    let l = c .before .before .before .before .before .before .before .before .before .before .loop in
+    omega (arith, room-here (l .inv) (c .before .before .before .before .before .before .before .before .before .loop-test .taken), c .before .before .print-refusal .ensures .0, printed-refusal (l .lines + 1) (refusalNumber (c .before .before .before .before .before .r .given .0 .0)), c .before .before .before .before .before .before .before .before .before .before .before .before .before .before .before .before .good .1 .1 .0 .0, as-long (l .inv))
 
--- src/chunk.rt:99:17
 same-length : tie.Need-same-length Inv-loop μ-loop
-same-length c = ?
+same-length c =
+    let l = c .before .before .before .before .before .before .before .before .before .before .loop in
+    same-len-mid (l .written) (l .written + 928 - l .written) (l .out) (c .before .before .print-refusal .last .1 .1 .0) (c .before .before .print-refusal .kept .1 .1 .0) ∙ as-long (l .inv)
 
--- src/chunk.rt:99:17
 returns-2 : tie.Need-returns-2 Inv-loop μ-loop
-returns-2 c = ?
+returns-2 c =
+    let l = c .before .before .before .before .before .before .before .before .before .before .loop in
+    let said = sym (c .before .before .before .before .before .before .before .next-line .ensures) ∙ c .before .before .before .before .before .r .given .1 in
+    (sofar-stop (l .inv) (c .before .before .before .before .before .before .before .before .before .loop-test .taken) _ (c .before .before .before .before .before .before .before .before .line-at .ensures) (l .written + 928 - l .written) (omega arith) _ _ _ _ said (c .before .before .print-refusal .ensures .0) (c .before .before .print-refusal .ensures .1) refl refl refl, l .inv .reached)
 
--- src/chunk.rt:111:26
 enum-known-station : tie.Need-enum-known-station Inv-loop μ-loop
-enum-known-station c = ?
+enum-known-station c = search needs
 
--- src/chunk.rt:112:21
 decide-requires : tie.Need-decide-requires Inv-loop μ-loop
-decide-requires c κs = ?
+decide-requires c κs = reached-passes _ (c .before .before .before .before .before .before .loop .inv .reached)
 
--- src/chunk.rt:118:21
-cast-print-line : tie.Need-cast-print-line Inv-loop μ-loop
-cast-print-line c = ?
-
--- src/chunk.rt:118:21
 add-print-line : tie.Need-add-print-line Inv-loop μ-loop
-add-print-line c = ?
+add-print-line c = omega (arith, room-here (c .before .before .before .before .before .before .before .before .before .loop .inv) (c .before .before .before .before .before .before .before .before .loop-test .taken), c .before .before .before .before .before .before .before .before .before .before .before .before .before .before .before .good .1 .1 .0 .0, as-long (c .before .before .before .before .before .before .before .before .before .loop .inv))
 
--- src/chunk.rt:123:39
-add-print-line-2 : tie.Need-add-print-line-2 Inv-loop μ-loop
-add-print-line-2 c = ?
-
--- src/chunk.rt:123:21
 sub-print-line : tie.Need-sub-print-line Inv-loop μ-loop
-sub-print-line c = ?
+sub-print-line c = omega arith
 
--- src/chunk.rt:123:21
 part-print-line-start : tie.Need-part-print-line-start Inv-loop μ-loop
-part-print-line-start c = ?
+part-print-line-start c = omega arith
 
--- src/chunk.rt:123:21
 part-print-line-end : tie.Need-part-print-line-end Inv-loop μ-loop
-part-print-line-end c = ?
+part-print-line-end c = omega (arith, room-here (c .before .before .before .before .before .before .before .before .before .loop .inv) (c .before .before .before .before .before .before .before .before .loop-test .taken))
 
--- src/chunk.rt:117:21
 print-line-requires : tie.Need-print-line-requires Inv-loop μ-loop
-print-line-requires c κs = ?
+print-line-requires c κs =
+    let l = c .before .before .before .before .before .before .before .before .before .before .loop in
+    let d = c .before .before .before .decide .ensures (l .lines + 1) in
+    (l .inv .reached .good .high, (simp (length-take, length-drop) (omega (arith, room-here (l .inv) (c .before .before .before .before .before .before .before .before .before .loop-test .taken))), d .written ∙ ap length (d .bytes)))
 
--- src/chunk.rt:125:17
 mul-record : tie.Need-mul-record Inv-loop μ-loop
-mul-record c = ?
+mul-record c = omega (arith, c .before .before .before .before .before .before .decide .ensures 0 .inside)
 
--- src/chunk.rt:125:17
 element-set-from-record : tie.Need-element-set-from-record Inv-loop μ-loop
-element-set-from-record c = ?
+element-set-from-record c = c .before .before .before .before .before .before .decide .ensures 0 .inside
 
--- src/chunk.rt:126:17
 add-lines : tie.Need-add-lines Inv-loop μ-loop
-add-lines c = ?
+add-lines c = omega (arith, next-served (c .before .before .before .before .before .before .before .before .before .before .before .before .before .loop .lines) (c .before .before .before .before .before .before .before .before .before .before .before .line-at .result .now) _ _ _ (sym (c .before .before .before .before .before .before .before .before .before .before .next-line .ensures) ∙ c .before .before .before .before .before .before .before .before .station .given .1))
 
--- src/chunk.rt:127:17
 add-written : tie.Need-add-written Inv-loop μ-loop
-add-written c = ?
+add-written c =
+    let l = c .before .before .before .before .before .before .before .before .before .before .before .before .before .loop in
+    let d = c .before .before .before .before .before .before .decide .result in
+    let short = printed-due (l .lines + 1) (refusalNumber (d .refusal)) (d .written) (l .t .count) (d .«record» .«scan_result») (l .inv .reached .good .high) in
+    omega (arith, room-here (l .inv) (c .before .before .before .before .before .before .before .before .before .before .before .before .loop-test .taken), c .before .before .print-line .ensures .0, short, c .before .before .before .before .before .before .before .before .before .before .before .before .before .before .before .before .before .before .before .good .1 .1 .0 .0, as-long (l .inv))
 
--- src/chunk.rt:128:17
 add-at : tie.Need-add-at Inv-loop μ-loop
-add-at c = ?
+add-at c =
+    let l = c .before .before .before .before .before .before .before .before .before .before .before .before .before .loop in
+    omega (arith, at-next (l .inv) (c .before .before .before .before .before .before .before .before .before .before .before .before .loop-test .taken) (c .before .before .before .before .before .before .before .before .before .before .before .line-at .result .now) (c .before .before .before .before .before .before .before .before .before .before .before .line-at .ensures), c .before .before .before .before .before .before .before .before .before .before .before .before .before .before .before .before .before .before .before .good .1 .0 .0)
 
--- src/chunk.rt:94:5
 loop-less : tie.Need-loop-less Inv-loop μ-loop
-loop-less c = ?
+loop-less c =
+    let l = c .before .before .before .before .before .before .before .before .before .before .before .before .before .loop in
+    omega (arith, at-next (l .inv) (c .before .before .before .before .before .before .before .before .before .before .before .before .loop-test .taken) (c .before .before .before .before .before .before .before .before .before .before .before .line-at .result .now) (c .before .before .before .before .before .before .before .before .before .before .before .line-at .ensures))
 
--- src/chunk.rt:94:5
 loop-again : tie.Need-loop-again Inv-loop μ-loop
-loop-again c = ?
+loop-again c =
+    let l = c .before .before .before .before .before .before .before .before .before .before .before .before .before .loop in
+    let said = sym (c .before .before .before .before .before .before .before .before .before .before .next-line .ensures) ∙ c .before .before .before .before .before .before .before .before .station .given .1 in
+    sofar-more (l .inv) (c .before .before .before .before .before .before .before .before .before .before .before .before .loop-test .taken) _ (c .before .before .before .before .before .before .before .before .before .before .before .line-at .ensures) (l .written + 928 - l .written) (omega arith) _ _ _ said _ (c .before .before .before .before .before .before .decide .ensures) _ _ (c .before .before .print-line .ensures .0) (c .before .before .print-line .ensures .1)
 
--- src/chunk.rt:77:1
 same-length-2 : tie.Need-same-length-2 Inv-loop μ-loop
-same-length-2 c = ?
+same-length-2 c = as-long (c .before .loop .inv)
 
--- src/chunk.rt:77:1
 returns-3 : tie.Need-returns-3 Inv-loop μ-loop
-returns-3 c = ?
+returns-3 c = (sofar-end (c .before .loop .inv) _ refl refl refl (c .loop-test .left), c .before .loop .inv .reached)
 
 pub report-lines-spec : {M : Type 1} → statement M
 report-lines-spec =
@@ -163,21 +140,17 @@ report-lines-spec =
     line-at-requires
     next-line-requires
     enum-known-r
-    cast-print-refusal
     add-print-refusal
-    add-print-refusal-2
     sub-print-refusal
     part-print-refusal-start
     part-print-refusal-end
     print-refusal-requires
-    add-t29
+    add-t27
     same-length
     returns-2
     enum-known-station
     decide-requires
-    cast-print-line
     add-print-line
-    add-print-line-2
     sub-print-line
     part-print-line-start
     part-print-line-end
