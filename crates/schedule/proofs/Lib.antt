@@ -1,1 +1,3 @@
+pub mod SessionLaws
 pub mod ChunkLaws
+pub mod FileTheorem

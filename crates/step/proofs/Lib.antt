@@ -4,3 +4,4 @@ pub mod Theorem
 pub mod Samples
 pub mod ReportLaws
 pub mod StepLaws
+pub mod Routines

@@ -2,3 +2,4 @@ pub mod Steps
 pub mod Demand
 pub mod Samples
 pub mod Contracts
+pub mod Routines

@@ -1,0 +1,18 @@
+use mathlib.Core.Path.{sym, ap}
+use Rattle.schedule.specs.Sessions.{session, refused}
+use Rattle.schedule.proofs.SessionLaws.{serves-as}
+use borrow.Author.Needs.{needs}
+use Rattle.schedule.proofs.turn_away.Statement.{statement}
+use Rattle.schedule.proofs.turn_away.Tie as tie
+
+counted-requires : tie.Need-counted-requires
+counted-requires c κs = search needs
+
+refuse-requires : tie.Need-refuse-requires
+refuse-requires c κs = search needs
+
+returns : tie.Need-returns
+returns c = λ buffer. serves-as (ap (λ k. refused (session k (c .before .before .before .args .s .refusal) (c .before .before .before .args .s .table)) 13) (sym (c .before .counted .ensures))) (c .refuse .ensures buffer)
+
+pub turn-away-spec : {M : Type 1} → statement M
+turn-away-spec = tie.close (tie.spec counted-requires refuse-requires returns)
