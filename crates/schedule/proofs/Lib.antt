@@ -1,3 +1,3 @@
 pub mod SessionLaws
-pub mod ChunkLaws
 pub mod FileTheorem
+pub mod ChunkLaws

@@ -7,7 +7,8 @@ use lib.ListN.{length, length-take, length-drop}
 use Rattle.step.specs.Contracts.{refusalNumber}
 use Rattle.step.proofs.Reachable.{reached-passes}
 use Rattle.schedule.specs.Sessions.{session}
-use Rattle.schedule.proofs.ChunkLaws.{serves-final, Sofar, sofar-start, sofar-end, sofar-more, sofar-stop, as-long, room-here, at-next, next-served, printed-refusal, printed-due}
+use Rattle.schedule.proofs.SessionLaws.{next-within}
+use Rattle.schedule.proofs.ChunkLaws.{serves-final, Sofar, sofar-start, sofar-end, sofar-more, sofar-stop, as-long, room-here, at-next, due-long, printed-refusal, printed-due}
 use Rattle.schedule.proofs.chunk.report_lines.Statement.{statement}
 use Rattle.schedule.proofs.chunk.report_lines.Tie as tie
 
@@ -88,7 +89,7 @@ print-line-requires : tie.Need-print-line-requires Inv-loop μ-loop
 print-line-requires c κs =
     let l = c .before .before .before .before .before .before .before .before .before .before .loop in
     let d = c .before .before .before .decide .ensures (l .lines + 1) in
-    (l .inv .reached .good .high, (simp (length-take, length-drop) (omega (arith, room-here (l .inv) (c .before .before .before .before .before .before .before .before .before .loop-test .taken))), d .written ∙ ap length (d .bytes)))
+    (l .inv .reached .good .high, (simp (length-take, length-drop) (omega (arith, room-here (l .inv) (c .before .before .before .before .before .before .before .before .before .loop-test .taken))), due-long d))
 
 mul-record : tie.Need-mul-record Inv-loop μ-loop
 mul-record c = omega (arith, c .before .before .before .before .before .before .decide .ensures 0 .inside)
@@ -97,7 +98,7 @@ element-set-from-record : tie.Need-element-set-from-record Inv-loop μ-loop
 element-set-from-record c = c .before .before .before .before .before .before .decide .ensures 0 .inside
 
 add-lines : tie.Need-add-lines Inv-loop μ-loop
-add-lines c = omega (arith, next-served (c .before .before .before .before .before .before .before .before .before .before .before .before .before .loop .lines) (c .before .before .before .before .before .before .before .before .before .before .before .line-at .result .now) _ _ _ (sym (c .before .before .before .before .before .before .before .before .before .before .next-line .ensures) ∙ c .before .before .before .before .before .before .before .before .station .given .1))
+add-lines c = omega (arith, next-within (c .before .before .before .before .before .before .before .before .before .before .before .before .before .loop .lines) (c .before .before .before .before .before .before .before .before .before .before .before .line-at .result .now) _ _ _ (sym (c .before .before .before .before .before .before .before .before .before .before .next-line .ensures) ∙ c .before .before .before .before .before .before .before .before .station .given .1))
 
 add-written : tie.Need-add-written Inv-loop μ-loop
 add-written c =
