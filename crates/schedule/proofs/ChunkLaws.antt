@@ -4,12 +4,12 @@ use mathlib.Core.Logic.{_≢_, _⊎_, inl, inr, ⊎-elim}
 use mathlib.Core.Bool.{Bool, true, false, _&&_, cond}
 use mathlib.Core.List as Lists
 use mathlib.Core.List.{[], _∷_, _++_, append-assoc, append-nil}
-use Prim.Native.Nat.{ℕ, suc, _+_, _-_, _*_, _/_, _≤_, _<_, min}
+use Prim.Native.Nat.{ℕ, zero, suc, _+_, _-_, _*_, _/_, _≤_, _<_, min}
 use native.Mathlib.Omega.{arith}
 use lib.ListN.{length, getD, take, drop, length-append, length-take, length-drop, take-append-drop, drop-of-length-le}
 use lib.Seq.{take-at, drop-at, drop-append-le, drop-drop, length-take-le, take-all}
 use lib.Dec.{eqb, leb, ltb}
-use borrow.Author.Tests.{eq-eqb, ne-eqb, leb-true, leb-false, ltb-false}
+use borrow.Author.Tests.{eq-eqb, ne-eqb, eqb-true, eqb-false, leb-true, leb-false}
 use borrow.Rule.Slice.PartMut.{midOf, putMid}
 use Rattle.columns.specs.Columns.{reportLine}
 use Rattle.columns.specs.Reading.{columnRead}
@@ -32,7 +32,8 @@ use Rattle.schedule.specs.Lines.{stepRead, lineRead}
 use Rattle.schedule.specs.Sessions.{session, Served, refused, isFinal, nextLine, stepLine, serveOf}
 use Rattle.schedule.specs.Files.{cut, pieces, printed, runLines}
 use Rattle.schedule.specs.Contracts.{Serves}
-use Rattle.schedule.proofs.SessionLaws.{serve-next}
+use Rattle.schedule.proofs.SessionLaws.{serve-next, next-within}
+use Rattle.schedule.specs.declared.Line.{Line}
 use Rattle.schedule.proofs.FileTheorem.{Numbered, next-numbered}
 use Rattle.schedule.specs.declared.Line.the-variants.{Step, Refused}
 use Rattle.schedule.specs.declared.Session.{Session}
@@ -255,3 +256,43 @@ pub serves-final : (s : Session) (ls : Lists.List (Lists.List ℕ)) (r : Declare
     → r .session ≡ s → r .reply .refusal ≡ s .refusal → r .reply .written ≡ 0 → Serves (runLines s ls) r out out
 serves-final s ls r out d e v w =
     rw (final-run s ls d) (record { session = e; refusal = ap refusalNumber v; written = w; report = refl })
+
+-- HOW MANY LINES ARE COUNTED
+
+-- lines that no final refusal ends are counted, all of them, and there are not too many
+abbrev Counted : Session → Lists.List (Lists.List ℕ) → Type 0
+Counted s ls = Reached (s .table) → s .lines ≤ 1000001 → runLines s ls .refusal ≡ 0 → (runLines s ls .session .lines ≡ s .lines + length ls) × (s .lines + length ls ≤ 1000001)
+
+run-counted : (ls : Lists.List (Lists.List ℕ)) (s : Session) → Counted s ls
+unfolding runLines
+run-counted [] s g m z = (omega arith, omega arith)
+run-counted (l ∷ ls) s g m z = go (eqb (refusalNumber (s .refusal)) 0) refl (run-counted ls)
+  where
+    served : ((s′ : Session) → Counted s′ ls) → (w : Line) → nextLine (s .lines) l ≡ w → runLines (stepLine s 928 w .session) ls .refusal ≡ 0
+        → (runLines (stepLine s 928 w .session) ls .session .lines ≡ s .lines + suc (length ls)) × (s .lines + suc (length ls) ≤ 1000001)
+    served ih (Refused r) e y = let n = next-refused (s .lines) l r e in absurd (n (sym (ap (λ o. o .refusal) (final-run (session (s .lines) r (s .table)) ls n)) ∙ y))
+    served ih (Step st k j) e y =
+        let c = called (s .lines + 1) k st j 928 in
+        let reached : Reached (stepOf (s .table) c .table) = rw (step-carries (s .table) c (reached-passes (s .table) g)) (reached-step (s .table) g c) in
+        let n = next-within (s .lines) l st k j e in
+        let more = ih (stepLine s 928 (Step st k j) .session) reached (omega arith) y in
+        (more .0 ∙ omega arith, omega (arith, more .1))
+
+    go : (b : Bool) → eqb (refusalNumber (s .refusal)) 0 ≡ b → ((s′ : Session) → Counted s′ ls)
+        → (runLines s (l ∷ ls) .session .lines ≡ s .lines + suc (length ls)) × (s .lines + suc (length ls) ≤ 1000001)
+    go true b ih = let e = run-next s l ls (eqb-true _ _ b) g in rw e (served ih (nextLine (s .lines) l) refl (rw e at z))
+    go false b ih = let d = eqb-false _ _ b in absurd (d (sym (ap (λ o. o .refusal) (final-run s (l ∷ ls) d)) ∙ z))
+
+length-cut : (k : ℕ) (bs : Lists.List ℕ) → length (cut k bs) ≡ k
+unfolding cut
+length-cut zero bs = refl
+length-cut (suc k) bs = ap suc (length-cut k (drop 18 bs))
+
+-- a part that leaves no refusal has taken the count further
+pub part-counted : (s : Session) (chunk out out′ : Lists.List ℕ) (r : Declared.Served) → Reached (s .table) → s .lines ≤ 1000001 → 0 < length chunk
+    → Serves (runLines s (cut (pieces chunk) chunk)) r out out′ → refusalNumber (r .reply .refusal) ≡ 0 → (s .lines < r .session .lines) × (r .session .lines ≤ 1000001)
+part-counted s chunk out out′ r g m h f z =
+    let n = run-counted (cut (pieces chunk) chunk) s g m (sym (f .refusal) ∙ z) in
+    let l = length-cut (pieces chunk) chunk in
+    let e = ap (λ x. x .lines) (f .session) in
+    (omega (arith, n), omega (arith, n))
