@@ -1,35 +1,34 @@
 -- The lines of a part of the file, one after the other: what one line more gives, and what stands in the output buffer meanwhile.
 use mathlib.Core.Path.{_≡_, refl, sym, ap, subst, _∙_}
 use mathlib.Core.Logic.{_≢_, _⊎_, inl, inr, ⊎-elim}
-use mathlib.Core.Bool.{Bool, true, false, _&&_, cond}
+use mathlib.Core.Bool.{Bool, true, false, not, cond}
 use mathlib.Core.List as Lists
 use mathlib.Core.List.{[], _∷_, _++_, append-assoc, append-nil}
-use Prim.Native.Nat.{ℕ, zero, suc, _+_, _-_, _*_, _/_, _≤_, _<_, min}
+use Prim.Native.Nat.{ℕ, zero, suc, _+_, _-_, _*_, _/_, _≤_, _<_}
 use native.Mathlib.Omega.{arith}
-use lib.ListN.{length, getD, take, drop, length-append, length-take, length-drop, take-append-drop, drop-of-length-le}
+use lib.ListN.{length, take, drop, length-append, length-take, length-drop, take-append-drop, drop-of-length-le}
 use lib.Seq.{take-at, drop-at, drop-append-le, drop-drop, length-take-le, take-all}
-use lib.Dec.{eqb, leb, ltb}
+use lib.Dec.{eqb, leb}
 use borrow.Author.Tests.{eq-eqb, ne-eqb, eqb-true, eqb-false, leb-true, leb-false}
 use borrow.Rule.Slice.PartMut.{midOf, putMid}
 use Rattle.columns.specs.Columns.{reportLine}
-use Rattle.columns.specs.Reading.{columnRead}
 use Rattle.columns.proofs.ColumnLaws.{length-report-line}
-use Rattle.columns.specs.declared.Column.{Column}
-use Rattle.columns.specs.declared.Column.the-variants.{Value, Bad}
 use Rattle.simulation.specs.Calls.{Call, reportLines}
-use Rattle.table.specs.Tables.{store}
+use Rattle.label.specs.Tests.{within}
+use Rattle.label.proofs.Facts.{within-true}
+use Rattle.table.specs.Tables.{freshTable, store}
 use Rattle.table.specs.declared.Entry.{Entry}
 use Rattle.table.specs.declared.Table.{Table}
 use Rattle.step.specs.Contracts.{refusalNumber, called, due, over, Decides}
-use Rattle.step.specs.Steps.{stepOf, move, carryOut}
-use Rattle.step.proofs.Reachable.{Reached, reached-passes, reached-step}
+use Rattle.step.specs.Steps.{stepOf}
+use Rattle.step.proofs.Reachable.{Reached, reached-passes, reached-step, reached-fresh}
 use Rattle.step.proofs.View.{step-carries}
 use Rattle.step.proofs.ReportLaws.{length-report-lines}
 use Rattle.step.specs.declared.Refusal.{Refusal}
-use Rattle.step.specs.declared.Refusal.the-variants.{IncompleteLine, MalformedColumn, TooManyLines}
+use Rattle.step.specs.declared.Refusal.the-variants.{Accepted, StationCount, UnknownStep, JobOutOfRange}
 use Rattle.step.specs.declared.Decision.{Decision}
-use Rattle.schedule.specs.Lines.{stepRead, lineRead}
-use Rattle.schedule.specs.Sessions.{session, Served, refused, isFinal, nextLine, stepLine, serveOf}
+use Rattle.schedule.specs.Lines.{lineRead}
+use Rattle.schedule.specs.Sessions.{session, closed, byHeader, headerOf, Served, refused, nextLine, stepLine}
 use Rattle.schedule.specs.Files.{cut, pieces, printed, runLines}
 use Rattle.schedule.specs.Contracts.{Serves}
 use Rattle.schedule.proofs.SessionLaws.{serve-next, next-within}
@@ -296,3 +295,33 @@ part-counted s chunk out out′ r g m h f z =
     let l = length-cut (pieces chunk) chunk in
     let e = ap (λ x. x .lines) (f .session) in
     (omega (arith, n), omega (arith, n))
+
+-- THE ENDS OF A FILE
+
+-- what is written lies within the buffer
+pub prints-inside : (n : ℕ) (bytes buffer buffer′ : Lists.List ℕ) → Prints n bytes buffer buffer′ → n ≤ length buffer′
+prints-inside n bytes buffer buffer′ p = omega (arith, p .0, ap length (p .1) ∙ length-append bytes (drop (length bytes) buffer))
+
+pub serves-inside : {o : Served} {r : Declared.Served} {buffer buffer′ : Lists.List ℕ} → Serves o r buffer buffer′ → r .reply .written ≤ length buffer′
+serves-inside {o} {r} {buffer} {buffer′} f = prints-inside (r .reply .written) (o .bytes) buffer buffer′ (f .written, f .report)
+
+-- a header leaves a table that is reached, accepted or not, and counts one line at most
+by-header : (w : Line) → Reached (byHeader w .table) × (byHeader w .lines ≤ 1)
+by-header (Refused r) = (reached-fresh 2 (omega arith) (omega arith), omega arith)
+by-header (Step n code job) = go (eqb code 0) (within 2 32 n) refl (eqb job 0)
+  where
+    made : Bool → Bool → Bool → Session
+    made a b d = cond (not a) (closed UnknownStep) (cond (not b) (closed StationCount) (cond (not d) (closed JobOutOfRange) (session 1 Accepted (freshTable n))))
+
+    none : Reached (freshTable 2)
+    none = reached-fresh 2 (omega arith) (omega arith)
+
+    go : (a b : Bool) → within 2 32 n ≡ b → (d : Bool) → Reached (made a b d .table) × (made a b d .lines ≤ 1)
+    go false b q d = (none, omega arith)
+    go true false q d = (none, omega arith)
+    go true true q false = (none, omega arith)
+    go true true q true = let v = within-true 2 32 n q in (reached-fresh n (v .0) (v .1), omega arith)
+
+pub header-reached : (s : Session) (l : Lists.List ℕ) → s ≡ headerOf l → Reached (s .table) × (s .lines ≤ 1000001)
+unfolding headerOf
+header-reached s l e = let h = by-header (lineRead l) in rw e (h .0, omega (arith, h .1))
