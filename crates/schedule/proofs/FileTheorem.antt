@@ -34,7 +34,7 @@ use Rattle.schedule.specs.declared.Session.{Session}
 
 -- A LINE THAT IS REFUSED WHEN IT IS READ has a number
 
-abbrev Numbered : Line → Type 0
+abbrev pub Numbered : Line → Type 0
 Numbered (Refused r) = refusalNumber r ≢ 0
 Numbered (Step s k j) = Unit {0}
 
@@ -52,7 +52,7 @@ line-numbered l = go (eqb (length l) 18 && eqb (getD l 17 0) 10)
     go true = read-numbered (columnRead (take 3 l)) (columnRead (take 3 (drop 3 l))) (columnRead (take 11 (drop 6 l)))
     go false = omega arith
 
-next-numbered : (lines : ℕ) (l : Lists.List ℕ) → Numbered (nextLine lines l)
+pub next-numbered : (lines : ℕ) (l : Lists.List ℕ) → Numbered (nextLine lines l)
 next-numbered lines l = go (ltb 1000000 lines)
   where
     go : (b : Bool) → Numbered (cond b (Refused TooManyLines) (lineRead l))

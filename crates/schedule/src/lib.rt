@@ -16,6 +16,8 @@ use step::Refusal;
 use step::Reply;
 use table::Table;
 
+pub mod chunk;
+
 // What a line of the file says: a step call, or the refusal that ends the reading.
 pub enum Line {
     Step { station: u64, code: u64, job: u64 },
