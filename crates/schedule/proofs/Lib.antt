@@ -1,3 +1,4 @@
 pub mod SessionLaws
 pub mod FileTheorem
 pub mod ChunkLaws
+pub mod Parts
