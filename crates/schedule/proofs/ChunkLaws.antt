@@ -21,6 +21,7 @@ use Rattle.table.specs.declared.Entry.{Entry}
 use Rattle.table.specs.declared.Table.{Table}
 use Rattle.step.specs.Contracts.{refusalNumber, called, due, over, Decides}
 use Rattle.step.specs.Steps.{stepOf}
+use Rattle.step.proofs.StepLaws.{decided-reached}
 use Rattle.step.proofs.Reachable.{Reached, reached-passes, reached-step, reached-fresh}
 use Rattle.step.proofs.View.{step-carries}
 use Rattle.step.proofs.ReportLaws.{length-report-lines}
@@ -69,11 +70,6 @@ module _ (s : Session) (l : Lists.List ℕ) (ls : Lists.List (Lists.List ℕ)) (
       → runLines s (l ∷ ls) ≡ behind (printed (s .lines + 1) (refusalNumber (d .refusal)) (due (d .written) (s .lines + 1) (take (s .table .count) (d .«record» .«scan_result»))))
       (runLines (session (s .lines + 1) (s .refusal) (store (s .table) (d .place) (d .«record»))) ls)
   run-step station code job d e D = run-next ∙ rw (e, D .refusal, D .table, ← D .bytes) refl
-
-decided-reached : (t : Table) → Reached t → (line code station job : ℕ) (d : Decision) → Decides t (called line code station job 928) d → Reached (store t (d .place) (d .«record»))
-decided-reached t r line code station job d D =
-    let c = called line code station job 928 in
-    subst Reached (ap (λ a. a .table) (sym (step-carries t c (reached-passes t r))) ∙ sym (D .table)) (reached-step t r c)
 
 -- the bytes that are due are those that the decision counts
 pub due-long : {t : Table} {c : Call} {d : Decision} → Decides t c d → d .written ≡ length (due (d .written) (c .line) (take (t .count) (d .«record» .«scan_result»)))
@@ -238,7 +234,7 @@ module _ {s : Session} {chunk out₀ : Lists.List ℕ} {t : Table} {lines writte
             → Sofar s chunk out₀ (store t (d .place) (d .«record»)) (lines + 1) (written + n) (at + length l) (putMid written k out x)
         sofar-more n x b c = record {
           live = f .live;
-          reached = decided-reached t (f .reached) 0 code station job d (D 0);
+          reached = decided-reached t (f .reached) (called 0 code station job 928) d (D 0);
           within = at-next l p .0;
           room = rw p (omega (arith, b, f .room, line-within chunk at h, shown-short));
           bytes = f .bytes ++ shown;

@@ -1,7 +1,7 @@
 -- The decision on a call makes the answer of `stepOf`.
 use Prim.Native.Nat.{ℕ, _-_, _*_, _≤_, _<_}
 use native.Mathlib.Omega.{arith}
-use mathlib.Core.Path.{_≡_, refl, sym, ap, ap₂, _∙_}
+use mathlib.Core.Path.{_≡_, refl, sym, ap, ap₂, subst, _∙_}
 use mathlib.Core.Logic.{_≢_}
 use mathlib.Core.Bool.{Bool, true, false, cond}
 use mathlib.Core.List as Lists
@@ -24,6 +24,7 @@ use Rattle.step.specs.Steps.{refuse, carryOut, move, stepOf}
 use Rattle.simulation.proofs.Judged.{Roomy, roomy, Own, Verdict, turned, own, verdict}
 use Rattle.step.specs.Contracts.{refusalNumber, moveOf, called, recordAfter, reportSize, placeOf, due, over, Decides, Steps}
 use Rattle.step.proofs.View.{step-carries, carried-count}
+use Rattle.step.proofs.Reachable.{Reached, reached-passes, reached-step}
 use Rattle.step.proofs.ReportLaws.{length-report-lines}
 use Rattle.step.specs.declared.Decision.{Decision}
 use Rattle.step.specs.declared.Move.{Move}
@@ -167,6 +168,13 @@ pub carried-out : (t : Table) (c : Call) (buffer : Lists.List ℕ) (d : Decision
     → buffer′ ≡ over (due (d .written) (c .line) (take (t .count) (d .«record» .«scan_result»))) buffer → Steps t c buffer (store t (d .place) (d .«record»)) r buffer′
 carried-out t c buffer d r buffer′ D e w b =
     record { table = D .table; refusal = ap refusalNumber e ∙ D .refusal; written = w ∙ D .written; report = b ∙ ap (λ x. over x buffer) (sym (D .bytes)) }
+
+-- what a decision stores on a reached table leaves one that is reached, and so well-formed again
+pub decided-reached : (t : Table) → Reached t → (c : Call) (d : Decision) → Decides t c d → Reached (store t (d .place) (d .«record»))
+decided-reached t r c d D = subst Reached (ap (λ a. a .table) (sym (step-carries t c (reached-passes t r))) ∙ sym (D .table)) (reached-step t r c)
+
+pub decided-well-formed : (t : Table) → Reached t → (c : Call) (d : Decision) → Decides t c d → wellFormed (store t (d .place) (d .«record»)) ≡ true
+decided-well-formed t r c d D = reached-passes (store t (d .place) (d .«record»)) (decided-reached t r c d D)
 
 -- an empty buffer stays empty
 pub empty-buffer : (t : Table) (c : Call) (t′ : Table) (r : Reply) (buffer : Lists.List ℕ) → Steps t c [] t′ r buffer → length buffer ≡ 0 → Steps t c [] t′ r []
