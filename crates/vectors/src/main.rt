@@ -1,5 +1,5 @@
 // Runs the vectors that its arguments name: the report of NAME.in must be NAME.out, byte for byte.
-ghost use Prim.Native.Nat.{ℕ, _+_, _≤_};
+ghost use Prim.Native.Nat.{_+_, _≤_};
 ghost use lib.ListN.{length};
 ghost use Rattle.io.specs.Counts.{Counts};
 use libc::STDOUT_FILENO;
@@ -46,7 +46,7 @@ fn header_end(file: &[u8]) -> usize
     if file.len() < 18 { file.len() } else { 18 }
 }
 
-// Writes the report of a file, and hands back its bytes.
+// Writes the report of a file, and hands back its bytes. 65,536 bytes have at most 3,641 lines, each of which may report 928 bytes.
 fn report(file: &[u8], out: &mut [u8]) -> usize
     requires { ⌜ length (now file) ≤ 65536 ⌝ }
     requires { ⌜ 3378848 ≤ length (now out) ⌝ }
