@@ -1,33 +1,33 @@
 -- The lines of a part of the file, one after the other: what one line more gives, and what stands in the output buffer meanwhile.
-use mathlib.Core.Path.{_≡_, refl, sym, ap, subst, _∙_}
+use mathlib.Core.Path.{_≡_, refl, sym, ap, ap₂, subst, _∙_}
 use mathlib.Core.Logic.{_≢_, _⊎_, inl, inr, ⊎-elim}
 use mathlib.Core.Bool.{Bool, true, false, not, cond}
 use mathlib.Core.List as Lists
 use mathlib.Core.List.{[], _∷_, _++_, append-assoc, append-nil}
 use Prim.Native.Nat.{ℕ, zero, suc, _+_, _-_, _*_, _/_, _≤_, _<_}
 use native.Mathlib.Omega.{arith}
-use lib.ListN.{length, take, drop, length-append, length-take, length-drop, take-append-drop, drop-of-length-le}
+use lib.ListN.{length, getD, take, drop, length-append, length-take, length-drop, take-append-drop, drop-of-length-le}
 use lib.Seq.{take-at, drop-at, drop-append-le, drop-drop, length-take-le, take-all}
 use lib.Dec.{eqb, leb}
 use borrow.Author.Tests.{eq-eqb, ne-eqb, eqb-true, eqb-false, leb-true, leb-false}
 use borrow.Rule.Slice.PartMut.{midOf, putMid}
 use Rattle.columns.specs.Columns.{reportLine}
 use Rattle.columns.proofs.ColumnLaws.{length-report-line}
-use Rattle.simulation.specs.Calls.{Call, reportLines}
+use Rattle.simulation.specs.Calls.{Move, numberOf, reportLines}
 use Rattle.label.specs.Tests.{within}
-use Rattle.label.proofs.Facts.{within-true}
-use Rattle.table.specs.Tables.{freshTable, store}
+use Rattle.label.proofs.Facts.{within-true, getD-any}
+use Rattle.table.specs.Tables.{freshTable, at, store}
 use Rattle.table.specs.declared.Entry.{Entry}
+use Rattle.table.specs.declared.Station.{Station}
 use Rattle.table.specs.declared.Table.{Table}
-use Rattle.step.specs.Contracts.{refusalNumber, called, due, over, Decides}
+use Rattle.step.specs.Contracts.{refusalNumber, called, recordAfter, reportSize, placeOf, due, over}
 use Rattle.step.specs.Steps.{stepOf}
-use Rattle.step.proofs.StepLaws.{decided-reached}
 use Rattle.step.proofs.Reachable.{Reached, reached-passes, reached-step, reached-fresh}
 use Rattle.step.proofs.View.{step-carries}
 use Rattle.step.proofs.ReportLaws.{length-report-lines}
+use Rattle.step.proofs.StepLaws.{Made}
 use Rattle.step.specs.declared.Refusal.{Refusal}
 use Rattle.step.specs.declared.Refusal.the-variants.{Accepted, StationCount, UnknownStep, JobOutOfRange}
-use Rattle.step.specs.declared.Decision.{Decision}
 use Rattle.schedule.specs.Lines.{lineRead}
 use Rattle.schedule.specs.Sessions.{session, closed, byHeader, headerOf, Served, refused, nextLine, stepLine}
 use Rattle.schedule.specs.Files.{cut, pieces, printed, runLines}
@@ -55,6 +55,14 @@ unfolding runLines
 final-run s [] d = refl
 final-run s (l ∷ ls) d = rw (ne-eqb _ _ d) refl
 
+-- the record that a move leaves at the place of a station
+abbrev left : Table → ℕ → ℕ → Move → Station
+left t station job w = recordAfter t (placeOf (t .count) station) job w
+
+-- what a line prints whose step is the move w and leaves the record r
+abbrev shownOf : Table → ℕ → Station → Move → Lists.List ℕ
+shownOf t lines r w = printed (lines + 1) (numberOf w) (due (reportSize (t .count) w) (lines + 1) (take (t .count) (r .«scan_result»)))
+
 module _ (s : Session) (l : Lists.List ℕ) (ls : Lists.List (Lists.List ℕ)) (live : refusalNumber (s .refusal) ≡ 0) (reached : Reached (s .table)) where
   run-next : runLines s (l ∷ ls) ≡ behind (printed (s .lines + 1) (stepLine s 928 (nextLine (s .lines) l) .refusal) (stepLine s 928 (nextLine (s .lines) l) .bytes))
       (runLines (stepLine s 928 (nextLine (s .lines) l) .session) ls)
@@ -66,14 +74,15 @@ module _ (s : Session) (l : Lists.List ℕ) (ls : Lists.List (Lists.List ℕ)) (
   run-refused r e =
       run-next ∙ rw (e, final-run (session (s .lines) r (s .table)) ls (next-refused (s .lines) l r e), append-nil) refl
 
-  run-step : (station code job : ℕ) (d : Decision) → nextLine (s .lines) l ≡ Step station code job → Decides (s .table) (called (s .lines + 1) code station job 928) d
-      → runLines s (l ∷ ls) ≡ behind (printed (s .lines + 1) (refusalNumber (d .refusal)) (due (d .written) (s .lines + 1) (take (s .table .count) (d .«record» .«scan_result»))))
-      (runLines (session (s .lines + 1) (s .refusal) (store (s .table) (d .place) (d .«record»))) ls)
-  run-step station code job d e D = run-next ∙ rw (e, D .refusal, D .table, ← D .bytes) refl
+  run-step : (station code job : ℕ) (w : Move) → nextLine (s .lines) l ≡ Step station code job → Made (s .table) (called (s .lines + 1) code station job 928) w
+      → runLines s (l ∷ ls) ≡ behind (shownOf (s .table) (s .lines) (left (s .table) station job w) w) (runLines (session (s .lines + 1) (s .refusal) (store (s .table) (placeOf (s .table .count) station) (left (s .table) station job w))) ls)
+  run-step station code job w e m = run-next ∙ rw (e, m .refusal, m .table, ← m .bytes) refl
 
--- the bytes that are due are those that the decision counts
-pub due-long : {t : Table} {c : Call} {d : Decision} → Decides t c d → d .written ≡ length (due (d .written) (c .line) (take (t .count) (d .«record» .«scan_result»)))
-due-long D = D .written ∙ ap length (D .bytes)
+-- a move leaves a table that is reached
+made-reached : (t : Table) → Reached t → (line code station job : ℕ) (w : Move) → Made t (called line code station job 928) w → Reached (store t (placeOf (t .count) station) (left t station job w))
+made-reached t r line code station job w m =
+    let c = called line code station job 928 in
+    subst Reached (ap (λ a. a .table) (sym (step-carries t c (reached-passes t r))) ∙ sym (m .table)) (reached-step t r c)
 
 -- BUFFERS
 
@@ -126,8 +135,8 @@ printed-due number refusal written n l h = go (eqb refusal 0) (eqb written 0)
 -- PLACES
 
 -- lines from a place on
-abbrev left : Lists.List ℕ → ℕ → ℕ
-left chunk at = (length chunk - at + 17) / 18
+abbrev ahead : Lists.List ℕ → ℕ → ℕ
+ahead chunk at = (length chunk - at + 17) / 18
 
 module _ (chunk : Lists.List ℕ) (at : ℕ) (h : at < length chunk) where
   abbrev line : Lists.List ℕ
@@ -140,7 +149,7 @@ module _ (chunk : Lists.List ℕ) (at : ℕ) (h : at < length chunk) where
       go true e = let m = leb-true 18 (length chunk - at) e in inl (m, length-take-le 18 (drop at chunk) (rw length-drop m))
       go false e = let m = leb-false 18 (length chunk - at) e in inr (m, ap length (take-all 18 (drop at chunk) (rw length-drop (omega arith))) ∙ length-drop at chunk)
 
-  line-within : (at + length line ≤ length chunk) × (0 < length line) × (left chunk at ≡ suc (left chunk (at + length line)))
+  line-within : (at + length line ≤ length chunk) × (0 < length line) × (ahead chunk at ≡ suc (ahead chunk (at + length line)))
   line-within = ⊎-elim (λ w. (omega arith, omega arith, omega arith)) (λ w. (omega arith, omega arith, omega arith)) line-long
 
   line-drop : drop 18 (drop at chunk) ≡ drop (at + length line) chunk
@@ -152,7 +161,7 @@ module _ (chunk : Lists.List ℕ) (at : ℕ) (h : at < length chunk) where
       short : (length chunk - at < 18) × (length line ≡ length chunk - at) → drop 18 (drop at chunk) ≡ drop (at + length line) chunk
       short w = drop-of-length-le (drop at chunk) {i = 18} (rw length-drop (omega arith)) ∙ sym (drop-of-length-le chunk {i = at + length line} (omega arith))
 
-  cut-line : cut (left chunk at) (drop at chunk) ≡ line ∷ cut (left chunk (at + length line)) (drop (at + length line) chunk)
+  cut-line : cut (ahead chunk at) (drop at chunk) ≡ line ∷ cut (ahead chunk (at + length line)) (drop (at + length line) chunk)
   unfolding cut
   cut-line = rw (line-within .2, line-drop) refl
 
@@ -162,11 +171,11 @@ pub record Sofar (s : Session) (chunk out₀ : Lists.List ℕ) (t : Table) (line
   pub live : refusalNumber (s .refusal) ≡ 0
   pub reached : Reached t
   pub within : at ≤ length chunk
-  pub room : written + 928 * left chunk at ≤ length out₀
+  pub room : written + 928 * ahead chunk at ≤ length out₀
   pub bytes : Lists.List ℕ
   pub long : written ≡ length bytes
   pub area : out ≡ over bytes out₀
-  pub runs : runLines s (cut (pieces chunk) chunk) ≡ behind bytes (runLines (session lines (s .refusal) t) (cut (left chunk at) (drop at chunk)))
+  pub runs : runLines s (cut (pieces chunk) chunk) ≡ behind bytes (runLines (session lines (s .refusal) t) (cut (ahead chunk at) (drop at chunk)))
 
 pub sofar-start : (s : Session) (chunk out : Lists.List ℕ) → refusalNumber (s .refusal) ≡ 0 → Reached (s .table) → 928 * pieces chunk ≤ length out → Sofar s chunk out (s .table) (s .lines) 0 0 out
 sofar-start s chunk out z r h = record {
@@ -177,7 +186,7 @@ sofar-start s chunk out z r h = record {
   bytes = [];
   long = refl;
   area = refl;
-  runs = let e : pieces chunk ≡ left chunk 0 = omega arith in ap (λ (k : ℕ). runLines s (cut k chunk)) e;
+  runs = let e : pieces chunk ≡ ahead chunk 0 = omega arith in ap (λ (k : ℕ). runLines s (cut k chunk)) e;
 }
 
 module _ {s : Session} {chunk out₀ : Lists.List ℕ} {t : Table} {lines written at : ℕ} {out : Lists.List ℕ} (f : Sofar s chunk out₀ t lines written at out) where
@@ -189,7 +198,7 @@ module _ {s : Session} {chunk out₀ : Lists.List ℕ} {t : Table} {lines writte
       → Serves (runLines s (cut (pieces chunk) chunk)) r out₀ out
   unfolding cut runLines
   sofar-end r e v w h =
-      let none : left chunk at ≡ 0 = omega arith in
+      let none : ahead chunk at ≡ 0 = omega arith in
       let q : runLines s (cut (pieces chunk) chunk) ≡ behind (f .bytes) (refused (session lines (s .refusal) t) (refusalNumber (s .refusal))) = f .runs ∙ rw none refl in
       rw (q, append-nil) (record { session = e; refusal = ap refusalNumber v; written = w ∙ f .long; report = f .area })
 
@@ -222,28 +231,33 @@ module _ {s : Session} {chunk out₀ : Lists.List ℕ} {t : Table} {lines writte
             report = rw c (put bytes (omega (arith, printed-refusal (lines + 1) (refusalNumber r))));
           })
 
-      -- a line that is served
-      module _ (station code job : ℕ) (a : nextLine lines l ≡ Step station code job) (d : Decision) (D : (number : ℕ) → Decides t (called number code station job 928) d) where
-        abbrev shown : Lists.List ℕ
-        shown = printed (lines + 1) (refusalNumber (d .refusal)) (due (d .written) (lines + 1) (take (t .count) (d .«record» .«scan_result»)))
+      -- a line that is served: a move stores its record
+      module _ (station code job : ℕ) (a : nextLine lines l ≡ Step station code job) (place : ℕ) (r : Station) (w : Move) (q : place ≡ placeOf (t .count) station)
+          (v : r ≡ recordAfter t place job w) (make : (line : ℕ) → Made t (called line code station job 928) w) where
+        record-left : r ≡ left t station job w
+        record-left = v ∙ ap (λ (i : ℕ). recordAfter t i job w) q
 
-        shown-short : length shown ≤ 928
-        shown-short = printed-due (lines + 1) (refusalNumber (d .refusal)) (d .written) (t .count) (d .«record» .«scan_result») (f .reached .good .high)
+        stored : store t place r ≡ store t (placeOf (t .count) station) (left t station job w)
+        stored = ap₂ (λ (i : ℕ) (x : Station). store t i x) q record-left
 
-        pub sofar-more : (n : ℕ) (x : Lists.List ℕ) → n ≡ length shown → x ≡ over shown (midOf written k out)
-            → Sofar s chunk out₀ (store t (d .place) (d .«record»)) (lines + 1) (written + n) (at + length l) (putMid written k out x)
+        pub shown-short : length (shownOf t lines r w) ≤ 928
+        shown-short = printed-due (lines + 1) (numberOf w) (reportSize (t .count) w) (t .count) (r .«scan_result») (f .reached .good .high)
+
+        pub sofar-more : (n : ℕ) (x : Lists.List ℕ) → n ≡ length (shownOf t lines r w) → x ≡ over (shownOf t lines r w) (midOf written k out)
+            → Sofar s chunk out₀ (store t place r) (lines + 1) (written + n) (at + length l) (putMid written k out x)
         sofar-more n x b c = record {
           live = f .live;
-          reached = decided-reached t (f .reached) (called 0 code station job 928) d (D 0);
+          reached = rw stored (made-reached t (f .reached) 0 code station job w (make 0));
           within = at-next l p .0;
           room = rw p (omega (arith, b, f .room, line-within chunk at h, shown-short));
-          bytes = f .bytes ++ shown;
-          long = omega (arith, b, f .long, length-append (f .bytes) shown);
-          area = rw c (put shown shown-short);
-          runs = f .runs
+          bytes = f .bytes ++ shownOf t lines r w;
+          long = omega (arith, b, f .long, length-append (f .bytes) (shownOf t lines r w));
+          area = rw c (put (shownOf t lines r w) shown-short);
+          runs =
+              f .runs
               ∙ ap (λ ls. behind (f .bytes) (runLines (session lines (s .refusal) t) ls)) (cut-line chunk at h)
-              ∙ ap (behind (f .bytes)) (run-step (session lines (s .refusal) t) (take 18 (drop at chunk)) _ (f .live) (f .reached) station code job d (rw p at a) (D (lines + 1)))
-              ∙ rw (p, append-assoc) refl;
+              ∙ ap (behind (f .bytes)) (run-step (session lines (s .refusal) t) (take 18 (drop at chunk)) _ (f .live) (f .reached) station code job w (rw p at a) (make (lines + 1)))
+              ∙ rw (stored, p, ← record-left, append-assoc) refl;
         }
 
 -- no line follows a final refusal
@@ -321,3 +335,10 @@ by-header (Step n code job) = go (eqb code 0) (within 2 32 n) refl (eqb job 0)
 pub header-reached : (s : Session) (l : Lists.List ℕ) → s ≡ headerOf l → Reached (s .table) × (s .lines ≤ 1000001)
 unfolding headerOf
 header-reached s l e = let h = by-header (lineRead l) in rw e (h .0, omega (arith, h .1))
+
+-- the record that the code reads on a reached table
+pub reached-at : (t : Table) → Reached t → (k : ℕ) → k < t .count → (d : Station) → getD (t .stations) k d ≡ at t k
+reached-at t r k h d = getD-any (t .stations) k d _ (omega (arith, r .good .places, r .good .high))
+
+pub reached-left : (s : Session) (lines : ℕ) (r : Refusal) (t : Table) → s ≡ session lines r t → Reached t → Reached (s .table)
+reached-left s lines r t e g = rw e g

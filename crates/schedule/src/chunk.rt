@@ -1,19 +1,23 @@
 // The lines of a part of a schedule file, one after the other, and what they print.
 ghost use mathlib.Core.Path.{_≡_};
 ghost use mathlib.Core.List.{[]};
-ghost use Prim.Native.Nat.{ℕ, _+_, _*_, _/_, _≤_};
+ghost use Prim.Native.Nat.{_+_, _*_, _≤_};
 ghost use lib.ListN.{length, take, drop};
-ghost use Rattle.step.specs.Contracts.{refusalNumber, due, over};
+ghost use Rattle.step.specs.Contracts.{refusalNumber, moveOf, reportSize, due, over};
+ghost use Rattle.simulation.specs.Calls.{numberOf};
 ghost use Rattle.step.proofs.Reachable.{Reached};
 ghost use Rattle.schedule.specs.Files.{cut, pieces, printed, headerPrinted, runLines};
+ghost use Rattle.schedule.specs.Sessions.{session};
 ghost use Rattle.schedule.specs.Contracts.{Serves};
 use crate::Line;
 use crate::Served;
 use crate::Session;
 use crate::next_line;
+use step::Move;
 use step::Refusal;
 use step::Reply;
 use table::Entry;
+use table::Table;
 
 // Writes the refusal line of the line that follows `lines` others to the front of `out`, and nothing for no refusal; hands back its bytes.
 fn print_refusal(lines: u32, refusal: Refusal, out: &mut [u8]) -> usize
@@ -29,22 +33,16 @@ fn print_refusal(lines: u32, refusal: Refusal, out: &mut [u8]) -> usize
     29
 }
 
-// Writes what a decided line prints to the front of `out`: its refusal, or the `written` bytes that are due; hands back its bytes.
-fn print_line(
-    lines: u32,
-    refusal: Refusal,
-    written: usize,
-    result: [Entry; 32],
-    n: usize,
-    out: &mut [u8],
-) -> usize
+// Writes what a served line prints to the front of `out`: its refusal, or the report that its move makes due; hands back its bytes.
+fn print_move(lines: u32, m: Move, result: [Entry; 32], n: usize, out: &mut [u8]) -> usize
     requires { ⌜ n ≤ 32 ⌝ }
     requires { ⌜ 928 ≤ length (now out) ⌝ }
-    requires { ⌜ written ≡ length (due written (lines + 1) (take n result)) ⌝ }
-    ensures { λ r. ⌜ r ≡ length (printed (lines + 1) (refusalNumber refusal) (due written (lines + 1) (take n result))) ⌝ }
-    ensures { λ _. ⌜ now (out .exit) ≡ over (printed (lines + 1) (refusalNumber refusal) (due written (lines + 1) (take n result))) (now (out .entry)) ⌝ }
+    ensures { λ r. ⌜ r ≡ length (printed (lines + 1) (numberOf (moveOf m)) (due (reportSize n (moveOf m)) (lines + 1) (take n result))) ⌝ }
+    ensures { λ _. ⌜ now (out .exit) ≡ over (printed (lines + 1) (numberOf (moveOf m)) (due (reportSize n (moveOf m)) (lines + 1) (take n result))) (now (out .entry)) ⌝ }
 {
+    let refusal = step::refusal_of(m);
     if refusal.number() == 0 {
+        let written = step::report_size(m, n);
         step::write_due(written, result, n, lines as u64 + 1, out);
         return written;
     }
@@ -73,7 +71,23 @@ pub fn report_header(s: Session, out: &mut [u8]) -> usize
     print_refusal(0, refusal, out)
 }
 
+// A session, and the reply to its last line.
+fn outcome(lines: u32, refusal: Refusal, table: Table, written: usize) -> Served
+    ensures { λ r. ⌜ r .session ≡ session lines refusal table ⌝ }
+    ensures { λ r. ⌜ (r .reply .refusal ≡ refusal) × (r .reply .written ≡ written) ⌝ }
+{
+    Served {
+        session: Session {
+            lines,
+            refusal,
+            table,
+        },
+        reply: Reply { refusal, written },
+    }
+}
+
 // Serves the lines of a part of the file, up to a final refusal, and writes what they print.
+// The table is a local in which each step stores its record: handed from call to call it would be copied each time.
 pub fn report_lines(s: Session, chunk: &[u8], out: &mut [u8]) -> Served
     requires { ⌜ Reached (s .table) ⌝ }
     requires { ⌜ 928 * pieces (now chunk) ≤ length (now out) ⌝ }
@@ -86,42 +100,28 @@ pub fn report_lines(s: Session, chunk: &[u8], out: &mut [u8]) -> Served
     let mut written = 0;
     let mut at = 0;
     if refusal.number() != 0 {
-        return Served {
-            session: s,
-            reply: Reply { refusal, written },
-        };
+        return outcome(lines, refusal, t, written);
     }
     while at < chunk.len() {
         let line = line_at(chunk, at);
         match next_line(lines, line) {
             Line::Refused(r) => {
                 let k = print_refusal(lines, r, &mut out[written..written + 928]);
-                return Served {
-                    session: Session {
-                        lines,
-                        refusal: r,
-                        table: t,
-                    },
-                    reply: Reply {
-                        refusal: r,
-                        written: written + k,
-                    },
-                };
+                return outcome(lines, r, t, written + k);
             }
             Line::Step { station, code, job } => {
-                let d = step::decide(t, code, station, job, 928);
-                let place = d.place;
-                let verdict = d.refusal;
-                let record = d.record;
+                let n = t.count;
+                let place = step::place_of(station, n);
+                let old = t.stations[place];
+                let p = old.phase;
+                let m = step::judge(n, p, code, station, job, 928);
+                let record = match m {
+                    Move::SnapLabel => step::snapped(old, t.pending_after(place)),
+                    Move::SnapScan => step::scanned(old, t.scan()),
+                    _ => step::moved(old, m, job),
+                };
                 let result = record.scan_result;
-                let k = print_line(
-                    lines,
-                    verdict,
-                    d.written,
-                    result,
-                    t.count,
-                    &mut out[written..written + 928],
-                );
+                let k = print_move(lines, m, result, n, &mut out[written..written + 928]);
                 t.stations[place] = record;
                 lines += 1;
                 written += k;
@@ -129,12 +129,5 @@ pub fn report_lines(s: Session, chunk: &[u8], out: &mut [u8]) -> Served
             }
         }
     }
-    Served {
-        session: Session {
-            lines,
-            refusal,
-            table: t,
-        },
-        reply: Reply { refusal, written },
-    }
+    outcome(lines, refusal, t, written)
 }

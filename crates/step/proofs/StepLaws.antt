@@ -9,12 +9,15 @@ use mathlib.Core.List.{[], _∷_}
 use lib.ListN.{length, getD, take}
 use lib.Seq.{set-getD, length-take-le}
 use mir.Val.{Val}
+use types.Run.{OneOf, miss}
+use denote.Enum.Declared.{tagOf}
 use denote.Shadow.{shadow}
-use borrow.Author.Tests.{ne-eqb}
+use lib.Dec.{eqb}
+use borrow.Author.Tests.{ne-eqb, eqb-true}
 use Rattle.label.specs.Tests.{within}
 use Rattle.label.proofs.Facts.{getD-any, within-true, within-of}
 use Rattle.simulation.specs.Calls as Calls
-use Rattle.simulation.specs.Calls.{Call, judge, numberOf, place}
+use Rattle.simulation.specs.Calls.{Call, judge, numberOf, place, reportLines}
 use Rattle.table.specs.Tables.{at, store}
 use Rattle.table.specs.WellFormed.{wellFormed}
 use Rattle.table.proofs.Orders.{passed}
@@ -28,17 +31,46 @@ use Rattle.step.proofs.Reachable.{Reached, reached-passes, reached-step
 use Rattle.step.proofs.ReportLaws.{length-report-lines}
 use Rattle.step.specs.declared.Decision.{Decision}
 use Rattle.step.specs.declared.Move.{Move}
+use Rattle.step.specs.declared.Move.the-variants.{Refused, BeginLabel, BeginScan, SnapLabel, SnapScan, Update, EndLabel, EndScan}
+use Rattle.step.proofs.Move.{the-type}
 use Rattle.step.specs.declared.Reply.{Reply}
+use Rattle.table.specs.declared.Entry.{Entry}
 use Rattle.table.specs.declared.Phase.{Phase}
 use Rattle.table.specs.declared.Station.{Station}
 use Rattle.table.specs.declared.Table.{Table}
 
--- the record v that f makes of the one read at place k is that of the move m, which is w
-pub record-made : (f : Station → Station) (w : Move) (t : Table) (vs : Lists.List Val) → shadow (the-row .own t vs) → wellFormed t ≡ true → (k job : ℕ) → k < t .count
-    → (d : Station) {v : Station} {m : Move} → v ≡ f (getD (t .stations) k d) → f (at t k) ≡ recordAfter t k job (moveOf w) → m ≡ w → v ≡ recordAfter t k job (moveOf m)
-record-made f w t vs s ok k job h d made law told =
-    made ∙ ap f (getD-any (t .stations) k d _ (omega (arith, passed t ok .high, stations-long t vs s))) ∙ law
-    ∙ sym (ap (λ (m : Move). recordAfter t k job (moveOf m)) told)
+-- the record that the code reads at a station's place
+pub station-at : (t : Table) (vs : Lists.List Val) → shadow (the-row .own t vs) → wellFormed t ≡ true → (k : ℕ) → k < t .count → (d : Station) → getD (t .stations) k d ≡ at t k
+station-at t vs s ok k h d = getD-any (t .stations) k d _ (omega (arith, passed t ok .high, stations-long t vs s))
+
+-- the record v that f makes of the one at place k is that of the move m, which is w
+pub record-moved : (f : Station → Station) (w : Move) (t : Table) (k job : ℕ) (s : Station) {v : Station} {m : Move} → v ≡ f s → s ≡ at t k → f (at t k) ≡ recordAfter t k job (moveOf w) → m ≡ w
+    → v ≡ recordAfter t k job (moveOf m)
+record-moved f w t k job s made stands law told = made ∙ ap f stands ∙ law ∙ sym (ap (λ (m : Move). recordAfter t k job (moveOf m)) told)
+
+-- 3 and 4 for the moves that take a snapshot
+abbrev snapOf : Calls.Move → ℕ
+snapOf (Calls.Move.refused x) = 0
+snapOf Calls.Move.beginsLabel = 0
+snapOf Calls.Move.beginsScan = 0
+snapOf Calls.Move.snapsLabel = 3
+snapOf Calls.Move.snapsScan = 4
+snapOf Calls.Move.updates = 0
+snapOf Calls.Move.endsLabel = 0
+snapOf Calls.Move.endsScan = 0
+
+none-of : (m : Move) → OneOf (0 ∷ 1 ∷ 2 ∷ 5 ∷ 6 ∷ 7 ∷ []) (tagOf the-type m) → snapOf (moveOf m) ≡ 0
+none-of (Refused x) h = refl
+none-of BeginLabel h = refl
+none-of BeginScan h = refl
+none-of SnapLabel h = absurd (miss (0 ∷ 1 ∷ 2 ∷ 5 ∷ 6 ∷ 7 ∷ []) 3 tt h)
+none-of SnapScan h = absurd (miss (0 ∷ 1 ∷ 2 ∷ 5 ∷ 6 ∷ 7 ∷ []) 4 tt h)
+none-of Update h = refl
+none-of EndLabel h = refl
+none-of EndScan h = refl
+
+pub no-snap : (m : Move) → OneOf (0 ∷ 1 ∷ 2 ∷ 5 ∷ 6 ∷ 7 ∷ []) (tagOf the-type m) → (moveOf m ≢ Calls.Move.snapsLabel) × (moveOf m ≢ Calls.Move.snapsScan)
+no-snap m h = (λ e. omega (arith, ap snapOf e, none-of m h), λ e. omega (arith, ap snapOf e, none-of m h))
 
 -- the place of a station that there is, and of one that there is not
 pub place-below : (n station : ℕ) → 2 ≤ n → placeOf n station < n
@@ -94,68 +126,97 @@ module _ (t : Table) (c : Call) where
   stored Calls.Move.endsLabel e = rw e refl
   stored Calls.Move.endsScan e = rw e refl
 
-  -- the bytes of report, as a decision gives them
-  Reported : Calls.Move → Type 0
-  Reported w = (reportSize (t .count) w ≡ length (carryOut t c w .bytes))
-      × (carryOut t c w .bytes ≡ due (reportSize (t .count) w) (c .line) (take (t .count) (recordAfter t here (c .job) w .«scan_result»)))
+  abbrev reportOf : Calls.Move → Lists.List ℕ
+  reportOf w = due (reportSize (t .count) w) (c .line) (take (t .count) (recordAfter t here (c .job) w .«scan_result»))
 
-  module _ (low : 2 ≤ t .count) (long : t .count ≤ length (at t here .«scan_result»)) where
-    reported : (w : Calls.Move) → here ≡ place c → Reported w
-    unfolding recordAfter carryOut Reported
-    reported (Calls.Move.refused x) e = (refl, refl)
-    reported Calls.Move.beginsLabel e = (refl, refl)
-    reported Calls.Move.beginsScan e = (refl, refl)
-    reported Calls.Move.snapsLabel e = (refl, refl)
-    reported Calls.Move.snapsScan e = (refl, refl)
-    reported Calls.Move.updates e = (refl, refl)
-    reported Calls.Move.endsLabel e = (refl, refl)
-    reported Calls.Move.endsScan e = (
-      sym (length-report-lines (c .line) 1 _ ∙ ap (λ k. k * 29) (length-take-le (t .count) _ (rw e at long))),
-      rw (ne-eqb (t .count * 29) 0 (λ z. omega arith), e) refl,
-    )
+  reported : 2 ≤ t .count → (w : Calls.Move) → here ≡ place c → carryOut t c w .bytes ≡ reportOf w
+  unfolding recordAfter carryOut
+  reported low (Calls.Move.refused x) e = refl
+  reported low Calls.Move.beginsLabel e = refl
+  reported low Calls.Move.beginsScan e = refl
+  reported low Calls.Move.snapsLabel e = refl
+  reported low Calls.Move.snapsScan e = refl
+  reported low Calls.Move.updates e = refl
+  reported low Calls.Move.endsLabel e = refl
+  reported low Calls.Move.endsScan e = rw (ne-eqb (t .count * 29) 0 (λ z. omega arith), e) refl
 
-    by-verdict : {w : Calls.Move} → Verdict (t .count) c w → (store t here (recordAfter t here (c .job) w) ≡ carryOut t c w .table) × Reported w
-    unfolding recordAfter carryOut Reported
-    by-verdict (turned x) = (unchanged, (refl, refl))
-    by-verdict {w} (own o) = (stored w (here-is o), reported w (here-is o))
+  by-verdict : 2 ≤ t .count → {w : Calls.Move} → Verdict (t .count) c w → (store t here (recordAfter t here (c .job) w) ≡ carryOut t c w .table) × (carryOut t c w .bytes ≡ reportOf w)
+  unfolding recordAfter carryOut
+  by-verdict low (turned x) = (unchanged, refl)
+  by-verdict low {w} (own o) = (stored w (here-is o), reported low w (here-is o))
 
-    -- a decision made with what the call amounts to
-    decided : (d : Decision) → wellFormed t ≡ true → refusalNumber (d .refusal) ≡ numberOf (move t c) → d .place ≡ here → here < 32
-        → d .«record» ≡ recordAfter t here (c .job) (move t c) → d .written ≡ reportSize (t .count) (move t c) → Decides t c d
-    unfolding move Reported
-    decided d ok r p h s w =
-        let v = by-verdict (verdict (t .count) (at t (place c) .phase) c (move t c) refl) in
-        let e = step-carries t c ok in record {
-          refusal = r ∙ sym (ap (λ x. x .refusal) e ∙ carried-count t c (move t c) .1);
-          inside = rw p h;
-          table = rw (p, s) (v .0 ∙ sym (ap (λ x. x .table) e));
-          written = w ∙ v .1 .0 ∙ sym (ap (λ x. length (x .bytes)) e);
-          bytes = ap (λ x. x .bytes) e ∙ v .1 .1 ∙ ap₂ (λ (k : ℕ) (x : Station). due k (c .line) (take (t .count) (x .«scan_result»))) (sym w) (sym s);
-          fits = λ d. has-room (t .count) (c .room) (move t c) (roomy (t .count) (at t (place c) .phase) c) (λ z. d (w ∙ z));
-        }
+  -- the answer to a call that amounts to w, by the record that w leaves at the place of the station
+  pub record Made (w : Calls.Move) : Type 0 where
+    pub refusal : numberOf w ≡ stepOf t c .refusal
+    pub inside : here < t .count
+    pub high : t .count ≤ 32
+    pub table : store t here (recordAfter t here (c .job) w) ≡ stepOf t c .table
+    pub bytes : stepOf t c .bytes ≡ reportOf w
+    pub fits : reportSize (t .count) w ≢ 0 → t .count * 29 ≤ c .room
+
+  made : wellFormed t ≡ true → Made (move t c)
+  unfolding move
+  made ok =
+      let v = by-verdict (passed t ok .low) (verdict (t .count) (at t (place c) .phase) c (move t c) refl) in
+      let e = step-carries t c ok in record {
+        refusal = sym (ap (λ x. x .refusal) e ∙ carried-count t c (move t c) .1);
+        inside = place-below (t .count) (c .station) (passed t ok .low);
+        high = passed t ok .high;
+        table = v .0 ∙ sym (ap (λ x. x .table) e);
+        bytes = ap (λ x. x .bytes) e ∙ v .1;
+        fits = has-room (t .count) (c .room) (move t c) (roomy (t .count) (at t (place c) .phase) c);
+      }
 
 judge-line : (line n : ℕ) (p : Phase) (code station job room : ℕ) → judge n p (called 0 code station job room) ≡ judge n p (called line code station job room)
 unfolding judge
 judge-line line n p code station job room = refl
 
--- the code's decision: on the record at the place it judges the call, and by that it decides
-pub decide-law : (t : Table) → wellFormed t ≡ true → ((i : ℕ) → i < 32 → length (at t i .«scan_result») ≡ 32) → (code station job room : ℕ) (d : Decision) (p : Phase) (w : Calls.Move)
-    → d .place ≡ placeOf (t .count) station → p ≡ at t (d .place) .phase → w ≡ judge (t .count) p (called 0 code station job room)
-    → refusalNumber (d .refusal) ≡ numberOf w → d .«record» ≡ recordAfter t (d .place) job w → d .written ≡ reportSize (t .count) w
-    → (line : ℕ) → Decides t (called line code station job room) d
-decide-law t ok long code station job room d p w k ph judged r s n line =
-    decided t c (passed t ok .low) (omega (arith, long (placeOf (t .count) station) h, passed t ok .high)) d ok
-    (r ∙ ap numberOf same) k h (s ∙ ap₂ (λ (i : ℕ) (m : Calls.Move). recordAfter t i job m) k same) (n ∙ ap (reportSize (t .count)) same)
+-- the code judges a call by the record at the place of its station
+pub judged : (t : Table) → wellFormed t ≡ true → (code station job room k : ℕ) (p : Phase) (w : Calls.Move) → k ≡ placeOf (t .count) station → p ≡ at t k .phase
+    → w ≡ judge (t .count) p (called 0 code station job room) → (line : ℕ) → Made t (called line code station job room) w
+judged t ok code station job room k p w e ph h line = subst (Made t c) (sym same) (made t c ok)
   where
     c : Call
     c = called line code station job room
 
-    h : placeOf (t .count) station < 32
-    h = omega (arith, place-below (t .count) station (passed t ok .low), passed t ok .high)
-
     same : w ≡ move t c
-    same = judged ∙ judge-line line (t .count) p code station job room
-        ∙ ap (λ (q : Phase). judge (t .count) q c) (ph ∙ ap (λ (i : ℕ). at t i .phase) k) ∙ same-move t c
+    same = h ∙ judge-line line (t .count) p code station job room
+        ∙ ap (λ (q : Phase). judge (t .count) q c) (ph ∙ ap (λ (i : ℕ). at t i .phase) e) ∙ same-move t c
+
+-- the bytes that a move reports of a result, which has at least n entries if it is reported
+pub report-long : (n line : ℕ) (w : Calls.Move) (l : Lists.List Entry) → (w ≡ Calls.Move.endsScan → n ≤ length l) → reportSize n w ≡ length (due (reportSize n w) line (take n l))
+report-long n line (Calls.Move.refused x) l h = refl
+report-long n line Calls.Move.beginsLabel l h = refl
+report-long n line Calls.Move.beginsScan l h = refl
+report-long n line Calls.Move.snapsLabel l h = refl
+report-long n line Calls.Move.snapsScan l h = refl
+report-long n line Calls.Move.updates l h = refl
+report-long n line Calls.Move.endsLabel l h = refl
+report-long n line Calls.Move.endsScan l h = go (eqb (n * 29) 0) refl
+  where
+    go : (b : Bool) → eqb (n * 29) 0 ≡ b → n * 29 ≡ length (cond b [] (reportLines line 1 (take n l)))
+    go true e = eqb-true _ _ e
+    go false e = sym (length-report-lines line 1 (take n l) ∙ ap (λ k. k * 29) (length-take-le n l (h refl)))
+
+-- the code's decision: the record that the move leaves, and the bytes that it reports
+pub decide-law : (t : Table) (code station job room : ℕ) (d : Decision) (w : Calls.Move) → d .place ≡ placeOf (t .count) station → t .count ≤ length (at t (d .place) .«scan_result»)
+    → refusalNumber (d .refusal) ≡ numberOf w → d .«record» ≡ recordAfter t (d .place) job w → d .written ≡ reportSize (t .count) w
+    → ((line : ℕ) → Made t (called line code station job room) w) → (line : ℕ) → Decides t (called line code station job room) d
+unfolding recordAfter
+decide-law t code station job room d w k long r s n make line =
+    let m = make line in
+    let e : d .«record» ≡ recordAfter t (placeOf (t .count) station) job w = s ∙ ap (λ (i : ℕ). recordAfter t i job w) k in
+    let b : stepOf t (called line code station job room) .bytes ≡ due (d .written) line (take (t .count) (d .«record» .«scan_result»)) =
+    m .bytes ∙ ap₂ (λ (i : ℕ) (x : Station). due i line (take (t .count) (x .«scan_result»))) (sym n) (sym e) in
+    record {
+      refusal = r ∙ m .refusal;
+      inside = omega (arith, k, m .inside, m .high);
+      table = ap₂ (λ (i : ℕ) (x : Station). store t i x) k e ∙ m .table;
+      written = n ∙ report-long (t .count) line w (d .«record» .«scan_result») (λ q. rw (s, q) long)
+          ∙ ap (λ (i : ℕ). length (due i line (take (t .count) (d .«record» .«scan_result»)))) (sym n) ∙ ap length (sym b);
+      bytes = b;
+      fits = λ z. m .fits (λ y. z (n ∙ y));
+    }
 
 -- the outcome of a call: refused by 13, or as decided
 pub ill-formed : (t : Table) (c : Call) (buffer : Lists.List ℕ) (r : Reply) → wellFormed t ≡ false → refusalNumber (r .refusal) ≡ 13 → r .written ≡ 0 → Steps t c buffer t r buffer

@@ -4,7 +4,7 @@ use Rattle.simulation.specs.Calls.{judge}
 use Rattle.table.proofs.Orders.{passed}
 use Rattle.table.proofs.Owned.{record-read, results-long}
 use Rattle.step.specs.Contracts.{called}
-use Rattle.step.proofs.StepLaws.{place-below, decide-law}
+use Rattle.step.proofs.StepLaws.{place-below, judged, decide-law}
 use Rattle.simulation.proofs.Judged.{accepted-own}
 use borrow.Author.Needs.{needs}
 use Rattle.step.proofs.decide.Statement.{statement}
@@ -38,12 +38,16 @@ report-size-requires c κs = passed (c .before .before .before .before .before .
 returns : tie.Need-returns
 returns c =
     let t = c .before .before .before .before .before .before .args .t1 in
+    let a = c .before .before .before .before .before .before .args in
     let own = c .before .before .before .before .before .before .good .0 in
-    let k = c .before .before .before .before .before .place-of .ensures in
-    let p = passed t (c .before .before .before .before .before .before .pre) in
-    decide-law t (c .before .before .before .before .before .before .pre) (results-long t _ own) _ _ _ _ _ _ _ k
-    (record-read (λ s. s .phase) t _ own (c .before .before .before .before .before .place-of .result) refl (omega (arith, k, place-below (t .count) (c .before .before .before .before .before .before .args .station) (p .low), p .high)))
-    (c .before .before .before .judge .ensures) (c .before .before .refusal-of .ensures) (c .before .record-after .ensures) (c .report-size .ensures)
+    let k = c .before .before .before .before .before .place-of in
+    let ok = c .before .before .before .before .before .before .pre in
+    let p = passed t ok in
+    let h = place-below (t .count) (a .station) (p .low) in
+    let read = record-read (λ s. s .phase) t _ own (k .result) refl (omega (arith, k .ensures, h, p .high)) in
+    decide-law t _ _ _ _ _ _ (k .ensures) (omega (arith, results-long t _ own (k .result) (omega (arith, k .ensures, h, p .high)), p .high))
+    (c .before .before .refusal-of .ensures) (c .before .record-after .ensures) (c .report-size .ensures)
+    (judged t ok _ _ _ _ _ _ _ (k .ensures) read (c .before .before .before .judge .ensures))
 
 pub decide-spec : {M : Type 1} → statement M
 decide-spec =
