@@ -25,7 +25,7 @@ use Rattle.table.proofs.Owned.{stations-long}
 use Rattle.table.proofs.Table.{the-row}
 use Rattle.step.specs.Steps.{refuse, carryOut, move, stepOf}
 use Rattle.simulation.proofs.Judged.{Roomy, roomy, Own, Verdict, turned, own, verdict}
-use Rattle.step.specs.Contracts.{refusalNumber, moveOf, called, recordAfter, reportSize, placeOf, due, over, Decides, Steps}
+use Rattle.step.specs.Contracts.{refusalNumber, moveOf, called, recordAfter, recordMoved, reportSize, placeOf, due, over, Decides, Steps}
 use Rattle.step.proofs.View.{step-carries, carried-count}
 use Rattle.step.proofs.Reachable.{Reached, reached-passes, reached-step}
 use Rattle.step.proofs.ReportLaws.{length-report-lines}
@@ -47,6 +47,22 @@ station-at t vs s ok k h d = getD-any (t .stations) k d _ (omega (arith, passed 
 pub record-moved : (f : Station → Station) (w : Move) (t : Table) (k job : ℕ) (s : Station) {v : Station} {m : Move} → v ≡ f s → s ≡ at t k → f (at t k) ≡ recordAfter t k job (moveOf w) → m ≡ w
     → v ≡ recordAfter t k job (moveOf m)
 record-moved f w t k job s made stands law told = made ∙ ap f stands ∙ law ∙ sym (ap (λ (m : Move). recordAfter t k job (moveOf m)) told)
+
+-- what a move without a snapshot makes of the record at place k
+moved-after : (t : Table) (k job : ℕ) (w : Calls.Move) → w ≢ Calls.Move.snapsLabel → w ≢ Calls.Move.snapsScan → recordMoved (at t k) job w ≡ recordAfter t k job w
+unfolding recordMoved recordAfter
+moved-after t k job (Calls.Move.refused x) a b = refl
+moved-after t k job Calls.Move.beginsLabel a b = refl
+moved-after t k job Calls.Move.beginsScan a b = refl
+moved-after t k job Calls.Move.snapsLabel a b = absurd (a refl)
+moved-after t k job Calls.Move.snapsScan a b = absurd (b refl)
+moved-after t k job Calls.Move.updates a b = refl
+moved-after t k job Calls.Move.endsLabel a b = refl
+moved-after t k job Calls.Move.endsScan a b = refl
+
+pub moved-made : (t : Table) (k job : ℕ) (s : Station) {v : Station} (w : Calls.Move) → v ≡ recordMoved s job w → s ≡ at t k → w ≢ Calls.Move.snapsLabel → w ≢ Calls.Move.snapsScan
+    → v ≡ recordAfter t k job w
+moved-made t k job s w made stands a b = made ∙ ap (λ (x : Station). recordMoved x job w) stands ∙ moved-after t k job w a b
 
 -- 3 and 4 for the moves that take a snapshot
 abbrev snapOf : Calls.Move → ℕ

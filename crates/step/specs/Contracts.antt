@@ -67,6 +67,17 @@ recordAfter t k job Calls.Move.updates = updated (at t k)
 recordAfter t k job Calls.Move.endsLabel = inPhase (at t k) Idle
 recordAfter t k job Calls.Move.endsScan = inPhase (at t k) Idle
 
+-- the same of a record alone: a snap, which wants the table, leaves it here
+unfoldable pub recordMoved : Station → ℕ → Calls.Move → Station
+recordMoved s job (Calls.Move.refused r) = s
+recordMoved s job Calls.Move.beginsLabel = begun s job
+recordMoved s job Calls.Move.beginsScan = inPhase s (Snap Scan)
+recordMoved s job Calls.Move.snapsLabel = s
+recordMoved s job Calls.Move.snapsScan = s
+recordMoved s job Calls.Move.updates = updated s
+recordMoved s job Calls.Move.endsLabel = inPhase s Idle
+recordMoved s job Calls.Move.endsScan = inPhase s Idle
+
 abbrev pub reportSize : ℕ → Calls.Move → ℕ
 reportSize n (Calls.Move.refused r) = 0
 reportSize n Calls.Move.beginsLabel = 0

@@ -1,11 +1,7 @@
 use native.Mathlib.Omega.{arith}
-use mathlib.Core.Path.{refl, ap}
-use Rattle.step.specs.Steps.{begun, inPhase, updated}
-use Rattle.step.specs.Contracts.{moveOf, recordAfter}
-use Rattle.step.proofs.StepLaws.{record-moved}
-use Rattle.table.specs.declared.Phase.the-variants.{Idle, Snap}
-use Rattle.table.specs.declared.Operation.the-variants.{Scan}
-use Rattle.step.specs.declared.Move.the-variants.{Refused, BeginLabel, BeginScan, Update, EndLabel, EndScan}
+use mathlib.Core.Path.{sym, ap, _∙_}
+use Rattle.step.specs.Contracts.{moveOf, recordMoved}
+use Rattle.step.specs.declared.Move.{Move}
 use borrow.Author.Needs.{needs}
 use Rattle.step.proofs.moved.Statement.{statement}
 use Rattle.step.proofs.moved.Tie as tie
@@ -53,36 +49,36 @@ in-phase-requires-3 : tie.Need-in-phase-requires-3
 in-phase-requires-3 c κs = search needs
 
 returns : tie.Need-returns
-unfolding recordAfter
-returns c = λ t k e a b. record-moved (λ s. s) (Refused _) t k _ (c .before .before .args .s) refl e refl (c .enum-told .given .1)
+unfolding recordMoved
+returns c = sym (ap (λ (m : Move). recordMoved (c .before .before .args .s) (c .before .before .args .job) (moveOf m)) (c .enum-told .given .1))
 
 returns-2 : tie.Need-returns-2
-unfolding recordAfter
-returns-2 c = λ t k e a b. record-moved (λ s. begun s (c .before .before .before .args .job)) BeginLabel t k _ (c .before .before .before .args .s) (c .begun .ensures) e refl (c .before .enum-told2 .given .1)
+unfolding recordMoved
+returns-2 c = c .begun .ensures ∙ sym (ap (λ (m : Move). recordMoved (c .before .before .before .args .s) (c .before .before .before .args .job) (moveOf m)) (c .before .enum-told2 .given .1))
 
 returns-3 : tie.Need-returns-3
-unfolding recordAfter
-returns-3 c = λ t k e a b. record-moved (λ s. inPhase s (Snap Scan)) BeginScan t k _ (c .before .before .before .args .s) (c .in-phase .ensures) e refl (c .before .enum-told3 .given .1)
+unfolding recordMoved
+returns-3 c = c .in-phase .ensures ∙ sym (ap (λ (m : Move). recordMoved (c .before .before .before .args .s) (c .before .before .before .args .job) (moveOf m)) (c .before .enum-told3 .given .1))
 
 returns-4 : tie.Need-returns-4
-unfolding recordAfter
-returns-4 c = λ t k e a b. absurd (a (ap moveOf (c .enum-told4 .given .1)))
+unfolding recordMoved
+returns-4 c = sym (ap (λ (m : Move). recordMoved (c .before .before .args .s) (c .before .before .args .job) (moveOf m)) (c .enum-told4 .given .1))
 
 returns-5 : tie.Need-returns-5
-unfolding recordAfter
-returns-5 c = λ t k e a b. absurd (b (ap moveOf (c .enum-told5 .given .1)))
+unfolding recordMoved
+returns-5 c = sym (ap (λ (m : Move). recordMoved (c .before .before .args .s) (c .before .before .args .job) (moveOf m)) (c .enum-told5 .given .1))
 
 returns-6 : tie.Need-returns-6
-unfolding recordAfter
-returns-6 c = λ t k e a b. record-moved (λ s. updated s) Update t k _ (c .before .before .before .args .s) (c .updated .ensures) e refl (c .before .enum-told6 .given .1)
+unfolding recordMoved
+returns-6 c = c .updated .ensures ∙ sym (ap (λ (m : Move). recordMoved (c .before .before .before .args .s) (c .before .before .before .args .job) (moveOf m)) (c .before .enum-told6 .given .1))
 
 returns-7 : tie.Need-returns-7
-unfolding recordAfter
-returns-7 c = λ t k e a b. record-moved (λ s. inPhase s Idle) EndLabel t k _ (c .before .before .before .args .s) (c .in-phase2 .ensures) e refl (c .before .enum-told7 .given .1)
+unfolding recordMoved
+returns-7 c = c .in-phase2 .ensures ∙ sym (ap (λ (m : Move). recordMoved (c .before .before .before .args .s) (c .before .before .before .args .job) (moveOf m)) (c .before .enum-told7 .given .1))
 
 returns-8 : tie.Need-returns-8
-unfolding recordAfter
-returns-8 c = λ t k e a b. record-moved (λ s. inPhase s Idle) EndScan t k _ (c .before .before .before .args .s) (c .in-phase3 .ensures) e refl (c .before .enum-told8 .given .1)
+unfolding recordMoved
+returns-8 c = c .in-phase3 .ensures ∙ sym (ap (λ (m : Move). recordMoved (c .before .before .before .args .s) (c .before .before .before .args .job) (moveOf m)) (c .before .enum-told8 .given .1))
 
 pub moved-spec : {M : Type 1} → statement M
 moved-spec =

@@ -4,7 +4,7 @@ use Rattle.table.specs.Tables.{at}
 use Rattle.table.proofs.Orders.{passed}
 use Rattle.step.specs.Steps.{snapped, scanned}
 use Rattle.step.specs.Contracts.{recordAfter}
-use Rattle.step.proofs.StepLaws.{station-at, record-moved, no-snap}
+use Rattle.step.proofs.StepLaws.{station-at, record-moved, moved-made, no-snap}
 use Rattle.step.specs.declared.Move.the-variants.{SnapLabel, SnapScan}
 use borrow.Author.Needs.{needs}
 use Rattle.step.proofs.record_after.Statement.{statement}
@@ -59,7 +59,7 @@ returns-3 c =
     let args = c .before .before .before .args in
     let pre = c .before .before .before .pre in
     let other = no-snap (args .m) (c .before .match .keys3) in
-    c .moved .ensures (args .t1) (args .k) (station-at (args .t1) _ (c .before .before .before .good .0) (pre .0) (args .k) (pre .1 .0) _) (other .0) (other .1)
+    moved-made (args .t1) (args .k) (args .job) _ _ (c .moved .ensures) (station-at (args .t1) _ (c .before .before .before .good .0) (pre .0) (args .k) (pre .1 .0) _) (other .0) (other .1)
 
 pub record-after-spec : {M : Type 1} → statement M
 record-after-spec =

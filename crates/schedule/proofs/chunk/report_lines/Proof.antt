@@ -11,7 +11,7 @@ use Rattle.table.specs.Tables.{at}
 use Rattle.step.specs.Steps.{snapped, scanned}
 use Rattle.step.specs.Contracts.{refusalNumber, moveOf, called, recordAfter, reportSize}
 use Rattle.step.proofs.Reachable.{reached-passes}
-use Rattle.step.proofs.StepLaws.{place-below, record-moved, no-snap, judged}
+use Rattle.step.proofs.StepLaws.{place-below, record-moved, moved-made, no-snap, judged}
 use Rattle.table.specs.declared.Station.{Station}
 use Rattle.step.specs.declared.Move.the-variants.{SnapLabel, SnapScan}
 use Rattle.schedule.specs.Sessions.{session}
@@ -195,7 +195,7 @@ loop-again c =
     (λ w. w .4 ∙ record-moved (λ s. snapped s (w .2 .result)) SnapLabel t (k .result) job _ (w .3 .ensures) stands (ap (snapped (at t (k .result))) (w .2 .ensures)) (w .1 .given .1))
     (⊎-elim
     (λ w. w .4 ∙ record-moved (λ s. scanned s (w .2 .result)) SnapScan t (k .result) job _ (w .3 .ensures) stands (ap (scanned (at t (k .result))) (w .2 .ensures)) (w .1 .given .1))
-    (λ w. let other = no-snap m (w .0 .keys3) in w .2 ∙ w .1 .ensures t (k .result) stands (other .0) (other .1)))
+    (λ w. let other = no-snap m (w .0 .keys3) in w .2 ∙ moved-made t (k .result) job _ _ (w .1 .ensures) stands (other .0) (other .1)))
     (c .before .before .before .before .before .match2 .came) in
     let make = judged t (reached-passes t g) code station job 928 (k .result) _ (moveOf m) (k .ensures) (ap (λ (s : Station). s .phase) stands) (c .before .before .before .before .before .before .judge .ensures) in
     sofar-more (l .inv) (c .before .before .before .before .before .before .before .before .before .before .before .before .before .before .loop-test .taken) _ (c .before .before .before .before .before .before .before .before .before .before .before .before .before .line-at .ensures) (l .written + 928 - l .written) (omega arith) station code job (sym (c .before .before .before .before .before .before .before .before .before .before .before .before .next-line .ensures) ∙ said .1)
