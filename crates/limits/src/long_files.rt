@@ -3,7 +3,7 @@ use crate::print;
 use schedule::Session;
 ghost use Prim.Native.Nat.{_≤_};
 ghost use lib.ListN.{length};
-ghost use Rattle.step.proofs.Reachable.{Reached};
+ghost use Rattle.transition.proofs.Reachable.{Reached};
 
 // The session after some parts, and the bytes that they have reported.
 struct Total {

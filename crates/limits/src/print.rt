@@ -2,7 +2,7 @@
 ghost use Prim.Native.Nat.{_*_, _≤_};
 ghost use lib.ListN.{length};
 ghost use Rattle.schedule.specs.Files.{pieces};
-ghost use Rattle.step.proofs.Reachable.{Reached};
+ghost use Rattle.transition.proofs.Reachable.{Reached};
 use libc::STDOUT_FILENO;
 use schedule::Session;
 

@@ -21,9 +21,9 @@ use Rattle.table.specs.declared.Entry.{Entry}
 use Rattle.table.specs.declared.Station.{Station}
 use Rattle.table.specs.declared.Table.{Table}
 use Rattle.step.specs.Contracts.{refusalNumber, called, recordAfter, reportSize, placeOf, due, over}
-use Rattle.step.specs.Steps.{stepOf}
-use Rattle.step.proofs.Reachable.{Reached, reached-passes, reached-step, reached-fresh}
-use Rattle.step.proofs.View.{step-carries}
+use Rattle.transition.specs.Steps.{stepOf}
+use Rattle.transition.proofs.Reachable.{Reached, reached-passes, reached-step, reached-fresh}
+use Rattle.transition.proofs.View.{step-carries}
 use Rattle.step.proofs.ReportLaws.{length-report-lines}
 use Rattle.step.proofs.StepLaws.{Made}
 use Rattle.step.specs.declared.Refusal.{Refusal}

@@ -16,12 +16,12 @@ use Rattle.columns.specs.declared.Column.{Column}
 use Rattle.columns.specs.declared.Column.the-variants.{Value, Bad}
 use Rattle.simulation.specs.Calls.{Call}
 use Rattle.table.specs.Tables.{freshTable}
-use Rattle.step.specs.Steps.{stepOf}
-use Rattle.step.specs.Demand.{run, seen, Demand3}
+use Rattle.transition.specs.Steps.{stepOf}
+use Rattle.transition.specs.Demand.{run, seen, Demand3}
 use Rattle.step.specs.Contracts.{refusalNumber, called}
-use Rattle.step.proofs.View.{step-carries}
-use Rattle.step.proofs.Reachable.{Reached, reached-passes, reached-step, reached-fresh}
-use Rattle.step.proofs.Theorem as Theorem
+use Rattle.transition.proofs.View.{step-carries}
+use Rattle.transition.proofs.Reachable.{Reached, reached-passes, reached-step, reached-fresh}
+use Rattle.transition.proofs.Theorem as Theorem
 use Rattle.schedule.specs.Lines.{stepRead, lineRead}
 use Rattle.schedule.specs.Sessions.{session, closed, byHeader, headerOf, isFinal, nextLine, stepLine, serveOf}
 use Rattle.schedule.specs.Files.{refusalLine, printed, runLines, headerPrinted, fileReport}

@@ -9,7 +9,7 @@ use Rattle.simulation.specs.Calls.{Call}
 use Rattle.simulation.specs.Machine as Machine
 use Rattle.simulation.specs.Machine.{Seen, runᵘ}
 use Rattle.step.specs.Contracts.{refusalNumber, called}
-use Rattle.step.specs.Demand.{Demand3}
+use Rattle.transition.specs.Demand.{Demand3}
 use Rattle.schedule.specs.Sessions.{nextLine}
 use Rattle.schedule.specs.Files.{cut, pieces, refusalLine, printed, fileReport}
 use Rattle.schedule.specs.declared.Line.{Line}

@@ -7,7 +7,7 @@ use lib.Dec.{eqb, ltb}
 use Rattle.label.specs.Tests.{within}
 use Rattle.table.specs.Tables.{freshTable}
 use Rattle.table.specs.WellFormed.{wellFormed}
-use Rattle.step.specs.Steps.{stepOf}
+use Rattle.transition.specs.Steps.{stepOf}
 use Rattle.step.specs.Contracts.{refusalNumber, called}
 use Rattle.schedule.specs.Lines.{lineRead}
 use Rattle.step.specs.declared.Refusal.{Refusal}

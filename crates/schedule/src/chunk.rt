@@ -5,7 +5,7 @@ ghost use Prim.Native.Nat.{_+_, _*_, _≤_};
 ghost use lib.ListN.{length, take, drop};
 ghost use Rattle.step.specs.Contracts.{refusalNumber, moveOf, reportSize, due, over};
 ghost use Rattle.simulation.specs.Calls.{numberOf};
-ghost use Rattle.step.proofs.Reachable.{Reached};
+ghost use Rattle.transition.proofs.Reachable.{Reached};
 ghost use Rattle.schedule.specs.Files.{cut, pieces, printed, headerPrinted, runLines};
 ghost use Rattle.schedule.specs.Sessions.{session};
 ghost use Rattle.schedule.specs.Contracts.{Serves};

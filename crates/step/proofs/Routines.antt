@@ -7,11 +7,11 @@ use lib.ListN.{length, take}
 use lib.Seq.{take-at}
 use Rattle.label.specs.Tests.{All}
 use Rattle.table.specs.Tables.{freshTable}
-use Rattle.step.specs.Steps.{stepOf}
-use Rattle.step.specs.Demand.{run, seen, Demand3}
+use Rattle.transition.specs.Steps.{stepOf}
+use Rattle.transition.specs.Demand.{run, seen, Demand3}
 use Rattle.step.specs.Contracts.{over, Steps}
 use Rattle.step.specs.Routines.{Made, callOf, Sequence, answered, RoutinesDemand}
-use Rattle.step.proofs.Theorem as Theorem
+use Rattle.transition.proofs.Theorem as Theorem
 use Rattle.table.specs.declared.Table.{Table}
 
 -- what a call hands back is the answer of `stepOf`

@@ -23,11 +23,11 @@ use Rattle.table.specs.WellFormed.{wellFormed}
 use Rattle.table.proofs.Orders.{passed}
 use Rattle.table.proofs.Owned.{stations-long}
 use Rattle.table.proofs.Table.{the-row}
-use Rattle.step.specs.Steps.{refuse, carryOut, move, stepOf}
+use Rattle.transition.specs.Steps.{refuse, carryOut, move, stepOf}
 use Rattle.simulation.proofs.Judged.{Roomy, roomy, Own, Verdict, turned, own, verdict}
 use Rattle.step.specs.Contracts.{refusalNumber, moveOf, called, recordAfter, recordMoved, reportSize, placeOf, due, over, Decides, Steps}
-use Rattle.step.proofs.View.{step-carries, carried-count}
-use Rattle.step.proofs.Reachable.{Reached, reached-passes, reached-step}
+use Rattle.transition.proofs.View.{step-carries, carried-count}
+use Rattle.transition.proofs.Reachable.{Reached, reached-passes, reached-step}
 use Rattle.step.proofs.ReportLaws.{length-report-lines}
 use Rattle.step.specs.declared.Decision.{Decision}
 use Rattle.step.specs.declared.Move.{Move}

@@ -11,7 +11,7 @@ use Rattle.label.specs.Tests.{within}
 use Rattle.simulation.specs.Calls as Calls
 use Rattle.simulation.specs.Calls.{Call, reportLines}
 use Rattle.table.specs.Tables.{at, store, pendingAfter, scanOf}
-use Rattle.step.specs.Steps.{inPhase, begun, snapped, scanned, updated, stepOf}
+use Rattle.transition.specs.Steps.{inPhase, begun, snapped, scanned, updated, stepOf}
 use Rattle.table.specs.declared.Entry.{Entry}
 use Rattle.table.specs.declared.Phase.the-variants.{Idle, Snap}
 use Rattle.table.specs.declared.Operation.the-variants.{Scan}

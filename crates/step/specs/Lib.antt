@@ -1,5 +1,2 @@
-pub mod Steps
-pub mod Demand
-pub mod Samples
 pub mod Contracts
 pub mod Routines

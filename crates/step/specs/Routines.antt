@@ -8,8 +8,8 @@ use Rattle.label.specs.Tests.{All}
 use Rattle.simulation.specs.Calls.{Call}
 use Rattle.simulation.specs.Machine as Machine
 use Rattle.simulation.specs.Machine.{runᵘ}
-use Rattle.step.specs.Steps.{Answer}
-use Rattle.step.specs.Demand.{seen, Demand3}
+use Rattle.transition.specs.Steps.{Answer}
+use Rattle.transition.specs.Demand.{seen, Demand3}
 use Rattle.step.specs.Contracts.{refusalNumber, called, over, Steps}
 use Rattle.table.specs.declared.Table.{Table}
 use Rattle.step.specs.declared.Reply.{Reply}

@@ -4,7 +4,7 @@ ghost use mathlib.Core.Bool.{true};
 ghost use Prim.Native.Nat.{ℕ, _+_, _*_, _/_, _≤_, _<_};
 ghost use lib.ListN.{length};
 ghost use Rattle.schedule.specs.Files.{pieces};
-ghost use Rattle.step.proofs.Reachable.{Reached};
+ghost use Rattle.transition.proofs.Reachable.{Reached};
 use libc::STDIN_FILENO;
 use libc::STDOUT_FILENO;
 use schedule::Session;

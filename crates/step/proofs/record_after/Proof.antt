@@ -2,7 +2,7 @@ use native.Mathlib.Omega.{arith}
 use mathlib.Core.Path.{ap}
 use Rattle.table.specs.Tables.{at}
 use Rattle.table.proofs.Orders.{passed}
-use Rattle.step.specs.Steps.{snapped, scanned}
+use Rattle.transition.specs.Steps.{snapped, scanned}
 use Rattle.step.specs.Contracts.{recordAfter}
 use Rattle.step.proofs.StepLaws.{station-at, record-moved, moved-made, no-snap}
 use Rattle.step.specs.declared.Move.the-variants.{SnapLabel, SnapScan}

@@ -3,7 +3,7 @@ use mathlib.Core.Path.{_≡_, refl}
 use mathlib.Core.Bool.{Bool, true, false, cond}
 use Prim.Native.Nat.{ℕ, _-_, _≤_, _<_}
 use native.Mathlib.Omega.{arith}
-use Rattle.step.proofs.Reachable.{Reached}
+use Rattle.transition.proofs.Reachable.{Reached}
 use Rattle.tickets.proofs.run.Statement.{statement}
 use Rattle.tickets.proofs.run.Tie as tie
 

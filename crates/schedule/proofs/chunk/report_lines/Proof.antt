@@ -8,9 +8,9 @@ use lib.ListN.{length, length-take, length-drop}
 use Rattle.simulation.specs.Calls.{numberOf}
 use Rattle.simulation.proofs.Judged.{accepted-own}
 use Rattle.table.specs.Tables.{at}
-use Rattle.step.specs.Steps.{snapped, scanned}
+use Rattle.transition.specs.Steps.{snapped, scanned}
 use Rattle.step.specs.Contracts.{refusalNumber, moveOf, called, recordAfter, reportSize}
-use Rattle.step.proofs.Reachable.{reached-passes}
+use Rattle.transition.proofs.Reachable.{reached-passes}
 use Rattle.step.proofs.StepLaws.{place-below, record-moved, moved-made, no-snap, judged}
 use Rattle.table.specs.declared.Station.{Station}
 use Rattle.step.specs.declared.Move.the-variants.{SnapLabel, SnapScan}

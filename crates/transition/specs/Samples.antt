@@ -11,7 +11,7 @@ use Rattle.label.specs.Labels.{below, labelBelow}
 use Rattle.label.specs.Rows.{digit}
 use Rattle.simulation.specs.Calls.{Call}
 use Rattle.table.specs.Tables.{freshTable, at, stands}
-use Rattle.step.specs.Steps.{stepOf}
+use Rattle.transition.specs.Steps.{stepOf}
 use Rattle.table.specs.declared.Table.{Table}
 
 -- a direct call of station s; a label operation begins with the job 7

@@ -10,10 +10,10 @@ use Rattle.label.specs.Rows.{row}
 use Rattle.simulation.specs.Calls.{Call, judge}
 use Rattle.table.specs.Results.{stored}
 use Rattle.table.specs.Tables.{freshStation, freshTable, newestOf, pendingAfter, scanOf}
-use Rattle.step.specs.Steps.{carryOut, move}
-use Rattle.step.specs.Samples.{call, labelled, after, shown, order, reaches, Holds, one, two, three, stalled, SamplesHold}
-use Rattle.step.proofs.View.{step-carries}
-use Rattle.step.proofs.Reachable.{Reached, reached-passes, reached-step, reached-fresh}
+use Rattle.transition.specs.Steps.{carryOut, move}
+use Rattle.transition.specs.Samples.{call, labelled, after, shown, order, reaches, Holds, one, two, three, stalled, SamplesHold}
+use Rattle.transition.proofs.View.{step-carries}
+use Rattle.transition.proofs.Reachable.{Reached, reached-passes, reached-step, reached-fresh}
 use Rattle.table.specs.declared.Table.{Table}
 
 carried : Table → Lists.List Call → Table

@@ -13,7 +13,7 @@ use Rattle.simulation.specs.Machine as Machine
 use Rattle.simulation.specs.Machine.{Seen, runᵘ, snapsᵘ, Bounded}
 use Rattle.table.specs.Tables.{freshTable, at}
 use Rattle.table.specs.WellFormed.{wellFormed}
-use Rattle.step.specs.Steps.{Answer, move, stepOf}
+use Rattle.transition.specs.Steps.{Answer, move, stepOf}
 use Rattle.table.specs.declared.Table.{Table}
 
 -- the answers to a sequence of calls, each on the table that the one before it left

@@ -16,10 +16,10 @@ use Rattle.simulation.proofs.Follow.{Simulates}
 use Rattle.simulation.proofs.Simulation.{simulation}
 use Rattle.table.specs.Tables.{freshTable, at}
 use Rattle.table.specs.WellFormed.{wellFormed}
-use Rattle.step.specs.Steps.{Answer, carryOut, move}
-use Rattle.step.proofs.View.{view, viewAnswer, carried-count, view-carried, step-carries, view-fresh}
-use Rattle.step.proofs.Reachable.{Reached, reached-led, reached-passes, reached-step, reached-fresh, count-kept}
-use Rattle.step.specs.Demand.{run, snaps, seen, Demand3}
+use Rattle.transition.specs.Steps.{Answer, carryOut, move}
+use Rattle.transition.proofs.View.{view, viewAnswer, carried-count, view-carried, step-carries, view-fresh}
+use Rattle.transition.proofs.Reachable.{Reached, reached-led, reached-passes, reached-step, reached-fresh, count-kept}
+use Rattle.transition.specs.Demand.{run, snaps, seen, Demand3}
 use Rattle.table.specs.declared.Table.{Table}
 
 -- what is seen of the table's answer is what is seen of the machine's

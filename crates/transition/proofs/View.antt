@@ -23,7 +23,7 @@ use Rattle.simulation.proofs.Entries.{by-here}
 use Rattle.simulation.proofs.Judged.{Verdict, turned, own, own-place, verdict}
 use Rattle.table.specs.Tables.{freshStation, freshTable, at, labels, store, stands, newestOf}
 use Rattle.table.specs.Tables.{pendingAfter, scanOf}
-use Rattle.step.specs.Steps.{Answer, carryOut, move, stepOf, snapped, scanned}
+use Rattle.transition.specs.Steps.{Answer, carryOut, move, stepOf, snapped, scanned}
 use Rattle.table.specs.WellFormed.{wellFormed}
 use Rattle.table.specs.declared.Phase.the-variants.{Idle}
 use Rattle.table.specs.declared.Station.{Station}

@@ -26,8 +26,8 @@ use Rattle.simulation.proofs.Simulation.{Ready, newest-labels, fresh-ready, rea
 use Rattle.table.specs.Tables.{freshStation, freshTable, at, labels, store, stands, newestOf}
 use Rattle.table.specs.WellFormed.{stationFits, isFresh, wellFormed}
 use Rattle.table.specs.Tables.{pendingAfter, scanOf}
-use Rattle.step.specs.Steps.{carryOut, move}
-use Rattle.step.proofs.View.{view, Led, new-behind, carried-count, view-carried, at-fresh, view-fresh}
+use Rattle.transition.specs.Steps.{carryOut, move}
+use Rattle.transition.proofs.View.{view, Led, new-behind, carried-count, view-carried, at-fresh, view-fresh}
 use Rattle.table.specs.declared.Station.{Station}
 use Rattle.table.specs.declared.Table.{Table}
 

@@ -1,0 +1,4 @@
+pub mod View
+pub mod Reachable
+pub mod Theorem
+pub mod Samples
