@@ -1,7 +1,8 @@
 // The step calls on a table that its owner lends. Each calls the step by value of the same name.
 ghost use mathlib.Core.List.{[]};
 ghost use lib.ListN.{length};
-ghost use Rattle.step.specs.Contracts.{called, Steps};
+ghost use Rattle.moves.specs.Moves.{called};
+ghost use Rattle.step.specs.Contracts.{Steps};
 use step::Outcome;
 use step::Reply;
 use table::Table;

@@ -1,13 +1,13 @@
 // What is printed of an outcome and of a table.
 use libc::STDOUT_FILENO;
-use step::Refusal;
+use moves::Refusal;
 use step::Reply;
 use table::Entry;
 use table::Table;
 ghost use mathlib.Core.Path.{_≡_};
 ghost use Prim.Native.Nat.{_≤_};
 ghost use lib.ListN.{length};
-ghost use Rattle.step.specs.Contracts.{refusalNumber};
+ghost use Rattle.moves.specs.Moves.{refusalNumber};
 
 // What a report buffer holds when it is lent; no report line has it.
 pub const FILL: u8 = 46;

@@ -20,7 +20,7 @@ fn serve(s: Session, four: &[u8; 72], out: &mut [u8; 7424], times: u32) -> Total
     let mut bytes: u64 = 0;
     let mut k: u32 = 0;
     while k < times {
-        let r = schedule::chunk::report_lines(now, four, out);
+        let r = file::report_lines(now, four, out);
         let reply = r.reply;
         now = r.session;
         bytes += reply.written as u64;

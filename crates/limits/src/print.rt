@@ -1,7 +1,7 @@
 // Headings, and the reports of a header and of a part of a file.
 ghost use Prim.Native.Nat.{_*_, _≤_};
 ghost use lib.ListN.{length};
-ghost use Rattle.schedule.specs.Files.{pieces};
+ghost use Rattle.file.specs.Files.{pieces};
 ghost use Rattle.transition.proofs.Reachable.{Reached};
 use libc::STDOUT_FILENO;
 use schedule::Session;
@@ -25,7 +25,7 @@ pub fn header(bytes: &[u8]) -> Session
 {
     let s = schedule::open(bytes);
     let mut out = [0u8; 29];
-    let k = schedule::chunk::report_header(s, &mut out);
+    let k = file::report_header(s, &mut out);
     text(&out[..k]);
     s
 }
@@ -36,7 +36,7 @@ pub fn part(s: Session, bytes: &[u8], out: &mut [u8]) -> Session
     requires { ⌜ 928 * pieces (now bytes) ≤ length (now out) ⌝ }
     ensures { λ r. ⌜ Reached (r .table) ⌝ }
 {
-    let r = schedule::chunk::report_lines(s, bytes, out);
+    let r = file::report_lines(s, bytes, out);
     let next = r.session;
     let reply = r.reply;
     let written = reply.written;

@@ -1,4 +1,1 @@
 pub mod SessionLaws
-pub mod FileTheorem
-pub mod ChunkLaws
-pub mod Parts

@@ -10,13 +10,14 @@ use lib.Dec.{ltb}
 use borrow.Author.Tests.{eq-eqb, ne-eqb, ltb-false}
 use Rattle.table.specs.Tables.{store}
 use Rattle.table.specs.WellFormed.{wellFormed}
-use Rattle.step.specs.Contracts.{refusalNumber, called, due, over, Decides}
+use Rattle.moves.specs.Moves.{refusalNumber, called}
+use Rattle.step.specs.Contracts.{due, over, Decides}
 use Rattle.schedule.specs.Lines.{lineRead}
 use Rattle.schedule.specs.Sessions as Sessions
 use Rattle.schedule.specs.Sessions.{session, refused, illFormed, nextLine, stepLine, serveOf}
 use Rattle.schedule.specs.Contracts.{Serves}
 use Rattle.step.specs.declared.Decision.{Decision}
-use Rattle.step.specs.declared.Refusal.the-variants.{TooManyLines}
+use Rattle.moves.specs.declared.Refusal.the-variants.{TooManyLines}
 use Rattle.schedule.specs.declared.Line.{Line}
 use Rattle.schedule.specs.declared.Line.the-variants.{Step, Refused}
 use Rattle.schedule.specs.declared.Session.{Session}

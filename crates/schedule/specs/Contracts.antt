@@ -3,7 +3,8 @@ use mathlib.Core.Path.{_≡_}
 use mathlib.Core.List as Lists
 use Prim.Native.Nat.{ℕ}
 use lib.ListN.{length}
-use Rattle.step.specs.Contracts.{refusalNumber, over}
+use Rattle.moves.specs.Moves.{refusalNumber}
+use Rattle.step.specs.Contracts.{over}
 use Rattle.schedule.specs.Sessions as Sessions
 use Rattle.schedule.specs.declared.Served.{Served}
 

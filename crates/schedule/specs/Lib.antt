@@ -1,5 +1,3 @@
 pub mod Lines
 pub mod Sessions
-pub mod Files
 pub mod Contracts
-pub mod Demand

@@ -7,7 +7,7 @@ use lib.Dec.{eqb}
 use Rattle.columns.specs.Reading.{columnRead}
 use Rattle.columns.specs.declared.Column.{Column}
 use Rattle.columns.specs.declared.Column.the-variants.{Value, Bad}
-use Rattle.step.specs.declared.Refusal.the-variants.{IncompleteLine, MalformedColumn}
+use Rattle.moves.specs.declared.Refusal.the-variants.{IncompleteLine, MalformedColumn}
 use Rattle.schedule.specs.declared.Line.{Line}
 use Rattle.schedule.specs.declared.Line.the-variants.{Step, Refused}
 

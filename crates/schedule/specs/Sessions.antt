@@ -8,10 +8,10 @@ use Rattle.label.specs.Tests.{within}
 use Rattle.table.specs.Tables.{freshTable}
 use Rattle.table.specs.WellFormed.{wellFormed}
 use Rattle.transition.specs.Steps.{stepOf}
-use Rattle.step.specs.Contracts.{refusalNumber, called}
+use Rattle.moves.specs.Moves.{refusalNumber, called}
 use Rattle.schedule.specs.Lines.{lineRead}
-use Rattle.step.specs.declared.Refusal.{Refusal}
-use Rattle.step.specs.declared.Refusal.the-variants.{Accepted, StationCount, UnknownStep, JobOutOfRange, TooManyLines}
+use Rattle.moves.specs.declared.Refusal.{Refusal}
+use Rattle.moves.specs.declared.Refusal.the-variants.{Accepted, StationCount, UnknownStep, JobOutOfRange, TooManyLines}
 use Rattle.table.specs.declared.Table.{Table}
 use Rattle.schedule.specs.declared.Line.{Line}
 use Rattle.schedule.specs.declared.Line.the-variants.{Step, Refused}

@@ -1,4 +1,4 @@
-// Schedule files: lines, the session that serves them, and the report of a whole file.
+// The lines of a schedule file, and the session that serves them one by one.
 ghost use mathlib.Core.Path.{_≡_};
 ghost use mathlib.Core.Bool.{true, cond};
 ghost use mathlib.Core.List as Lists;
@@ -6,17 +6,15 @@ ghost use Prim.Native.Nat.{ℕ, _+_, _≤_};
 ghost use lib.Dec.{ltb};
 ghost use lib.ListN.{length};
 ghost use Rattle.table.specs.WellFormed.{wellFormed};
-ghost use Rattle.step.specs.Contracts.{refusalNumber};
+ghost use Rattle.moves.specs.Moves.{refusalNumber};
 ghost use Rattle.schedule.specs.Lines.{lineRead};
 ghost use Rattle.schedule.specs.Sessions.{headerOf, closed, nextLine, refused, stopped, illFormed, stepLine, serveOf};
 ghost use Rattle.schedule.specs.Contracts.{Serves};
 use columns::Column;
 use columns::read_column;
-use step::Refusal;
+use moves::Refusal;
 use step::Reply;
 use table::Table;
-
-pub mod chunk;
 
 // What a line of the file says: a step call, or the refusal that ends the reading.
 pub enum Line {

@@ -25,14 +25,16 @@ use Rattle.table.proofs.Owned.{stations-long}
 use Rattle.table.proofs.Table.{the-row}
 use Rattle.transition.specs.Steps.{refuse, carryOut, move, stepOf}
 use Rattle.simulation.proofs.Judged.{Roomy, roomy, Own, Verdict, turned, own, verdict}
-use Rattle.step.specs.Contracts.{refusalNumber, moveOf, called, recordAfter, recordMoved, reportSize, placeOf, due, over, Decides, Steps}
+use Rattle.moves.specs.Moves.{refusalNumber, moveOf, called, recordMoved, reportSize, placeOf}
+use Rattle.step.specs.Contracts.{recordAfter, due, over, Decides, Steps}
 use Rattle.transition.proofs.View.{step-carries, carried-count}
-use Rattle.transition.proofs.Reachable.{Reached, reached-passes, reached-step}
+use Rattle.transition.proofs.Reachable.{Reached, reached-passes, stepped-reached}
+use Rattle.moves.proofs.MoveLaws.{place-below, has-room}
 use Rattle.step.proofs.ReportLaws.{length-report-lines}
 use Rattle.step.specs.declared.Decision.{Decision}
-use Rattle.step.specs.declared.Move.{Move}
-use Rattle.step.specs.declared.Move.the-variants.{Refused, BeginLabel, BeginScan, SnapLabel, SnapScan, Update, EndLabel, EndScan}
-use Rattle.step.proofs.Move.{the-type}
+use Rattle.moves.specs.declared.Move.{Move}
+use Rattle.moves.specs.declared.Move.the-variants.{Refused, BeginLabel, BeginScan, SnapLabel, SnapScan, Update, EndLabel, EndScan}
+use Rattle.moves.proofs.Move.{the-type}
 use Rattle.step.specs.declared.Reply.{Reply}
 use Rattle.table.specs.declared.Entry.{Entry}
 use Rattle.table.specs.declared.Phase.{Phase}
@@ -64,53 +66,10 @@ pub moved-made : (t : Table) (k job : ℕ) (s : Station) {v : Station} (w : Call
     → v ≡ recordAfter t k job w
 moved-made t k job s w made stands a b = made ∙ ap (λ (x : Station). recordMoved x job w) stands ∙ moved-after t k job w a b
 
--- 3 and 4 for the moves that take a snapshot
-abbrev snapOf : Calls.Move → ℕ
-snapOf (Calls.Move.refused x) = 0
-snapOf Calls.Move.beginsLabel = 0
-snapOf Calls.Move.beginsScan = 0
-snapOf Calls.Move.snapsLabel = 3
-snapOf Calls.Move.snapsScan = 4
-snapOf Calls.Move.updates = 0
-snapOf Calls.Move.endsLabel = 0
-snapOf Calls.Move.endsScan = 0
-
-none-of : (m : Move) → OneOf (0 ∷ 1 ∷ 2 ∷ 5 ∷ 6 ∷ 7 ∷ []) (tagOf the-type m) → snapOf (moveOf m) ≡ 0
-none-of (Refused x) h = refl
-none-of BeginLabel h = refl
-none-of BeginScan h = refl
-none-of SnapLabel h = absurd (miss (0 ∷ 1 ∷ 2 ∷ 5 ∷ 6 ∷ 7 ∷ []) 3 tt h)
-none-of SnapScan h = absurd (miss (0 ∷ 1 ∷ 2 ∷ 5 ∷ 6 ∷ 7 ∷ []) 4 tt h)
-none-of Update h = refl
-none-of EndLabel h = refl
-none-of EndScan h = refl
-
-pub no-snap : (m : Move) → OneOf (0 ∷ 1 ∷ 2 ∷ 5 ∷ 6 ∷ 7 ∷ []) (tagOf the-type m) → (moveOf m ≢ Calls.Move.snapsLabel) × (moveOf m ≢ Calls.Move.snapsScan)
-no-snap m h = (λ e. omega (arith, ap snapOf e, none-of m h), λ e. omega (arith, ap snapOf e, none-of m h))
-
--- the place of a station that there is, and of one that there is not
-pub place-below : (n station : ℕ) → 2 ≤ n → placeOf n station < n
-place-below n station h = go (within 1 n station) refl
-  where
-    go : (b : Bool) → within 1 n station ≡ b → cond b (station - 1) 0 < n
-    go true e = let w = within-true 1 n station e in omega arith
-    go false e = omega arith
-
 -- a call on no station is judged alike in every phase
 judge-stranger : (n : ℕ) (p q : Phase) (c : Call) → within 1 n (c .station) ≡ false → judge n p c ≡ judge n q c
 unfolding judge
 judge-stranger n p q c e = rw e refl
-
--- a move that writes has room for its lines
-has-room : (n room : ℕ) (w : Calls.Move) → Roomy n room w → reportSize n w ≢ 0 → n * 29 ≤ room
-has-room n room (Calls.Move.refused x) r d = absurd (d refl)
-has-room n room Calls.Move.beginsLabel r d = absurd (d refl)
-has-room n room Calls.Move.beginsScan r d = absurd (d refl)
-has-room n room Calls.Move.snapsLabel r d = absurd (d refl)
-has-room n room Calls.Move.snapsScan r d = absurd (d refl)
-has-room n room Calls.Move.updates r d = absurd (d refl)
-has-room n room Calls.Move.endsLabel r d = absurd (d refl)
-has-room n room Calls.Move.endsScan r d = r
 
 module _ (t : Table) (c : Call) where
   abbrev here : ℕ
@@ -132,7 +91,7 @@ module _ (t : Table) (c : Call) where
   unchanged = ap (λ l. record { count = t .count; stations = l }) (set-getD (t .stations) here _)
 
   stored : (w : Calls.Move) → here ≡ place c → store t here (recordAfter t here (c .job) w) ≡ carryOut t c w .table
-  unfolding recordAfter carryOut
+  unfolding recordAfter recordMoved carryOut
   stored (Calls.Move.refused x) e = unchanged
   stored Calls.Move.beginsLabel e = rw e refl
   stored Calls.Move.beginsScan e = rw e refl
@@ -146,7 +105,7 @@ module _ (t : Table) (c : Call) where
   reportOf w = due (reportSize (t .count) w) (c .line) (take (t .count) (recordAfter t here (c .job) w .«scan_result»))
 
   reported : 2 ≤ t .count → (w : Calls.Move) → here ≡ place c → carryOut t c w .bytes ≡ reportOf w
-  unfolding recordAfter carryOut
+  unfolding recordAfter recordMoved carryOut
   reported low (Calls.Move.refused x) e = refl
   reported low Calls.Move.beginsLabel e = refl
   reported low Calls.Move.beginsScan e = refl
@@ -157,7 +116,7 @@ module _ (t : Table) (c : Call) where
   reported low Calls.Move.endsScan e = rw (ne-eqb (t .count * 29) 0 (λ z. omega arith), e) refl
 
   by-verdict : 2 ≤ t .count → {w : Calls.Move} → Verdict (t .count) c w → (store t here (recordAfter t here (c .job) w) ≡ carryOut t c w .table) × (carryOut t c w .bytes ≡ reportOf w)
-  unfolding recordAfter carryOut
+  unfolding recordAfter recordMoved carryOut
   by-verdict low (turned x) = (unchanged, refl)
   by-verdict low {w} (own o) = (stored w (here-is o), reported low w (here-is o))
 
@@ -218,7 +177,7 @@ report-long n line Calls.Move.endsScan l h = go (eqb (n * 29) 0) refl
 pub decide-law : (t : Table) (code station job room : ℕ) (d : Decision) (w : Calls.Move) → d .place ≡ placeOf (t .count) station → t .count ≤ length (at t (d .place) .«scan_result»)
     → refusalNumber (d .refusal) ≡ numberOf w → d .«record» ≡ recordAfter t (d .place) job w → d .written ≡ reportSize (t .count) w
     → ((line : ℕ) → Made t (called line code station job room) w) → (line : ℕ) → Decides t (called line code station job room) d
-unfolding recordAfter
+unfolding recordAfter recordMoved
 decide-law t code station job room d w k long r s n make line =
     let m = make line in
     let e : d .«record» ≡ recordAfter t (placeOf (t .count) station) job w = s ∙ ap (λ (i : ℕ). recordAfter t i job w) k in
@@ -248,7 +207,7 @@ carried-out t c buffer d r buffer′ D e w b =
 
 -- what a decision stores on a reached table leaves one that is reached, and so well-formed again
 pub decided-reached : (t : Table) → Reached t → (c : Call) (d : Decision) → Decides t c d → Reached (store t (d .place) (d .«record»))
-decided-reached t r c d D = subst Reached (ap (λ a. a .table) (sym (step-carries t c (reached-passes t r))) ∙ sym (D .table)) (reached-step t r c)
+decided-reached t r c d D = subst Reached (sym (D .table)) (stepped-reached t r c)
 
 pub decided-well-formed : (t : Table) → Reached t → (c : Call) (d : Decision) → Decides t c d → wellFormed (store t (d .place) (d .«record»)) ≡ true
 decided-well-formed t r c d D = reached-passes (store t (d .place) (d .«record»)) (decided-reached t r c d D)

@@ -10,7 +10,8 @@ use Rattle.simulation.specs.Machine as Machine
 use Rattle.simulation.specs.Machine.{runᵘ}
 use Rattle.transition.specs.Steps.{Answer}
 use Rattle.transition.specs.Demand.{seen, Demand3}
-use Rattle.step.specs.Contracts.{refusalNumber, called, over, Steps}
+use Rattle.moves.specs.Moves.{refusalNumber, called}
+use Rattle.step.specs.Contracts.{over, Steps}
 use Rattle.table.specs.declared.Table.{Table}
 use Rattle.step.specs.declared.Reply.{Reply}
 

@@ -3,7 +3,7 @@ ghost use mathlib.Core.Path.{_≡_};
 ghost use mathlib.Core.Bool.{true};
 ghost use Prim.Native.Nat.{ℕ, _+_, _*_, _/_, _≤_, _<_};
 ghost use lib.ListN.{length};
-ghost use Rattle.schedule.specs.Files.{pieces};
+ghost use Rattle.file.specs.Files.{pieces};
 ghost use Rattle.transition.proofs.Reachable.{Reached};
 use libc::STDIN_FILENO;
 use libc::STDOUT_FILENO;
@@ -24,7 +24,7 @@ fn read_header() -> Turn
     let n = io::read_full(STDIN_FILENO, &mut line);
     let s = schedule::open(&line[..n]);
     let mut out = [0u8; 29];
-    let k = schedule::chunk::report_header(s, &mut out);
+    let k = file::report_header(s, &mut out);
     let is_written = io::write_all(STDOUT_FILENO, &out[..k]);
     Turn {
         session: s,
@@ -42,7 +42,7 @@ fn read_part(s: Session, input: &mut [u8], out: &mut [u8]) -> Turn
     ensures { λ r. ⌜ (r .more ≡ true → (s .lines < r .session .lines) × (r .session .lines ≤ 1000001)) ⌝ }
 {
     let n = io::read_full(STDIN_FILENO, input);
-    let r = schedule::chunk::report_lines(s, &input[..n], out);
+    let r = file::report_lines(s, &input[..n], out);
     let next = r.session;
     let reply = r.reply;
     let written = reply.written;

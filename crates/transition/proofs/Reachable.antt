@@ -26,8 +26,8 @@ use Rattle.simulation.proofs.Simulation.{Ready, newest-labels, fresh-ready, rea
 use Rattle.table.specs.Tables.{freshStation, freshTable, at, labels, store, stands, newestOf}
 use Rattle.table.specs.WellFormed.{stationFits, isFresh, wellFormed}
 use Rattle.table.specs.Tables.{pendingAfter, scanOf}
-use Rattle.transition.specs.Steps.{carryOut, move}
-use Rattle.transition.proofs.View.{view, Led, new-behind, carried-count, view-carried, at-fresh, view-fresh}
+use Rattle.transition.specs.Steps.{carryOut, move, stepOf}
+use Rattle.transition.proofs.View.{view, Led, new-behind, carried-count, step-carries, view-carried, at-fresh, view-fresh}
 use Rattle.table.specs.declared.Station.{Station}
 use Rattle.table.specs.declared.Table.{Table}
 
@@ -169,6 +169,9 @@ reached-step t r c = record {
   where
     next : (N′ : Entries ℕ) × Ready (t .count - 1) (Machine.step (t .count) (digits (t .count - 1)) (view t) c .state) N′
     next = ready-step (t .count) (t .count - 1) (sized t r) (view t) (r .N) c (r .ready)
+
+pub stepped-reached : (t : Table) → Reached t → (c : Call) → Reached (stepOf t c .table)
+stepped-reached t r c = rw (step-carries t c (reached-passes t r)) (reached-step t r c)
 
 pub reached-fresh : (n : ℕ) → 2 ≤ n → n ≤ 32 → Reached (freshTable n)
 unfolding freshTable

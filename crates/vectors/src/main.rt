@@ -54,11 +54,11 @@ fn report(file: &[u8], out: &mut [u8]) -> usize
 {
     let end = header_end(file);
     let s = schedule::open(&file[..end]);
-    let k = schedule::chunk::report_header(s, out);
+    let k = file::report_header(s, out);
     if k != 0 {
         return k;
     }
-    let r = schedule::chunk::report_lines(s, &file[end..], out);
+    let r = file::report_lines(s, &file[end..], out);
     let reply = r.reply;
     reply.written
 }

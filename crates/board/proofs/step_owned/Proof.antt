@@ -45,7 +45,8 @@ use denote.Exit.{yes}
 use Rattle.table.specs.declared.Table.{Table}
 use Rattle.step.specs.declared.Outcome.{Outcome}
 use Rattle.step.specs.declared.Reply.{Reply}
-use Rattle.step.specs.Contracts.{called, Steps}
+use Rattle.moves.specs.Moves.{called}
+use Rattle.step.specs.Contracts.{Steps}
 use Rattle.table.proofs.Table as T
 use Rattle.table.proofs.Table.Laws as T′
 use Rattle.step.proofs.Outcome as S

@@ -3,8 +3,9 @@ use mathlib.Core.Path.{refl, sym, _∙_}
 use Rattle.simulation.specs.Calls.{judge}
 use Rattle.table.proofs.Orders.{passed}
 use Rattle.table.proofs.Owned.{record-read, results-long}
-use Rattle.step.specs.Contracts.{called}
-use Rattle.step.proofs.StepLaws.{place-below, judged, decide-law}
+use Rattle.moves.specs.Moves.{called}
+use Rattle.moves.proofs.MoveLaws.{place-below}
+use Rattle.step.proofs.StepLaws.{judged, decide-law}
 use Rattle.simulation.proofs.Judged.{accepted-own}
 use borrow.Author.Needs.{needs}
 use Rattle.step.proofs.decide.Statement.{statement}

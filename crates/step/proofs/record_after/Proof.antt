@@ -4,8 +4,9 @@ use Rattle.table.specs.Tables.{at}
 use Rattle.table.proofs.Orders.{passed}
 use Rattle.transition.specs.Steps.{snapped, scanned}
 use Rattle.step.specs.Contracts.{recordAfter}
-use Rattle.step.proofs.StepLaws.{station-at, record-moved, moved-made, no-snap}
-use Rattle.step.specs.declared.Move.the-variants.{SnapLabel, SnapScan}
+use Rattle.moves.proofs.MoveLaws.{no-snap}
+use Rattle.step.proofs.StepLaws.{station-at, record-moved, moved-made}
+use Rattle.moves.specs.declared.Move.the-variants.{SnapLabel, SnapScan}
 use borrow.Author.Needs.{needs}
 use Rattle.step.proofs.record_after.Statement.{statement}
 use Rattle.step.proofs.record_after.Tie as tie

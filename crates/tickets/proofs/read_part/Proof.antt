@@ -5,7 +5,7 @@ use native.Mathlib.Omega.{arith}
 use borrow.Author.Tests.{eqb-true}
 use lib.ListN.{length, take, length-take}
 use lib.Seq.{length-take-le}
-use Rattle.schedule.proofs.ChunkLaws.{serves-inside, part-counted}
+use Rattle.file.proofs.ChunkLaws.{serves-inside, part-counted}
 use borrow.Author.Needs.{needs}
 use Rattle.tickets.proofs.read_part.Statement.{statement}
 use Rattle.tickets.proofs.read_part.Tie as tie

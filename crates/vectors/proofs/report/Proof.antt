@@ -2,8 +2,8 @@ use mathlib.Core.Path.{sym}
 use native.Mathlib.Omega.{arith}
 use lib.ListN.{length-take, length-drop}
 use lib.Seq.{length-take-le}
-use Rattle.schedule.specs.Files.{headerPrinted}
-use Rattle.schedule.proofs.ChunkLaws.{prints-inside, serves-inside, header-reached}
+use Rattle.file.specs.Files.{headerPrinted}
+use Rattle.file.proofs.ChunkLaws.{prints-inside, serves-inside, header-reached}
 use borrow.Author.Needs.{needs}
 use Rattle.vectors.proofs.report.Statement.{statement}
 use Rattle.vectors.proofs.report.Tie as tie

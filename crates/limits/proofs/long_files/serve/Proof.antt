@@ -2,7 +2,7 @@ use borrow.Author.Needs.{needs}
 use Prim.Native.Nat.{_*_, _-_, _≤_}
 use native.Mathlib.Omega.{arith}
 use Rattle.transition.proofs.Reachable.{Reached}
-use Rattle.schedule.proofs.ChunkLaws.{serves-inside}
+use Rattle.file.proofs.ChunkLaws.{serves-inside}
 use Rattle.limits.proofs.long_files.serve.Statement.{statement}
 use Rattle.limits.proofs.long_files.serve.Tie as tie
 

@@ -1,6 +1,6 @@
 use mathlib.Core.Path.{sym}
 use lib.Seq.{length-take-le}
-use Rattle.schedule.proofs.ChunkLaws.{serves-inside}
+use Rattle.file.proofs.ChunkLaws.{serves-inside}
 use borrow.Author.Needs.{needs}
 use Rattle.limits.proofs.print.part.Statement.{statement}
 use Rattle.limits.proofs.print.part.Tie as tie

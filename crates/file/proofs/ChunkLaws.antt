@@ -1,0 +1,338 @@
+-- The lines of a part of the file, one after the other: what one line more gives, and what stands in the output buffer meanwhile.
+use mathlib.Core.Path.{_≡_, refl, sym, ap, ap₂, subst, _∙_}
+use mathlib.Core.Logic.{_≢_, _⊎_, inl, inr, ⊎-elim}
+use mathlib.Core.Bool.{Bool, true, false, not, cond}
+use mathlib.Core.List as Lists
+use mathlib.Core.List.{[], _∷_, _++_, append-assoc, append-nil}
+use Prim.Native.Nat.{ℕ, zero, suc, _+_, _-_, _*_, _/_, _≤_, _<_}
+use native.Mathlib.Omega.{arith}
+use lib.ListN.{length, getD, take, drop, length-append, length-take, length-drop, take-append-drop, drop-of-length-le}
+use lib.Seq.{take-at, drop-at, drop-append-le, drop-drop, length-take-le, take-all}
+use lib.Dec.{eqb, leb}
+use borrow.Author.Tests.{eq-eqb, ne-eqb, eqb-true, eqb-false, leb-true, leb-false}
+use borrow.Rule.Slice.PartMut.{midOf, putMid}
+use Rattle.columns.specs.Columns.{reportLine}
+use Rattle.columns.proofs.ColumnLaws.{length-report-line}
+use Rattle.simulation.specs.Calls.{Move, numberOf, reportLines}
+use Rattle.label.specs.Tests.{within}
+use Rattle.label.proofs.Facts.{within-true, getD-any}
+use Rattle.table.specs.Tables.{freshTable, at, store}
+use Rattle.table.specs.declared.Entry.{Entry}
+use Rattle.table.specs.declared.Station.{Station}
+use Rattle.table.specs.declared.Table.{Table}
+use Rattle.moves.specs.Moves.{refusalNumber, called, reportSize, placeOf}
+use Rattle.step.specs.Contracts.{recordAfter, due, over}
+use Rattle.transition.specs.Steps.{stepOf}
+use Rattle.transition.proofs.Reachable.{Reached, reached-passes, stepped-reached, reached-fresh}
+use Rattle.step.proofs.ReportLaws.{length-report-lines}
+use Rattle.step.proofs.StepLaws.{Made}
+use Rattle.moves.specs.declared.Refusal.{Refusal}
+use Rattle.moves.specs.declared.Refusal.the-variants.{Accepted, StationCount, UnknownStep, JobOutOfRange}
+use Rattle.schedule.specs.Lines.{lineRead}
+use Rattle.schedule.specs.Sessions.{session, closed, byHeader, headerOf, Served, refused, nextLine, stepLine}
+use Rattle.file.specs.Files.{cut, pieces, printed, runLines}
+use Rattle.schedule.specs.Contracts.{Serves}
+use Rattle.schedule.proofs.SessionLaws.{serve-next, next-within}
+use Rattle.schedule.specs.declared.Line.{Line}
+use Rattle.file.proofs.FileTheorem.{Numbered, next-numbered}
+use Rattle.schedule.specs.declared.Line.the-variants.{Step, Refused}
+use Rattle.schedule.specs.declared.Session.{Session}
+use Rattle.schedule.specs.declared.Served as Declared
+
+-- a line that is refused for good has a refusal
+next-refused : (lines : ℕ) (l : Lists.List ℕ) (r : Refusal) → nextLine lines l ≡ Refused r → refusalNumber r ≢ 0
+next-refused lines l r e = subst Numbered e (next-numbered lines l)
+
+-- RUNS
+
+-- a run with these bytes printed before it
+abbrev pub behind : Lists.List ℕ → Served → Served
+behind bytes o = record { session = o .session; refusal = o .refusal; bytes = bytes ++ o .bytes }
+
+-- nothing follows a final refusal
+pub final-run : (s : Session) (ls : Lists.List (Lists.List ℕ)) → refusalNumber (s .refusal) ≢ 0 → runLines s ls ≡ refused s (refusalNumber (s .refusal))
+unfolding runLines
+final-run s [] d = refl
+final-run s (l ∷ ls) d = rw (ne-eqb _ _ d) refl
+
+-- the record that a move leaves at the place of a station
+abbrev left : Table → ℕ → ℕ → Move → Station
+left t station job w = recordAfter t (placeOf (t .count) station) job w
+
+-- what a line prints whose step is the move w and leaves the record r
+abbrev shownOf : Table → ℕ → Station → Move → Lists.List ℕ
+shownOf t lines r w = printed (lines + 1) (numberOf w) (due (reportSize (t .count) w) (lines + 1) (take (t .count) (r .«scan_result»)))
+
+module _ (s : Session) (l : Lists.List ℕ) (ls : Lists.List (Lists.List ℕ)) (live : refusalNumber (s .refusal) ≡ 0) (reached : Reached (s .table)) where
+  run-next : runLines s (l ∷ ls) ≡ behind (printed (s .lines + 1) (stepLine s 928 (nextLine (s .lines) l) .refusal) (stepLine s 928 (nextLine (s .lines) l) .bytes))
+      (runLines (stepLine s 928 (nextLine (s .lines) l) .session) ls)
+  unfolding runLines
+  run-next = rw (eq-eqb _ _ live, serve-next s l 928 live (reached-passes (s .table) reached) _ refl) refl
+
+  run-refused : (r : Refusal) → nextLine (s .lines) l ≡ Refused r
+      → runLines s (l ∷ ls) ≡ record { session = session (s .lines) r (s .table); refusal = refusalNumber r; bytes = printed (s .lines + 1) (refusalNumber r) [] }
+  run-refused r e =
+      run-next ∙ rw (e, final-run (session (s .lines) r (s .table)) ls (next-refused (s .lines) l r e), append-nil) refl
+
+  run-step : (station code job : ℕ) (w : Move) → nextLine (s .lines) l ≡ Step station code job → Made (s .table) (called (s .lines + 1) code station job 928) w
+      → runLines s (l ∷ ls) ≡ behind (shownOf (s .table) (s .lines) (left (s .table) station job w) w) (runLines (session (s .lines + 1) (s .refusal) (store (s .table) (placeOf (s .table .count) station) (left (s .table) station job w))) ls)
+  run-step station code job w e m = run-next ∙ rw (e, m .refusal, m .table, ← m .bytes) refl
+
+-- BUFFERS
+
+-- bytes at the front of a part that starts behind other bytes stand behind those
+put-over : (bytes x buffer : Lists.List ℕ) (k : ℕ) → length x ≤ k → length bytes + k ≤ length buffer
+    → putMid (length bytes) k (over bytes buffer) (over x (midOf (length bytes) k (over bytes buffer))) ≡ over (bytes ++ x) buffer
+put-over bytes x buffer k short fits =
+    let rest = drop (length bytes) buffer in
+    let l : length x ≤ length (take k rest) = simp (length-take, length-drop) (omega arith) in
+    let joined : drop (length x) (take k rest) ++ drop k rest ≡ drop (length x) rest =
+    sym (drop-append-le (length x) (take k rest) (drop k rest) l) ∙ ap (drop (length x)) (take-append-drop k rest) in
+    rw (take-at bytes rest (length bytes) refl, drop-at bytes rest (length bytes) refl, append-assoc x, joined, drop-drop (length x) (length bytes) buffer, length-append bytes x)
+    (sym (append-assoc bytes x (drop (length bytes + length x) buffer)))
+
+length-over : (bytes buffer : Lists.List ℕ) → length bytes ≤ length buffer → length (over bytes buffer) ≡ length buffer
+length-over bytes buffer h = simp (length-append, length-drop) (omega arith)
+
+-- what a line prints, accepted and refused
+abbrev Prints : ℕ → Lists.List ℕ → Lists.List ℕ → Lists.List ℕ → Type 0
+Prints n bytes buffer buffer′ = (n ≡ length bytes) × (buffer′ ≡ over bytes buffer)
+
+pub prints-accepted : (number refusal n : ℕ) (bytes buffer buffer′ : Lists.List ℕ) → refusal ≡ 0 → Prints n bytes buffer buffer′ → Prints n (printed number refusal bytes) buffer buffer′
+prints-accepted number refusal n bytes buffer buffer′ e p = rw (eq-eqb refusal 0 e) p
+
+pub prints-refused : (number refusal n : ℕ) (x buffer : Lists.List ℕ) → n ≡ refusal → n ≢ 0 → x ≡ reportLine number n 0 0 0 → Prints 29 (printed number refusal []) buffer (x ++ drop 29 buffer)
+prints-refused number refusal n x buffer k d e =
+    let long = length-report-line number n 0 0 0 in
+    rw (← k, ne-eqb n 0 d, e, long) (refl, refl)
+
+pub prints-any : (number refusal n : ℕ) (bytes buffer buffer′ : Lists.List ℕ) → refusal ≢ 0 → Prints n (printed number refusal []) buffer buffer′
+    → Prints n (printed number refusal bytes) buffer buffer′
+prints-any number refusal n bytes buffer buffer′ d p = rw (ne-eqb refusal 0 d) (rw (ne-eqb refusal 0 d) at p)
+
+-- a refusal line has 29 bytes, and what a decided line prints has room in 928
+pub printed-refusal : (number refusal : ℕ) → length (printed number refusal []) ≤ 29
+printed-refusal number refusal = go (eqb refusal 0)
+  where
+    go : (b : Bool) → length (cond b [] (reportLine number refusal 0 0 0)) ≤ 29
+    go true = omega arith
+    go false = omega (arith, length-report-line number refusal 0 0 0)
+
+pub printed-due : (number refusal written n : ℕ) (l : Lists.List Entry) → n ≤ 32 → length (printed number refusal (due written number (take n l))) ≤ 928
+printed-due number refusal written n l h = go (eqb refusal 0) (eqb written 0)
+  where
+    go : (a b : Bool) → length (cond a (cond b [] (reportLines number 1 (take n l))) (reportLine number refusal 0 0 0)) ≤ 928
+    go true true = omega arith
+    go true false = omega (arith, length-report-lines number 1 (take n l), length-take n l)
+    go false b = omega (arith, length-report-line number refusal 0 0 0)
+
+-- PLACES
+
+-- lines from a place on
+abbrev ahead : Lists.List ℕ → ℕ → ℕ
+ahead chunk at = (length chunk - at + 17) / 18
+
+module _ (chunk : Lists.List ℕ) (at : ℕ) (h : at < length chunk) where
+  abbrev line : Lists.List ℕ
+  line = take 18 (drop at chunk)
+
+  line-long : ((18 ≤ length chunk - at) × (length line ≡ 18)) ⊎ ((length chunk - at < 18) × (length line ≡ length chunk - at))
+  line-long = go (leb 18 (length chunk - at)) refl
+    where
+      go : (b : Bool) → leb 18 (length chunk - at) ≡ b → ((18 ≤ length chunk - at) × (length line ≡ 18)) ⊎ ((length chunk - at < 18) × (length line ≡ length chunk - at))
+      go true e = let m = leb-true 18 (length chunk - at) e in inl (m, length-take-le 18 (drop at chunk) (rw length-drop m))
+      go false e = let m = leb-false 18 (length chunk - at) e in inr (m, ap length (take-all 18 (drop at chunk) (rw length-drop (omega arith))) ∙ length-drop at chunk)
+
+  line-within : (at + length line ≤ length chunk) × (0 < length line) × (ahead chunk at ≡ suc (ahead chunk (at + length line)))
+  line-within = ⊎-elim (λ w. (omega arith, omega arith, omega arith)) (λ w. (omega arith, omega arith, omega arith)) line-long
+
+  line-drop : drop 18 (drop at chunk) ≡ drop (at + length line) chunk
+  line-drop = ⊎-elim whole short line-long
+    where
+      whole : (18 ≤ length chunk - at) × (length line ≡ 18) → drop 18 (drop at chunk) ≡ drop (at + length line) chunk
+      whole w = drop-drop 18 at chunk ∙ ap (λ (k : ℕ). drop (at + k) chunk) (sym (w .1))
+
+      short : (length chunk - at < 18) × (length line ≡ length chunk - at) → drop 18 (drop at chunk) ≡ drop (at + length line) chunk
+      short w = drop-of-length-le (drop at chunk) {i = 18} (rw length-drop (omega arith)) ∙ sym (drop-of-length-le chunk {i = at + length line} (omega arith))
+
+  cut-line : cut (ahead chunk at) (drop at chunk) ≡ line ∷ cut (ahead chunk (at + length line)) (drop (at + length line) chunk)
+  unfolding cut
+  cut-line = rw (line-within .2, line-drop) refl
+
+-- THE LOOP
+
+pub record Sofar (s : Session) (chunk out₀ : Lists.List ℕ) (t : Table) (lines written at : ℕ) (out : Lists.List ℕ) : Type 0 where
+  pub live : refusalNumber (s .refusal) ≡ 0
+  pub reached : Reached t
+  pub within : at ≤ length chunk
+  pub room : written + 928 * ahead chunk at ≤ length out₀
+  pub bytes : Lists.List ℕ
+  pub long : written ≡ length bytes
+  pub area : out ≡ over bytes out₀
+  pub runs : runLines s (cut (pieces chunk) chunk) ≡ behind bytes (runLines (session lines (s .refusal) t) (cut (ahead chunk at) (drop at chunk)))
+
+pub sofar-start : (s : Session) (chunk out : Lists.List ℕ) → refusalNumber (s .refusal) ≡ 0 → Reached (s .table) → 928 * pieces chunk ≤ length out → Sofar s chunk out (s .table) (s .lines) 0 0 out
+sofar-start s chunk out z r h = record {
+  live = z;
+  reached = r;
+  within = omega arith;
+  room = omega arith;
+  bytes = [];
+  long = refl;
+  area = refl;
+  runs = let e : pieces chunk ≡ ahead chunk 0 = omega arith in ap (λ (k : ℕ). runLines s (cut k chunk)) e;
+}
+
+module _ {s : Session} {chunk out₀ : Lists.List ℕ} {t : Table} {lines written at : ℕ} {out : Lists.List ℕ} (f : Sofar s chunk out₀ t lines written at out) where
+  pub as-long : length out ≡ length out₀
+  as-long = rw (f .area) (length-over (f .bytes) out₀ (omega (arith, f .long, f .room)))
+
+  -- the run is over
+  pub sofar-end : (r : Declared.Served) → r .session ≡ session lines (s .refusal) t → r .reply .refusal ≡ s .refusal → r .reply .written ≡ written → length chunk ≤ at
+      → Serves (runLines s (cut (pieces chunk) chunk)) r out₀ out
+  unfolding cut runLines
+  sofar-end r e v w h =
+      let none : ahead chunk at ≡ 0 = omega arith in
+      let q : runLines s (cut (pieces chunk) chunk) ≡ behind (f .bytes) (refused (session lines (s .refusal) t) (refusalNumber (s .refusal))) = f .runs ∙ rw none refl in
+      rw (q, append-nil) (record { session = e; refusal = ap refusalNumber v; written = w ∙ f .long; report = f .area })
+
+  module _ (h : at < length chunk) where
+    pub room-here : written + 928 ≤ length out
+    room-here = omega (arith, as-long, f .room, line-within chunk at h)
+
+    pub at-next : (l : Lists.List ℕ) → l ≡ take 18 (drop at chunk) → (at + length l ≤ length chunk) × (0 < length l)
+    at-next l p = rw p (line-within chunk at h .0, line-within chunk at h .1)
+
+    module _ (l : Lists.List ℕ) (p : l ≡ take 18 (drop at chunk)) (k : ℕ) (e : k ≡ 928) where
+      -- what is put in behind the bytes so far
+      put : (x : Lists.List ℕ) → length x ≤ 928 → putMid written k out (over x (midOf written k out)) ≡ over (f .bytes ++ x) out₀
+      put x short = rw (f .area, e, f .long) (put-over (f .bytes) x out₀ 928 short (omega (arith, f .long, f .room, line-within chunk at h)))
+
+      -- a line that is refused for good
+      pub sofar-stop : (r : Refusal) (n : ℕ) (x : Lists.List ℕ) (served : Declared.Served) → nextLine lines l ≡ Refused r → n ≡ length (printed (lines + 1) (refusalNumber r) [])
+          → x ≡ over (printed (lines + 1) (refusalNumber r) []) (midOf written k out) → served .session ≡ session lines r t → served .reply .refusal ≡ r → served .reply .written ≡ written + n
+          → Serves (runLines s (cut (pieces chunk) chunk)) served out₀ (putMid written k out x)
+      sofar-stop r n x served a b c u v w =
+          let bytes = printed (lines + 1) (refusalNumber r) [] in
+          let q : runLines s (cut (pieces chunk) chunk) ≡ record { session = session lines r t; refusal = refusalNumber r; bytes = f .bytes ++ bytes } =
+          f .runs
+          ∙ ap (λ ls. behind (f .bytes) (runLines (session lines (s .refusal) t) ls)) (cut-line chunk at h)
+          ∙ ap (behind (f .bytes)) (run-refused (session lines (s .refusal) t) (take 18 (drop at chunk)) _ (f .live) (f .reached) r (rw p at a)) in
+          rw q (record {
+            session = u;
+            refusal = ap refusalNumber v;
+            written = omega (arith, w, b, f .long, length-append (f .bytes) bytes);
+            report = rw c (put bytes (omega (arith, printed-refusal (lines + 1) (refusalNumber r))));
+          })
+
+      -- a line that is served: a move stores its record
+      module _ (station code job : ℕ) (a : nextLine lines l ≡ Step station code job) (place : ℕ) (r : Station) (w : Move) (q : place ≡ placeOf (t .count) station)
+          (v : r ≡ recordAfter t place job w) (make : (line : ℕ) → Made t (called line code station job 928) w) where
+        record-left : r ≡ left t station job w
+        record-left = v ∙ ap (λ (i : ℕ). recordAfter t i job w) q
+
+        stored : store t place r ≡ store t (placeOf (t .count) station) (left t station job w)
+        stored = ap₂ (λ (i : ℕ) (x : Station). store t i x) q record-left
+
+        pub shown-short : length (shownOf t lines r w) ≤ 928
+        shown-short = printed-due (lines + 1) (numberOf w) (reportSize (t .count) w) (t .count) (r .«scan_result») (f .reached .good .high)
+
+        pub sofar-more : (n : ℕ) (x : Lists.List ℕ) → n ≡ length (shownOf t lines r w) → x ≡ over (shownOf t lines r w) (midOf written k out)
+            → Sofar s chunk out₀ (store t place r) (lines + 1) (written + n) (at + length l) (putMid written k out x)
+        sofar-more n x b c = record {
+          live = f .live;
+          reached = rw (stored, make 0 .table) (stepped-reached t (f .reached) (called 0 code station job 928));
+          within = at-next l p .0;
+          room = rw p (omega (arith, b, f .room, line-within chunk at h, shown-short));
+          bytes = f .bytes ++ shownOf t lines r w;
+          long = omega (arith, b, f .long, length-append (f .bytes) (shownOf t lines r w));
+          area = rw c (put (shownOf t lines r w) shown-short);
+          runs =
+              f .runs
+              ∙ ap (λ ls. behind (f .bytes) (runLines (session lines (s .refusal) t) ls)) (cut-line chunk at h)
+              ∙ ap (behind (f .bytes)) (run-step (session lines (s .refusal) t) (take 18 (drop at chunk)) _ (f .live) (f .reached) station code job w (rw p at a) (make (lines + 1)))
+              ∙ rw (stored, p, ← record-left, append-assoc) refl;
+        }
+
+-- no line follows a final refusal
+pub serves-final : (s : Session) (ls : Lists.List (Lists.List ℕ)) (r : Declared.Served) (out : Lists.List ℕ) → refusalNumber (s .refusal) ≢ 0
+    → r .session ≡ s → r .reply .refusal ≡ s .refusal → r .reply .written ≡ 0 → Serves (runLines s ls) r out out
+serves-final s ls r out d e v w =
+    rw (final-run s ls d) (record { session = e; refusal = ap refusalNumber v; written = w; report = refl })
+
+-- HOW MANY LINES ARE COUNTED
+
+-- lines that no final refusal ends are counted, all of them, and there are not too many
+abbrev Counted : Session → Lists.List (Lists.List ℕ) → Type 0
+Counted s ls = Reached (s .table) → s .lines ≤ 1000001 → runLines s ls .refusal ≡ 0 → (runLines s ls .session .lines ≡ s .lines + length ls) × (s .lines + length ls ≤ 1000001)
+
+run-counted : (ls : Lists.List (Lists.List ℕ)) (s : Session) → Counted s ls
+unfolding runLines
+run-counted [] s g m z = (omega arith, omega arith)
+run-counted (l ∷ ls) s g m z = go (eqb (refusalNumber (s .refusal)) 0) refl (run-counted ls)
+  where
+    served : ((s′ : Session) → Counted s′ ls) → (w : Line) → nextLine (s .lines) l ≡ w → runLines (stepLine s 928 w .session) ls .refusal ≡ 0
+        → (runLines (stepLine s 928 w .session) ls .session .lines ≡ s .lines + suc (length ls)) × (s .lines + suc (length ls) ≤ 1000001)
+    served ih (Refused r) e y = let n = next-refused (s .lines) l r e in absurd (n (sym (ap (λ o. o .refusal) (final-run (session (s .lines) r (s .table)) ls n)) ∙ y))
+    served ih (Step st k j) e y =
+        let c = called (s .lines + 1) k st j 928 in
+        let reached : Reached (stepOf (s .table) c .table) = stepped-reached (s .table) g c in
+        let n = next-within (s .lines) l st k j e in
+        let more = ih (stepLine s 928 (Step st k j) .session) reached (omega arith) y in
+        (more .0 ∙ omega arith, omega (arith, more .1))
+
+    go : (b : Bool) → eqb (refusalNumber (s .refusal)) 0 ≡ b → ((s′ : Session) → Counted s′ ls)
+        → (runLines s (l ∷ ls) .session .lines ≡ s .lines + suc (length ls)) × (s .lines + suc (length ls) ≤ 1000001)
+    go true b ih = let e = run-next s l ls (eqb-true _ _ b) g in rw e (served ih (nextLine (s .lines) l) refl (rw e at z))
+    go false b ih = let d = eqb-false _ _ b in absurd (d (sym (ap (λ o. o .refusal) (final-run s (l ∷ ls) d)) ∙ z))
+
+length-cut : (k : ℕ) (bs : Lists.List ℕ) → length (cut k bs) ≡ k
+unfolding cut
+length-cut zero bs = refl
+length-cut (suc k) bs = ap suc (length-cut k (drop 18 bs))
+
+-- a part that leaves no refusal has taken the count further
+pub part-counted : (s : Session) (chunk out out′ : Lists.List ℕ) (r : Declared.Served) → Reached (s .table) → s .lines ≤ 1000001 → 0 < length chunk
+    → Serves (runLines s (cut (pieces chunk) chunk)) r out out′ → refusalNumber (r .reply .refusal) ≡ 0 → (s .lines < r .session .lines) × (r .session .lines ≤ 1000001)
+part-counted s chunk out out′ r g m h f z =
+    let n = run-counted (cut (pieces chunk) chunk) s g m (sym (f .refusal) ∙ z) in
+    let l = length-cut (pieces chunk) chunk in
+    let e = ap (λ x. x .lines) (f .session) in
+    (omega (arith, n), omega (arith, n))
+
+-- THE ENDS OF A FILE
+
+-- what is written lies within the buffer
+pub prints-inside : (n : ℕ) (bytes buffer buffer′ : Lists.List ℕ) → Prints n bytes buffer buffer′ → n ≤ length buffer′
+prints-inside n bytes buffer buffer′ p = omega (arith, p .0, ap length (p .1) ∙ length-append bytes (drop (length bytes) buffer))
+
+pub serves-inside : {o : Served} {r : Declared.Served} {buffer buffer′ : Lists.List ℕ} → Serves o r buffer buffer′ → r .reply .written ≤ length buffer′
+serves-inside {o} {r} {buffer} {buffer′} f = prints-inside (r .reply .written) (o .bytes) buffer buffer′ (f .written, f .report)
+
+-- a header leaves a table that is reached, accepted or not, and counts one line at most
+by-header : (w : Line) → Reached (byHeader w .table) × (byHeader w .lines ≤ 1)
+by-header (Refused r) = (reached-fresh 2 (omega arith) (omega arith), omega arith)
+by-header (Step n code job) = go (eqb code 0) (within 2 32 n) refl (eqb job 0)
+  where
+    made : Bool → Bool → Bool → Session
+    made a b d = cond (not a) (closed UnknownStep) (cond (not b) (closed StationCount) (cond (not d) (closed JobOutOfRange) (session 1 Accepted (freshTable n))))
+
+    none : Reached (freshTable 2)
+    none = reached-fresh 2 (omega arith) (omega arith)
+
+    go : (a b : Bool) → within 2 32 n ≡ b → (d : Bool) → Reached (made a b d .table) × (made a b d .lines ≤ 1)
+    go false b q d = (none, omega arith)
+    go true false q d = (none, omega arith)
+    go true true q false = (none, omega arith)
+    go true true q true = let v = within-true 2 32 n q in (reached-fresh n (v .0) (v .1), omega arith)
+
+pub header-reached : (s : Session) (l : Lists.List ℕ) → s ≡ headerOf l → Reached (s .table) × (s .lines ≤ 1000001)
+unfolding headerOf
+header-reached s l e = let h = by-header (lineRead l) in rw e (h .0, omega (arith, h .1))
+
+-- the record that the code reads on a reached table
+pub reached-at : (t : Table) → Reached t → (k : ℕ) → k < t .count → (d : Station) → getD (t .stations) k d ≡ at t k
+reached-at t r k h d = getD-any (t .stations) k d _ (omega (arith, r .good .places, r .good .high))
+
+pub reached-left : (s : Session) (lines : ℕ) (r : Refusal) (t : Table) → s ≡ session lines r t → Reached t → Reached (s .table)
+reached-left s lines r t e g = rw e g

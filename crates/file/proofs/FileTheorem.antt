@@ -1,0 +1,153 @@
+-- Demand 3 of schedule files.
+use Prim.Native.Nat.{ℕ, _+_, _≤_}
+use native.Mathlib.Omega.{arith}
+use mathlib.Core.Path.{_≡_, refl, sym, ap, _∙_}
+use mathlib.Core.Logic.{_≢_}
+use mathlib.Core.Bool.{Bool, true, false, not, _&&_, cond, true≢false}
+use mathlib.Core.List as Lists
+use mathlib.Core.List.{[], _∷_, _++_, map, append-nil, append-assoc}
+use lib.ListN.{length, getD, take, drop}
+use lib.Dec.{eqb, ltb}
+use borrow.Author.Tests.{ne-eqb}
+use Rattle.label.specs.Tests.{within}
+use Rattle.label.proofs.Facts.{within-true}
+use Rattle.columns.specs.Reading.{columnRead}
+use Rattle.columns.specs.declared.Column.{Column}
+use Rattle.columns.specs.declared.Column.the-variants.{Value, Bad}
+use Rattle.simulation.specs.Calls.{Call}
+use Rattle.table.specs.Tables.{freshTable}
+use Rattle.transition.specs.Steps.{stepOf}
+use Rattle.transition.specs.Demand.{run, seen, Demand3}
+use Rattle.moves.specs.Moves.{refusalNumber, called}
+use Rattle.transition.proofs.Reachable.{Reached, reached-passes, stepped-reached, reached-fresh}
+use Rattle.transition.proofs.Theorem as Theorem
+use Rattle.schedule.specs.Lines.{stepRead, lineRead}
+use Rattle.schedule.specs.Sessions.{session, closed, byHeader, headerOf, isFinal, nextLine, stepLine, serveOf}
+use Rattle.file.specs.Files.{refusalLine, printed, runLines, headerPrinted, fileReport}
+use Rattle.file.specs.Demand.{callThen, stepCalls, endThen, ending, printedCalls, stepLines, FileDemand}
+use Rattle.moves.specs.declared.Refusal.{Refusal}
+use Rattle.moves.specs.declared.Refusal.the-variants.{Accepted, StationCount, UnknownStep, JobOutOfRange, TooManyLines, IncompleteLine}
+use Rattle.schedule.specs.declared.Line.{Line}
+use Rattle.schedule.specs.declared.Line.the-variants.{Step, Refused}
+use Rattle.schedule.specs.declared.Session.{Session}
+
+-- A LINE THAT IS REFUSED WHEN IT IS READ has a number
+
+abbrev pub Numbered : Line → Type 0
+Numbered (Refused r) = refusalNumber r ≢ 0
+Numbered (Step s k j) = Unit {0}
+
+read-numbered : (x y z : Column) → Numbered (stepRead x y z)
+read-numbered Bad y z = omega arith
+read-numbered (Value a) Bad z = omega arith
+read-numbered (Value a) (Value b) Bad = omega arith
+read-numbered (Value a) (Value b) (Value d) = tt
+
+line-numbered : (l : Lists.List ℕ) → Numbered (lineRead l)
+unfolding lineRead
+line-numbered l = go (eqb (length l) 18 && eqb (getD l 17 0) 10)
+  where
+    go : (b : Bool) → Numbered (cond b (stepRead (columnRead (take 3 l)) (columnRead (take 3 (drop 3 l))) (columnRead (take 11 (drop 6 l)))) (Refused IncompleteLine))
+    go true = read-numbered (columnRead (take 3 l)) (columnRead (take 3 (drop 3 l))) (columnRead (take 11 (drop 6 l)))
+    go false = omega arith
+
+pub next-numbered : (lines : ℕ) (l : Lists.List ℕ) → Numbered (nextLine lines l)
+next-numbered lines l = go (ltb 1000000 lines)
+  where
+    go : (b : Bool) → Numbered (cond b (Refused TooManyLines) (lineRead l))
+    go true = omega arith
+    go false = line-numbered l
+
+-- THE RUN OF THE LINES
+
+-- a session that goes on, on a table that is reached from a fresh one
+pub record Live (s : Session) : Type 0 where
+  pub going : s .refusal ≡ Accepted
+  pub reached : Reached (s .table)
+
+module _ (s : Session) (v : Live s) where
+  live-final : isFinal s ≡ false
+  live-final = ap (λ (r : Refusal). not (eqb (refusalNumber r) 0)) (v .going)
+
+  live-serve : (l : Lists.List ℕ) (room : ℕ) → serveOf s l room ≡ stepLine s room (nextLine (s .lines) l)
+  unfolding serveOf
+  live-serve l room = rw (live-final, reached-passes (s .table) (v .reached)) refl
+
+-- after a final refusal nothing is printed
+stopped-run : (s : Session) (ls : Lists.List (Lists.List ℕ)) → isFinal s ≡ true → runLines s ls .bytes ≡ []
+unfolding runLines
+stopped-run s [] e = refl
+stopped-run s (l ∷ ls) e = rw e refl
+
+-- a step keeps the session live
+next-live : (s : Session) → Live s → (c : Call) (lines : ℕ) → Live (session lines (s .refusal) (stepOf (s .table) c .table))
+next-live s v c lines = record { going = v .going; reached = stepped-reached (s .table) (v .reached) c }
+
+-- what the lines print is what their calls print, one after the other, and then the refusal that ended the reading
+abbrev Played : Session → Lists.List (Lists.List ℕ) → Type 0
+Played s ls = runLines s ls .bytes ≡ printedCalls (stepCalls (s .lines) ls) (map seen (run (s .table) (stepCalls (s .lines) ls))) ++ ending (s .lines) ls
+
+pub played : (ls : Lists.List (Lists.List ℕ)) (s : Session) → Live s → Played s ls
+unfolding runLines stepCalls ending printedCalls run
+played [] s v = refl
+played (l ∷ ls) s v = rw (live-final s v, live-serve s v l 928) (go (nextLine (s .lines) l) (next-numbered (s .lines) l) (played ls))
+  where
+    go : (w : Line) → Numbered w → ((s′ : Session) → Live s′ → Played s′ ls)
+        → printed (s .lines + 1) (stepLine s 928 w .refusal) (stepLine s 928 w .bytes) ++ runLines (stepLine s 928 w .session) ls .bytes
+        ≡ printedCalls (callThen (s .lines) w (stepCalls (s .lines + 1) ls)) (map seen (run (s .table) (callThen (s .lines) w (stepCalls (s .lines + 1) ls))))
+        ++ endThen (s .lines) w (ending (s .lines + 1) ls)
+    go (Refused r) n ih = rw (ne-eqb (refusalNumber r) 0 n, stopped-run (session (s .lines) r (s .table)) ls (rw (ne-eqb (refusalNumber r) 0 n) refl)) (append-nil (refusalLine (s .lines + 1) (refusalNumber r)))
+    go (Step st k j) n ih =
+        let c = called (s .lines + 1) k st j 928 in
+        let a = stepOf (s .table) c in
+        let rest = stepCalls (s .lines + 1) ls in
+        ap (λ b. printed (s .lines + 1) (a .refusal) (a .bytes) ++ b) (ih (session (s .lines + 1) (s .refusal) (a .table)) (next-live s v c (s .lines + 1)))
+        ∙ sym (append-assoc (printed (s .lines + 1) (a .refusal) (a .bytes)) (printedCalls rest (map seen (run (a .table) rest))) (ending (s .lines + 1) ls))
+
+-- THE HEADER
+
+-- an accepted header makes the fresh table of its count
+pub record Opened (s : Session) : Type 0 where
+  pub low : 2 ≤ s .table .count
+  pub high : s .table .count ≤ 32
+  pub made : s ≡ session 1 Accepted (freshTable (s .table .count))
+
+header-open : (w : Line) → Numbered w → isFinal (byHeader w) ≡ false → Opened (byHeader w)
+unfolding freshTable
+header-open (Refused r) n e = absurd (true≢false (sym (rw (ne-eqb (refusalNumber r) 0 n) refl) ∙ e))
+header-open (Step k code job) n e = go (eqb code 0) (within 2 32 k) refl (eqb job 0) e
+  where
+    made : Bool → Bool → Bool → Session
+    made a b d = cond (not a) (closed UnknownStep) (cond (not b) (closed StationCount) (cond (not d) (closed JobOutOfRange) (session 1 Accepted (freshTable k))))
+
+    go : (a b : Bool) → within 2 32 k ≡ b → (d : Bool) → isFinal (made a b d) ≡ false → Opened (made a b d)
+    go false b q d h = absurd (true≢false h)
+    go true false q d h = absurd (true≢false h)
+    go true true q false h = absurd (true≢false h)
+    go true true q true h = let v = within-true 2 32 k q in record { low = v .0; high = v .1; made = refl }
+
+pub opened : (l : Lists.List ℕ) → isFinal (headerOf l) ≡ false → Opened (headerOf l)
+unfolding headerOf
+opened l e = header-open (lineRead l) (line-numbered l) e
+
+report-open : (n : ℕ) → 2 ≤ n → n ≤ 32 → (ls : Lists.List (Lists.List ℕ)) (s : Session) → s ≡ session 1 Accepted (freshTable n)
+    → headerPrinted s ++ runLines s ls .bytes ≡ printedCalls (stepCalls 1 ls) (map seen (run (freshTable n) (stepCalls 1 ls))) ++ ending 1 ls
+report-open n p q ls s e = rw e (played ls (session 1 Accepted (freshTable n)) (record { going = refl; reached = reached-fresh n p q }))
+
+-- DEMAND 3 OF A FILE, for every list of bytes whose header is accepted
+pub file-demand : (bs : Lists.List ℕ) → isFinal (headerOf (take 18 bs)) ≡ false → FileDemand bs (headerOf (take 18 bs) .table .count)
+unfolding fileReport
+file-demand bs e = record {
+  demand = d;
+  report = report-open n (o .low) (o .high) (stepLines bs) (headerOf (take 18 bs)) (o .made)
+      ∙ ap (λ x. printedCalls (stepCalls 1 (stepLines bs)) x ++ ending 1 (stepLines bs)) (d .same);
+}
+  where
+    n : ℕ
+    n = headerOf (take 18 bs) .table .count
+
+    o : Opened (headerOf (take 18 bs))
+    o = opened (take 18 bs) e
+
+    d : Demand3 n (stepCalls 1 (stepLines bs))
+    d = Theorem.demand n (o .low) (o .high) (stepCalls 1 (stepLines bs))

@@ -1,0 +1,3 @@
+pub mod ChunkLaws
+pub mod Parts
+pub mod FileTheorem

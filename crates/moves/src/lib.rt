@@ -1,0 +1,335 @@
+// What a step call amounts to, its refusal, and what it makes of the calling station's record.
+ghost use mathlib.Core.Path.{_≡_};
+ghost use Prim.Native.Nat.{_≤_};
+ghost use Rattle.simulation.specs.Calls.{beginsLabel, jobFits, judge, fromIdle, fromSnap, fromUpdate, fromEnd, byCode, numberOf};
+ghost use Rattle.transition.specs.Steps.{inPhase, begun, snapped, scanned, updated};
+ghost use Rattle.moves.specs.Moves.{refusalNumber, moveOf, called, recordMoved, reportSize, placeOf};
+use table::Entry;
+use table::Operation;
+use table::Phase;
+use table::Station;
+
+// Why a call is turned down, in the order of document 01's numbers; `Accepted` is 0. Its trade words stand beside the names.
+pub enum Refusal {
+    Accepted,
+    StationCount, // 1, bad crew
+    UnknownStation, // 2, stranger
+    Busy, // 3
+    NoSnapDue, // 4, no look due
+    NoUpdateDue, // 5, no write due
+    NothingToEnd, // 6
+    BufferTooShort, // 7, short paper
+    IncompleteLine, // 8, torn line
+    MalformedColumn, // 9, bad column
+    UnknownStep, // 10
+    JobOutOfRange, // 11, bad job
+    TooManyLines, // 12, full sheet
+    IllFormedTable, // 13, spoiled table
+}
+
+impl Refusal {
+    // Document 01's number.
+    pub fn number(self) -> u64
+        ensures { λ r. ⌜ r ≡ refusalNumber self ⌝ }
+    {
+        match self {
+            Refusal::Accepted => 0,
+            Refusal::StationCount => 1,
+            Refusal::UnknownStation => 2,
+            Refusal::Busy => 3,
+            Refusal::NoSnapDue => 4,
+            Refusal::NoUpdateDue => 5,
+            Refusal::NothingToEnd => 6,
+            Refusal::BufferTooShort => 7,
+            Refusal::IncompleteLine => 8,
+            Refusal::MalformedColumn => 9,
+            Refusal::UnknownStep => 10,
+            Refusal::JobOutOfRange => 11,
+            Refusal::TooManyLines => 12,
+            Refusal::IllFormedTable => 13,
+        }
+    }
+}
+
+// What a call amounts to.
+pub enum Move {
+    Refused(Refusal),
+    BeginLabel,
+    BeginScan,
+    SnapLabel,
+    SnapScan,
+    Update,
+    EndLabel,
+    EndScan,
+}
+
+// A begin, which asks for an idle station.
+fn begins(m: Move, p: Phase) -> Move
+    ensures { λ r. ⌜ moveOf r ≡ fromIdle (moveOf m) p ⌝ }
+{
+    match p {
+        Phase::Idle => m,
+        Phase::Snap(_) => Move::Refused(Refusal::Busy),
+        Phase::Update => Move::Refused(Refusal::Busy),
+        Phase::End(_) => Move::Refused(Refusal::Busy),
+    }
+}
+
+fn snap_for(o: Operation) -> Move
+    ensures { λ r. ⌜ moveOf r ≡ fromSnap (Phase.Snap o) ⌝ }
+{
+    match o {
+        Operation::Label => Move::SnapLabel,
+        Operation::Scan => Move::SnapScan,
+    }
+}
+
+// A snap, by the operation that it is due for.
+fn snaps(p: Phase) -> Move
+    ensures { λ r. ⌜ moveOf r ≡ fromSnap p ⌝ }
+{
+    match p {
+        Phase::Idle => Move::Refused(Refusal::NoSnapDue),
+        Phase::Snap(o) => snap_for(o),
+        Phase::Update => Move::Refused(Refusal::NoSnapDue),
+        Phase::End(_) => Move::Refused(Refusal::NoSnapDue),
+    }
+}
+
+fn updates(p: Phase) -> Move
+    ensures { λ r. ⌜ moveOf r ≡ fromUpdate p ⌝ }
+{
+    match p {
+        Phase::Idle => Move::Refused(Refusal::NoUpdateDue),
+        Phase::Snap(_) => Move::Refused(Refusal::NoUpdateDue),
+        Phase::Update => Move::Update,
+        Phase::End(_) => Move::Refused(Refusal::NoUpdateDue),
+    }
+}
+
+fn end_of(o: Operation, fits: bool) -> Move
+    ensures { λ r. ⌜ moveOf r ≡ fromEnd fits (Phase.End o) ⌝ }
+{
+    match o {
+        Operation::Label => Move::EndLabel,
+        Operation::Scan => {
+            if fits {
+                Move::EndScan
+            } else {
+                Move::Refused(Refusal::BufferTooShort)
+            }
+        }
+    }
+}
+
+// An end; that of a scan asks for room for its report lines.
+fn ends(p: Phase, fits: bool) -> Move
+    ensures { λ r. ⌜ moveOf r ≡ fromEnd fits p ⌝ }
+{
+    match p {
+        Phase::Idle => Move::Refused(Refusal::NothingToEnd),
+        Phase::Snap(_) => Move::Refused(Refusal::NothingToEnd),
+        Phase::Update => Move::Refused(Refusal::NothingToEnd),
+        Phase::End(o) => end_of(o, fits),
+    }
+}
+
+// What a known step amounts to for a station in this phase, of n stations.
+fn by_code(n: usize, code: u64, room: usize, p: Phase) -> Move
+    requires { ⌜ n ≤ 32 ⌝ }
+    ensures { λ r. ⌜ moveOf r ≡ byCode n code room p ⌝ }
+{
+    if code == 1 {
+        return begins(Move::BeginLabel, p);
+    }
+    if code == 2 {
+        return begins(Move::BeginScan, p);
+    }
+    if code == 3 {
+        return snaps(p);
+    }
+    if code == 4 {
+        return updates(p);
+    }
+    ends(p, n * 29 <= room)
+}
+
+// Whether a job is in its range for the step.
+fn job_fits(code: u64, job: u64) -> bool
+    ensures { λ r. ⌜ r ≡ jobFits code job ⌝ }
+{
+    if code == 1 {
+        return 1 <= job && job <= 4294967295;
+    }
+    job == 0
+}
+
+// What a call amounts to for a station in this phase, of n stations.
+pub fn judge(n: usize, p: Phase, code: u64, station: u64, job: u64, room: usize) -> Move
+    requires { ⌜ n ≤ 32 ⌝ }
+    ensures { λ r. ⌜ moveOf r ≡ judge n p (called 0 code station job room) ⌝ }
+{
+    if code < 1 {
+        return Move::Refused(Refusal::UnknownStep);
+    }
+    if 5 < code {
+        return Move::Refused(Refusal::UnknownStep);
+    }
+    if station < 1 {
+        return Move::Refused(Refusal::UnknownStation);
+    }
+    if (n as u64) < station {
+        return Move::Refused(Refusal::UnknownStation);
+    }
+    if !job_fits(code, job) {
+        return Move::Refused(Refusal::JobOutOfRange);
+    }
+    by_code(n, code, room, p)
+}
+
+// The refusal of a move.
+pub fn refusal_of(m: Move) -> Refusal
+    ensures { λ r. ⌜ refusalNumber r ≡ numberOf (moveOf m) ⌝ }
+{
+    match m {
+        Move::Refused(r) => r,
+        Move::BeginLabel => Refusal::Accepted,
+        Move::BeginScan => Refusal::Accepted,
+        Move::SnapLabel => Refusal::Accepted,
+        Move::SnapScan => Refusal::Accepted,
+        Move::Update => Refusal::Accepted,
+        Move::EndLabel => Refusal::Accepted,
+        Move::EndScan => Refusal::Accepted,
+    }
+}
+
+// The bytes of report that a move writes, of n stations.
+pub fn report_size(m: Move, n: usize) -> usize
+    requires { ⌜ n ≤ 32 ⌝ }
+    ensures { λ r. ⌜ r ≡ reportSize n (moveOf m) ⌝ }
+{
+    match m {
+        Move::Refused(_) => 0,
+        Move::BeginLabel => 0,
+        Move::BeginScan => 0,
+        Move::SnapLabel => 0,
+        Move::SnapScan => 0,
+        Move::Update => 0,
+        Move::EndLabel => 0,
+        Move::EndScan => n * 29,
+    }
+}
+
+// The record in another phase.
+fn in_phase(s: Station, p: Phase) -> Station
+    ensures { λ r. ⌜ r ≡ inPhase s p ⌝ }
+{
+    let a = s.label;
+    let b = s.pending_label;
+    let e = s.scan_result;
+    Station {
+        label: a,
+        job: s.job,
+        pending_label: b,
+        pending_job: s.pending_job,
+        scan_result: e,
+        phase: p,
+    }
+}
+
+// The record after a label operation's begin.
+fn begun(s: Station, job: u32) -> Station
+    ensures { λ r. ⌜ r ≡ begun s job ⌝ }
+{
+    let a = s.label;
+    let b = s.pending_label;
+    let e = s.scan_result;
+    Station {
+        label: a,
+        job: s.job,
+        pending_label: b,
+        pending_job: job,
+        scan_result: e,
+        phase: Phase::Snap(Operation::Label),
+    }
+}
+
+// The record after a snap for a label.
+pub fn snapped(s: Station, new: [u8; 31]) -> Station
+    ensures { λ r. ⌜ r ≡ snapped s new ⌝ }
+{
+    let a = s.label;
+    let e = s.scan_result;
+    Station {
+        label: a,
+        job: s.job,
+        pending_label: new,
+        pending_job: s.pending_job,
+        scan_result: e,
+        phase: Phase::Update,
+    }
+}
+
+// The record after a snap for a scan.
+pub fn scanned(s: Station, result: [Entry; 32]) -> Station
+    ensures { λ r. ⌜ r ≡ scanned s result ⌝ }
+{
+    let a = s.label;
+    let b = s.pending_label;
+    Station {
+        label: a,
+        job: s.job,
+        pending_label: b,
+        pending_job: s.pending_job,
+        scan_result: result,
+        phase: Phase::End(Operation::Scan),
+    }
+}
+
+// The record after an update.
+fn updated(s: Station) -> Station
+    ensures { λ r. ⌜ r ≡ updated s ⌝ }
+{
+    let new = s.pending_label;
+    let job = s.pending_job;
+    let e = s.scan_result;
+    Station {
+        label: new,
+        job,
+        pending_label: new,
+        pending_job: job,
+        scan_result: e,
+        phase: Phase::End(Operation::Label),
+    }
+}
+
+// What a move makes of a record; a snap, which wants the table, leaves it.
+pub fn moved(s: Station, m: Move, job: u64) -> Station
+    requires { ⌜ (moveOf m ≡ beginsLabel → job ≤ 4294967295) ⌝ }
+    ensures { λ r. ⌜ r ≡ recordMoved s job (moveOf m) ⌝ }
+{
+    match m {
+        Move::Refused(_) => s,
+        Move::BeginLabel => begun(s, job as u32),
+        Move::BeginScan => in_phase(s, Phase::Snap(Operation::Scan)),
+        Move::SnapLabel => s,
+        Move::SnapScan => s,
+        Move::Update => updated(s),
+        Move::EndLabel => in_phase(s, Phase::Idle),
+        Move::EndScan => in_phase(s, Phase::Idle),
+    }
+}
+
+// The place of a station of n, from 0; that of the first if there is no such station.
+pub fn place_of(station: u64, n: usize) -> usize
+    requires { ⌜ 1 ≤ n ⌝ }
+    ensures { λ r. ⌜ r ≡ placeOf n station ⌝ }
+{
+    if station < 1 {
+        return 0;
+    }
+    if (n as u64) < station {
+        return 0;
+    }
+    (station - 1) as usize
+}
