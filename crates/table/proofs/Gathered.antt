@@ -2,7 +2,7 @@
 use Prim.Native.Nat.{ℕ, suc, _-_, _≤_, _<_}
 use native.Mathlib.Omega.{arith}
 use mathlib.Core.Path.{_≡_, refl, sym, ap, ap₂, subst, _∙_}
-use mathlib.Core.Bool.{true, not, _&&_}
+use mathlib.Core.Bool.{true, not, _&&_, cond}
 use mathlib.Core.List as Lists
 use mathlib.Core.List.{[], _∷_, _++_, map}
 use lib.ListN.{getD, take, replicate}
@@ -10,17 +10,19 @@ use lib.Dec.{eqb}
 use Rattle.label.specs.Tests.{newest, ordered, All}
 use Rattle.label.specs.Labels as Labels
 use Rattle.label.specs.Labels.{agrees, labelBefore}
-use Rattle.label.specs.Rows.{digit, Digit, noRing}
+use Rattle.label.specs.Rows.{digit, row, Digit, noRing}
 use Rattle.label.proofs.Facts.{Same, every-same, newest-same, ordered-same, ordered-all}
 use Rattle.table.specs.Results.{entry, blank, stored}
-use Rattle.table.specs.Tables.{at, labels, stands, newestOf, scanOf}
+use Rattle.table.specs.Tables.{at, labels, stands, newestOf, pendingAfter, scanOf}
 use Rattle.table.specs.WellFormed.{wellFormed}
-use Rattle.table.specs.Gathered.{rowsOf, jobsOf, held, standsIn, Orderly}
+use Rattle.rows.specs.Held.{held, standsIn, Orderly, pendingIn}
+use Rattle.rows.proofs.OrderLaws.{orderIn, order-front}
+use Rattle.rows.proofs.ChoiceLaws.{new-label-same}
+use Rattle.table.specs.Gathered.{rowsOf, jobsOf}
 use Rattle.table.specs.declared.Entry.{Entry}
 use Rattle.table.specs.declared.Table.{Table}
-use Rattle.table.proofs.Orders.{passed, label-digits}
+use Rattle.table.proofs.Orders.{passed, label-digits, newest-station}
 use Rattle.label.proofs.Filled.{filled-in}
-use Rattle.table.proofs.OrderLaws.{orderIn, order-front}
 
 pub held-labels : (t : Table) (i : ℕ) → i < t .count → t .count ≤ 32 → held (rowsOf t) i ≡ labels t i
 held-labels t i l h = ap digit (filled-in 32 (λ j. at t j .label) (replicate 31 1) [] (t .count) i l h)
@@ -49,10 +51,6 @@ stored-same size n f g l a = ap (λ (r : Lists.List Entry). r ++ replicate (size
 stands-same : (t : Table) → t .count ≤ 32 → Same (t .count) (standsIn (t .count) (rowsOf t)) (stands t)
 stands-same t h i j li lj = ap₂ (λ (a b : Labels.Label). labelBefore (t .count - 1) a i b j) (held-labels t i li h) (held-labels t j lj h)
 
-pub newest-gathered : (t : Table) → t .count ≤ 32 → newest (t .count) (standsIn (t .count) (rowsOf t)) ≡ newestOf t
-unfolding newestOf
-newest-gathered t h = newest-same (t .count) (standsIn (t .count) (rowsOf t)) (stands t) (stands-same t h)
-
 pub ordered-gathered : (t : Table) → t .count ≤ 32 → ordered (t .count) (standsIn (t .count) (rowsOf t)) ≡ ordered (t .count) (stands t)
 ordered-gathered t h = ordered-same (t .count) (t .count) (standsIn (t .count) (rowsOf t)) (stands t) (omega arith) (stands-same t h)
 
@@ -71,10 +69,24 @@ scan-made t rows jobs order r h e f g q =
     q ∙ ap (stored 32 (t .count) (λ i. getD jobs i 0)) (order-front 32 (standsIn (t .count) rows) (t .count) order g)
     ∙ (λ x. stored 32 (t .count) (λ i. getD (f x) i 0) (ordered (t .count) (standsIn (t .count) (e x)))) ∙ scan-gathered t h
 
-pub gathered-orderly : (t : Table) → wellFormed t ≡ true → Orderly (t .count) (rowsOf t)
-gathered-orderly t e = let w = passed t e in record {
-  low = w .low;
-  high = w .high;
-  valid = λ i l p lp. subst (λ (a : Labels.Label). Digit (a p)) (sym (held-labels t i l (w .high))) (label-digits t e i p l lp);
-  free = no-ring-gathered t (omega (arith, w .low)) (w .high) ∙ w .free;
-}
+-- the gathered rows are in order, and have the table's newest station and pending labels
+module _ (t : Table) (w : wellFormed t ≡ true) {rows : Lists.List (Lists.List ℕ)} (e : rows ≡ rowsOf t) where
+  pub rows-orderly : Orderly (t .count) rows
+  rows-orderly = let p = passed t w in rw e (record {
+    low = p .low;
+    high = p .high;
+    valid = λ i l q lq. subst (λ (a : Labels.Label). Digit (a q)) (sym (held-labels t i l (p .high))) (label-digits t w i q l lq);
+    free = no-ring-gathered t (omega (arith, p .low)) (p .high) ∙ p .free;
+  })
+
+  pub rows-newest : newest (t .count) (standsIn (t .count) rows) ≡ newestOf t
+  unfolding newestOf
+  rows-newest = rw e (newest-same (t .count) (standsIn (t .count) (rowsOf t)) (stands t) (stands-same t (passed t w .high)))
+
+  pub rows-pending : (k : ℕ) {own : Lists.List ℕ} → own ≡ at t k .«pending_label» → pendingIn (t .count) rows k own ≡ pendingAfter t k
+  unfolding pendingIn pendingAfter
+  rows-pending k f = rw (rows-newest, f) (ap (λ (l : Lists.List ℕ). cond (eqb k (newestOf t)) (at t k .«pending_label») l) (ap (row 31)
+      (new-label-same (t .count - 1) (held rows) (labels t) same 1 (newestOf t) k (omega (arith, newest-station t w)))))
+    where
+      same : (j : ℕ) → j < suc (t .count - 1) → held rows j ≡ labels t j
+      same j l = rw e (held-labels t j (omega (arith, passed t w .low)) (passed t w .high))

@@ -1,4 +1,4 @@
--- What a type keeps of its values: the lengths of the arrays in a table and of gathered labels.
+-- What a type keeps of its values: the lengths of the arrays in a table.
 use Prim.Native.Nat.{ℕ, zero, suc, _<_}
 use native.Mathlib.Nat.{le-of-suc-le-suc, not-suc-le-zero}
 use native.Mathlib.Omega.{arith}
@@ -7,11 +7,8 @@ use mathlib.Core.List.{List, [], _∷_, map}
 use lib.ListN.{length, getD, length-map, List·getD-map}
 use base.Fml.{Fml}
 use mir.Val.{Val}
-use mir.Syntax.{w8}
 use denote.Shadow.{shadow}
 use denote.Array.{each}
-use borrow.Fn.Kinds
-use borrow.Kind.Array.{pArr, eArr, eArr-laws, eInt, eInt-laws}
 use Rattle.label.proofs.Facts.{getD-any}
 use Rattle.table.specs.Tables.{at}
 use Rattle.table.specs.declared.Phase.the-variants.{Idle}
@@ -38,10 +35,6 @@ each-holds f P told z [] us s i h = absurd (not-suc-le-zero h)
 each-holds f P told z (x ∷ xs) [] s i h = absurd s
 each-holds f P told z (x ∷ xs) (u ∷ us) s zero h = told x (u ∷ []) (s .0)
 each-holds f P told z (x ∷ xs) (u ∷ us) s (suc i) h = each-holds f P told z xs us (s .1) i (le-of-suc-le-suc h)
-
-pub rows-long : (rows : List (List ℕ)) → Kinds.GoodK {n = 0} tt (pArr {k = 0} (eArr (eInt w8) 31) (eArr-laws (eInt w8) (eInt-laws w8) 31) 32) rows
-    → (j : ℕ) → j < 32 → length (getD rows j []) ≡ 31
-rows-long rows g j h = each-holds _ (λ (l : List ℕ). length l ≡ 31) (λ x vs s. s .1 .0 .1) [] rows _ (g .1 .1) j (omega (arith, g .1 .0 .1))
 
 -- the same of an array that is a field, where each element x stands as `into x`
 each-mapped : {A d : Type 0} (into : A → d) (f : d → List Val → Fml) (P : A → Type 0) → ((x : A) (vs : List Val) → shadow (f (into x) vs) → P x)

@@ -1,15 +1,14 @@
 // The table of labels: one record for each station.
 ghost use mathlib.Core.Path.{_≡_};
 ghost use mathlib.Core.Bool.{true};
-ghost use Prim.Native.Nat.{_+_, _-_, _≤_, _<_};
+ghost use Prim.Native.Nat.{ℕ, _+_, _-_, _≤_, _<_};
+ghost use lib.ListN.{getD, take};
 ghost use Rattle.label.specs.Tests.{every, tabulate};
 ghost use Rattle.table.specs.Gathered.{rowsOf, jobsOf};
-ghost use Rattle.table.specs.Results.{freshEntry};
+ghost use Rattle.table.specs.Results.{freshEntry, stored};
 ghost use Rattle.table.specs.Tables.{at, freshTable, newestOf, pendingAfter, scanOf};
 ghost use Rattle.table.specs.WellFormed.{stationFits, isFresh, wellFormed};
 
-pub mod choice;
-pub mod order;
 mod well_formed;
 
 // What a process is doing: it takes a label, or it scans (document 01: mark, list).
@@ -62,6 +61,25 @@ fn fresh_result(n: usize) -> [Entry; 32]
         p += 1;
     }
     result
+}
+
+// The stations of the first n places of `order` with their jobs, as a scan result.
+fn result(order: [usize; 32], jobs: [u32; 32], n: usize) -> [Entry; 32]
+    requires { ⌜ n ≤ 32 ⌝ }
+    requires { ⌜ ((p : ℕ) → p < n → getD order p 0 < 32) ⌝ }
+    ensures { λ r. ⌜ r ≡ stored 32 n (λ i. getD jobs i 0) (take n order) ⌝ }
+{
+    let mut r = [Entry { station: 0, job: 0 }; 32];
+    let mut p: usize = 0;
+    while p < n {
+        let i = order[p];
+        r[p] = Entry {
+            station: (i + 1) as u8,
+            job: jobs[i],
+        };
+        p += 1;
+    }
+    r
 }
 
 impl Table {
@@ -161,7 +179,8 @@ impl Table {
         if !self.stations_fit() || !self.rest_is_fresh() {
             return false;
         }
-        well_formed::no_ring(self.labels(), n)
+        let rows = self.labels();
+        rows::ring::no_ring(&rows, n)
     }
 
     // The newest station, from 0.
@@ -170,7 +189,7 @@ impl Table {
         ensures { λ r. ⌜ r ≡ newestOf self ⌝ }
     {
         let rows = self.labels();
-        order::newest(rows, self.count)
+        rows::order::newest(&rows, self.count)
     }
 
     // All stations with their jobs, oldest first: what a snap for a scan stores.
@@ -180,9 +199,9 @@ impl Table {
     {
         let n = self.count;
         let rows = self.labels();
-        let stations = order::order(rows, n);
+        let stations = rows::order::order(&rows, n);
         let jobs = self.jobs();
-        order::result(stations, jobs, n)
+        result(stations, jobs, n)
     }
 
     // The pending label that a snap for a label leaves at place k: the newest station keeps its own.
@@ -193,12 +212,8 @@ impl Table {
     {
         let n = self.count;
         let rows = self.labels();
-        let z = order::newest(rows, n);
-        if k == z {
-            let s = self.stations[k];
-            s.pending_label
-        } else {
-            choice::new_label(rows, n, z, k)
-        }
+        let s = self.stations[k];
+        let own = s.pending_label;
+        rows::choice::pending(&rows, n, k, own)
     }
 }

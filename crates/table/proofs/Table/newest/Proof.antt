@@ -1,11 +1,6 @@
-use Prim.Native.Nat.{ℕ}
-use mathlib.Core.Path.{sym, ap, subst, _∙_}
-use mathlib.Core.List.{List}
+use mathlib.Core.Path.{_∙_}
 use borrow.Author.Needs.{needs}
-use Rattle.label.specs.Tests.{newest}
-use Rattle.table.specs.Gathered.{standsIn, Orderly}
-use Rattle.table.proofs.Orders.{passed}
-use Rattle.table.proofs.Gathered.{gathered-orderly, newest-gathered}
+use Rattle.table.proofs.Gathered.{rows-orderly, rows-newest}
 use Rattle.table.proofs.Table.newest.Statement.{statement}
 use Rattle.table.proofs.Table.newest.Tie as tie
 
@@ -13,12 +8,12 @@ labels-requires : tie.Need-labels-requires
 labels-requires c κs = search needs
 
 newest-requires : tie.Need-newest-requires
-newest-requires c κs = subst (Orderly _) (sym (c .labels .ensures)) (gathered-orderly (c .before .args .self) (c .before .pre))
+newest-requires c κs = rows-orderly (c .before .before .args .self) (c .before .before .pre) (c .before .labels .ensures)
 
 returns : tie.Need-returns
 returns c =
-    let t = c .before .before .args .self in
-    c .newest .ensures ∙ ap (λ (rows : List (List ℕ)). newest (t .count) (standsIn (t .count) rows)) (c .before .labels .ensures) ∙ newest-gathered t (passed t (c .before .before .pre) .high)
+    let start = c .before .before .before in
+    c .newest .ensures ∙ rows-newest (start .args .self) (start .pre) (c .before .before .labels .ensures)
 
 pub newest-spec : {M : Type 1} → statement M
 newest-spec = tie.close (tie.spec labels-requires newest-requires returns)

@@ -9,10 +9,10 @@ use borrow.Author.Needs.{needs}
 use Rattle.label.specs.Tests.{every, within}
 use Rattle.label.specs.Rows.{noRing}
 use Rattle.label.proofs.Facts.{both, left-no, right-no}
-use Rattle.table.specs.Gathered.{held}
+use Rattle.rows.specs.Held.{held}
 use Rattle.table.specs.Tables.{at, labels}
 use Rattle.table.specs.WellFormed.{stationFits, isFresh, wellFormed}
-use Rattle.table.proofs.Checks.{and-yes, was-false, was-true}
+use Rattle.rows.proofs.Checks.{and-yes, was-false, was-true}
 use Rattle.table.proofs.Gathered.{no-ring-gathered}
 use borrow.Author.Tests.{ltb-true, ltb-false, lt-leb}
 use Rattle.label.proofs.Facts.{within-of}
@@ -54,13 +54,13 @@ no-ring-requires c κs = omega (arith, ltb-false)
 returns-3 : tie.Need-returns-3
 unfolding wellFormed
 returns-3 c =
-    let t = c .before .before .before .before .before .before .before .before .args .self in
+    let t = c .before .before .before .before .before .before .before .before .before .args .self in
     let n = t .count in
-    let low : 2 ≤ n = c .before .before .before .before .before .before .before .if1 .left in
-    let high : n ≤ 32 = ltb-false 32 n (c .before .before .before .before .before .before .if2 .left) in
-    let fits = was-true (c .before .before .before .before .before .stations-fit .ensures) (c .before .before .before .before .if3 .left) in
-    let rest = was-true (c .before .before .before .rest-is-fresh .ensures) (c .before .before .if4 .left) in
-    let ring = c .no-ring .ensures ∙ ap (λ (rows : List (List ℕ)). noRing (n - 1) (held rows)) (c .before .labels .ensures) ∙ no-ring-gathered t (omega arith) high in
+    let low : 2 ≤ n = c .before .before .before .before .before .before .before .before .if1 .left in
+    let high : n ≤ 32 = ltb-false 32 n (c .before .before .before .before .before .before .before .if2 .left) in
+    let fits = was-true (c .before .before .before .before .before .before .stations-fit .ensures) (c .before .before .before .before .before .if3 .left) in
+    let rest = was-true (c .before .before .before .before .rest-is-fresh .ensures) (c .before .before .before .if4 .left) in
+    let ring = c .no-ring .ensures ∙ ap (λ (rows : List (List ℕ)). noRing (n - 1) (held rows)) (c .before .before .labels .ensures) ∙ no-ring-gathered t (omega arith) high in
     and-yes (both (both (within-of 2 32 n low high) fits) rest) ring
 
 pub well-formed-spec : {M : Type 1} → statement M

@@ -1,0 +1,190 @@
+-- Laws of the choice of a new label: counts taken in one pass, the search for the level, and what both read of the labels.
+use Prim.Native.Nat.{ℕ, zero, suc, _+_, _-_, _≤_, _<_}
+use native.Mathlib.Decide.{ℕ-discrete, decLt}
+use native.Mathlib.Numerals.{add-one}
+use native.Mathlib.Omega.{arith}
+use mathlib.Core.Path.{_≡_, refl, sym, ap, ap₂, _∙_}
+use mathlib.Core.Logic.{_≢_, by-cases}
+use mathlib.Core.Bool.{Bool, true, false, not, _&&_, cond}
+use mathlib.Core.List.{List}
+use lib.ListN.{length, getD, set}
+use lib.Dec.{eqb, leb, ltb}
+use borrow.Author.Tests.{eq-eqb, ne-eqb, le-leb, lt-leb, lt-ltb, le-ltb}
+use Rattle.label.specs.Tests.{count, firstFrom, newest}
+use Rattle.label.specs.Labels.{Label, agrees, firstDifference, nextLabel, others, level, newLabel}
+use Rattle.label.specs.Rows.{row}
+use Rattle.rows.specs.Held.{held, standsIn, pendingIn}
+use Rattle.label.proofs.Facts.{right-no, first-is, firstFrom-same, count-bound, set-each}
+use Rattle.label.proofs.Digits.{Tri, lt, eq, gt, compare}
+use Rattle.label.proofs.Order.{agrees-upto, difference-first}
+use Rattle.label.proofs.Choice.{level-spec}
+use Rattle.label.proofs.Filled.{filled, filled-in}
+
+-- COUNTS
+
+pub count-same : (n : ℕ) (f g : ℕ → Bool) → ((j : ℕ) → j < n → f j ≡ g j) → count n f ≡ count n g
+unfolding count
+count-same zero f g e = refl
+count-same (suc n) f g e = ap₂ (λ b c. cond b 1 0 + c) (e n (omega arith)) (count-same n f g (λ j l. e j (omega arith)))
+
+-- with one number more
+pub count-yes : (j : ℕ) (f : ℕ → Bool) → f j ≡ true → count (j + 1) f ≡ count j f + 1
+unfolding count
+count-yes j f e = simp (add-one, e) (omega arith)
+
+pub count-no : (j : ℕ) (f : ℕ → Bool) → f j ≡ false → count (j + 1) f ≡ count j f
+unfolding count
+count-no j f e = simp (add-one, e) (omega arith)
+
+pub count-none : (n : ℕ) (f : ℕ → Bool) → ((j : ℕ) → j < n → f j ≡ false) → count n f ≡ 0
+unfolding count
+count-none zero f e = refl
+count-none (suc n) f e = rw (e n (omega arith), count-none n f (λ j l. e j (omega arith))) refl
+
+-- a test that passes where one of two others does, which never pass together
+pub count-sum : (n : ℕ) (f g h : ℕ → Bool) → ((j : ℕ) → j < n → cond (f j) 1 0 + cond (g j) 1 0 ≡ cond (h j) 1 0) → count n f + count n g ≡ count n h
+unfolding count
+count-sum zero f g h e = refl
+count-sum (suc n) f g h e = omega (arith, e n (omega arith), count-sum n f g h (λ j l. e j (omega arith)))
+
+-- all but one
+pub count-others : (n k : ℕ) → k < n → count n (λ j. not (eqb j k)) + 1 ≡ n
+unfolding count
+count-others zero k l = absurd (omega arith)
+count-others (suc n) k l = by-cases (ℕ-discrete n k)
+    (λ e. rw (eq-eqb n k e) (omega (arith, all n (omega arith))))
+    (λ d. rw (ne-eqb n k d) (omega (arith, count-others n k (omega arith))))
+  where
+    all : (n : ℕ) → n ≤ k → count n (λ j. not (eqb j k)) ≡ n
+    all zero l = refl
+    all (suc n) l = rw (ne-eqb n k (λ e. omega arith)) (omega (arith, all n (omega arith)))
+
+-- a list of counts, one for each value of s, with one number more
+module _ (w : ℕ) (f : ℕ → Bool) (s : ℕ → ℕ) (r : List ℕ) (j : ℕ) (old : (q : ℕ) → q < w → getD r q 0 ≡ count j (λ i. f i && eqb (s i) q)) where
+  pub tally-miss : f j ≡ false → (q : ℕ) → q < w → getD r q 0 ≡ count (j + 1) (λ i. f i && eqb (s i) q)
+  tally-miss e q l = old q l ∙ sym (count-no j (λ i. f i && eqb (s i) q) (rw e refl))
+
+  pub tally-hit : f j ≡ true → s j < w → s j < length r → (q : ℕ) → q < w → getD (set r (s j) (getD r (s j) 0 + 1)) q 0 ≡ count (j + 1) (λ i. f i && eqb (s i) q)
+  tally-hit e ls h = set-each w r (s j) _ 0 (λ q. count j (λ i. f i && eqb (s i) q)) _ h old
+      (ap (λ n. n + 1) (old (s j) ls) ∙ sym (count-yes j (λ i. f i && eqb (s i) (s j)) (rw (e, eq-eqb (s j) (s j) refl) refl)))
+      (λ q l d. sym (count-no j (λ i. f i && eqb (s i) q) (rw (e, ne-eqb (s j) q (λ p. d (sym p))) refl)))
+
+-- THE LEVEL
+
+less-or-same : (b : Bool) (x p : ℕ) → cond (b && ltb x p) 1 0 + cond (b && eqb x p) 1 0 ≡ cond (b && ltb x (p + 1)) 1 0
+less-or-same false x p = refl
+less-or-same true x p = go (compare x p)
+  where
+    go : Tri (x < p) (x ≡ p) (p < x) → cond (ltb x p) 1 0 + cond (eqb x p) 1 0 ≡ cond (ltb x (p + 1)) 1 0
+    go (lt l) = rw (lt-ltb x p l, ne-eqb x p (λ e. omega arith), lt-ltb x (p + 1) (omega arith)) refl
+    go (eq e) = rw (le-ltb x p (omega arith), eq-eqb x p e, lt-ltb x (p + 1) (omega arith)) refl
+    go (gt l) = rw (le-ltb x p (omega arith), ne-eqb x p (λ e. omega arith), le-ltb x (p + 1) (omega arith)) refl
+
+more-or-less : (b : Bool) (x p : ℕ) → cond (b && leb (suc p) x) 1 0 + cond (b && ltb x (p + 1)) 1 0 ≡ cond b 1 0
+more-or-less false x p = refl
+more-or-less true x p = by-cases (decLt p x)
+    (λ l. rw (le-leb (suc p) x l, le-ltb x (p + 1) (omega arith)) refl)
+    (λ l. rw (lt-leb (suc p) x (omega arith), lt-ltb x (p + 1) (omega arith)) refl)
+
+-- the sum of the first p elements
+unfoldable pub upto : List ℕ → ℕ → ℕ
+upto l zero = 0
+upto l (suc p) = upto l p + getD l p 0
+
+pub upto-none : (l : List ℕ) → 0 ≡ upto l 0
+unfolding upto
+upto-none l = refl
+
+pub upto-more : (l : List ℕ) (p : ℕ) → upto l p + getD l p 0 ≡ upto l (p + 1)
+unfolding upto
+upto-more l p = sym (ap (upto l) (add-one p))
+
+-- of the n stations, where station j shares s j digits
+module _ (n k : ℕ) (s : ℕ → ℕ) where
+  -- how many others share fewer than p digits
+  unfoldable fewer : ℕ → ℕ
+  fewer p = count n (λ j. not (eqb j k) && ltb (s j) p)
+
+  fewer-none : 0 ≡ fewer 0
+  unfolding fewer
+  fewer-none = sym (count-none n _ (λ j l. right-no (not (eqb j k)) (le-ltb (s j) 0 (omega arith))))
+
+  fewer-more : (p : ℕ) → fewer p + count n (λ j. not (eqb j k) && eqb (s j) p) ≡ fewer (p + 1)
+  unfolding fewer
+  fewer-more p = count-sum n _ _ _ (λ j l. less-or-same (not (eqb j k)) (s j) p)
+
+  -- the test of the level, told by how many share at most p digits
+  abbrev pub enough : ℕ → Bool
+  enough p = leb (n - 1 - p) (count n (λ j. not (eqb j k) && leb (suc p) (s j)))
+
+  parts : (p : ℕ) → k < n → count n (λ j. not (eqb j k) && leb (suc p) (s j)) + fewer (p + 1) + 1 ≡ n
+  unfolding fewer
+  parts p l = ap (λ (c : ℕ). c + 1) (count-sum n _ _ _ (λ j l. more-or-less (not (eqb j k)) (s j) p)) ∙ count-others n k l
+
+  enough-yes : (p : ℕ) → k < n → fewer (p + 1) ≤ p → enough p ≡ true
+  enough-yes p l h = le-leb (n - 1 - p) (count n (λ j. not (eqb j k) && leb (suc p) (s j))) (omega (arith, parts p l))
+
+  enough-no : (p : ℕ) → k < n → p < fewer (p + 1) → enough p ≡ false
+  enough-no p l h = lt-leb (n - 1 - p) (count n (λ j. not (eqb j k) && leb (suc p) (s j))) (omega (arith, parts p l))
+
+  -- the same from the list of those that share exactly q digits, for each q
+  module _ (w : ℕ) (r : List ℕ) (e : (q : ℕ) → q < w → getD r q 0 ≡ count n (λ j. not (eqb j k) && eqb (s j) q)) (l : k < n) where
+    upto-fewer : (p : ℕ) → p ≤ w → upto r p ≡ fewer p
+    unfolding upto
+    upto-fewer zero h = fewer-none
+    upto-fewer (suc p) h = ap₂ (λ (a b : ℕ). a + b) (upto-fewer p (omega arith)) (e p (omega arith)) ∙ fewer-more p ∙ ap fewer (add-one p)
+
+    pub upto-small : (p : ℕ) → p ≤ w → upto r p ≤ n
+    unfolding fewer
+    upto-small p h = rw (upto-fewer p h) (count-bound n _)
+
+    -- the level: the first position that is not below the number of those that share at most as many digits
+    pub level-is : (p : ℕ) → p ≤ n - 1 → n ≤ w → ((q : ℕ) → q < p → q < upto r (q + 1)) → (p < n - 1 → upto r (p + 1) ≤ p) → p ≡ firstFrom (n - 1) 0 enough
+    level-is p h f early found = first-is (n - 1) enough p h
+        (λ q b. enough-no q l (rw (upto-fewer (q + 1) (omega arith)) at (early q b)))
+        (λ b. enough-yes p l (rw (upto-fewer (p + 1) (omega arith)) at (found b)))
+
+-- THE LABELS
+
+-- the new label is that of other labels which are the same for the m + 1 stations
+module _ (m : ℕ) (t u : ℕ → Label) (e : (j : ℕ) → j < suc m → t j ≡ u j) where
+  level-same : (top : Label) (k : ℕ) → level m t top k ≡ level m u top k
+  unfolding level others
+  level-same top k = firstFrom-same m 0 _ _ (λ p l. ap (leb (m - p)) (count-same (suc m) _ _ (λ j h. ap (λ (a : Label). not (eqb j k) && agrees (suc p) a top) (e j h))))
+
+  pub new-label-same : (fill z k : ℕ) → z < suc m → newLabel m fill t z k ≡ newLabel m fill u z k
+  unfolding newLabel
+  new-label-same fill z k h = ap₂ (λ (a : Label) (p : ℕ). nextLabel fill a p) (e z h) (level-same (t z) k ∙ ap (λ (a : Label). level m u a k) (e z h))
+
+-- the level, by how many digits each of the n stations shares with the label `top`
+pub level-shared : (n : ℕ) (t : ℕ → Label) (top : Label) (s : ℕ → ℕ) (k : ℕ) → 1 ≤ n → ((j : ℕ) → j < n → s j ≡ firstDifference (n - 1) (t j) top)
+    → firstFrom (n - 1) 0 (enough n k s) ≡ level (n - 1) t top k
+unfolding level others
+level-shared n t top s k h e = firstFrom-same (n - 1) 0 _ _ (λ p l. ap (leb (n - 1 - p))
+    (count-same n _ _ (λ j i. ap (λ (b : Bool). not (eqb j k) && b) (ap (leb (suc p)) (e j i) ∙ sym (agrees-upto (n - 1) (t j) top (suc p) (omega arith))))
+    ∙ ap (λ (x : ℕ). count x (λ j. not (eqb j k) && agrees (suc p) (t j) top)) (omega arith)))
+
+-- the same with the label of station z, the shared digits kept in a list of w numbers
+module _ (w n : ℕ) (t : ℕ → Label) (z k : ℕ) (xs : List ℕ) (e : xs ≡ filled w n (λ j. firstDifference (n - 1) (t j) (t z)) 0) (h : n ≤ w) where
+  shared-at : (j : ℕ) → j < n → getD xs j 0 ≡ firstDifference (n - 1) (t j) (t z)
+  shared-at j l = ap (λ (r : List ℕ). getD r j 0) e ∙ filled-in w _ 0 0 n j l h
+
+  pub shared-small : (j : ℕ) → j < n → getD xs j 0 < w
+  shared-small j l = omega (arith, shared-at j l, difference-first (n - 1) (t j) (t z) .upto)
+
+  module _ (p : ℕ) (q : p ≡ firstFrom (n - 1) 0 (enough n k (λ j. getD xs j 0))) (l : k < n) where
+    pub level-found : p ≡ level (n - 1) t (t z) k
+    level-found = q ∙ level-shared n t (t z) (λ j. getD xs j 0) k (omega arith) shared-at
+
+    pub level-inside : z < n → z ≢ k → p < n - 1
+    level-inside lz d = rw level-found (level-spec (n - 1) t (t z) k z (omega arith) (omega arith) d refl .inside)
+
+-- the pending label, by whether station k is the newest, z
+module _ (n : ℕ) (rows : List (List ℕ)) (k : ℕ) (own : List ℕ) (z : ℕ) (e : z ≡ newest n (standsIn n rows)) where
+  pub pending-kept : k ≡ z → own ≡ pendingIn n rows k own
+  unfolding pendingIn
+  pending-kept d = rw (eq-eqb k (newest n (standsIn n rows)) (d ∙ e)) refl
+
+  pub pending-new : k ≢ z → row 31 (newLabel (n - 1) 1 (held rows) z k) ≡ pendingIn n rows k own
+  unfolding pendingIn
+  pending-new d = rw (← e, ne-eqb k z d) refl

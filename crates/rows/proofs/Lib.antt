@@ -1,0 +1,4 @@
+pub mod Checks
+pub mod OrderLaws
+pub mod ChoiceLaws
+pub mod Rings

@@ -1,0 +1,110 @@
+use Prim.Native.Nat.{ℕ, _+_, _-_, _/_, _≤_, _<_}
+use mathlib.Core.Path.{_≡_}
+use mathlib.Core.Bool.{true}
+use native.Mathlib.Omega.{arith}
+use lib.ListN.{getD}
+use Rattle.rows.specs.Held.{standsIn}
+use Rattle.rows.proofs.OrderLaws.{orderly-total}
+use Rattle.rows.proofs.OrderLaws.{listed-below, before-front, before-back}
+use borrow.Author.Needs.{needs}
+use Rattle.rows.proofs.order.position.Statement.{statement}
+use Rattle.rows.proofs.order.position.Tie as tie
+
+abbrev Inv-loop : tie.InvT-loop
+Inv-loop rows n order k row low₀ high₀ low high =
+    (low ≤ high) × (high ≤ k) × ((p : ℕ) → p < low → standsIn n rows (getD order p 0) k ≡ true)
+    × ((p : ℕ) → high ≤ p → p < k → standsIn n rows k (getD order p 0) ≡ true)
+
+abbrev μ-loop : tie.MeasureT-loop
+μ-loop rows n order k row low₀ high₀ low high = high - low
+
+mul-row : tie.Need-mul-row Inv-loop μ-loop
+mul-row c = search needs
+
+element-copy-out-row : tie.Need-element-copy-out-row Inv-loop μ-loop
+element-copy-out-row c = search needs
+
+loop-holds : tie.Need-loop-holds Inv-loop μ-loop
+loop-holds c = (search needs, search needs, λ p h. absurd (omega arith), λ p h u. absurd (omega arith))
+
+add-middle : tie.Need-add-middle Inv-loop μ-loop
+add-middle c = search needs
+
+mul-i : tie.Need-mul-i Inv-loop μ-loop
+mul-i c = search needs
+
+element-copy-out-i : tie.Need-element-copy-out-i Inv-loop μ-loop
+element-copy-out-i c = search needs
+
+listed : (c : tie.In-loop Inv-loop μ-loop) → getD (c .before .before .before .args .order .now) ((c .before .loop .low + c .before .loop .high) / 2) 0 < c .before .before .before .args .k
+listed c = listed-below _ _ _ (c .before .before .before .pre .1 .1) _ (omega arith)
+
+mul-label-before : tie.Need-mul-label-before Inv-loop μ-loop
+mul-label-before c = let h = listed (c .before) in omega arith
+
+element-copy-out-label-before : tie.Need-element-copy-out-label-before Inv-loop μ-loop
+element-copy-out-label-before c = let h = listed (c .before) in omega arith
+
+sub-label-before : tie.Need-sub-label-before Inv-loop μ-loop
+sub-label-before c = search needs
+
+label-before-requires : tie.Need-label-before-requires Inv-loop μ-loop
+label-before-requires c κs =
+    let valid = c .before .before .before .before .before .pre .0 .valid in
+    let h = listed (c .before .before) in
+    (search needs, (valid _ (omega arith), valid _ (omega arith)))
+
+add-low : tie.Need-add-low Inv-loop μ-loop
+add-low c = search needs
+
+loop-less : tie.Need-loop-less Inv-loop μ-loop
+loop-less c = search needs
+
+loop-again : tie.Need-loop-again Inv-loop μ-loop
+loop-again c =
+    let start = c .before .before .before .before .before .before .before in (
+      omega arith,
+      search needs,
+      before-front (orderly-total _ _ (start .pre .0)) (start .args .k) (start .pre .1 .0) _ (start .pre .1 .1) _ (omega arith) (c .before .label-before .ensures) (c .if1 .taken),
+      c .before .before .before .before .before .loop .inv .3,
+    )
+
+loop-less-2 : tie.Need-loop-less-2 Inv-loop μ-loop
+loop-less-2 c = search needs
+
+loop-again-2 : tie.Need-loop-again-2 Inv-loop μ-loop
+loop-again-2 c =
+    let start = c .before .before .before .before .before .before .before in (
+      omega arith,
+      omega arith,
+      c .before .before .before .before .before .loop .inv .2,
+      before-back (orderly-total _ _ (start .pre .0)) (start .args .k) (start .pre .1 .0) _ (start .pre .1 .1) _ (omega arith) (c .before .label-before .ensures) (c .if1 .left),
+    )
+
+returns : tie.Need-returns Inv-loop μ-loop
+returns c =
+    let e : c .before .loop .low ≡ c .before .loop .high = omega arith in
+    (search needs, (c .before .loop .inv .2, λ p h. c .before .loop .inv .3 p (omega arith)))
+
+pub position-spec : {M : Type 1} → statement M
+position-spec =
+    tie.close
+    (tie.spec
+    Inv-loop
+    μ-loop
+    mul-row
+    element-copy-out-row
+    loop-holds
+    add-middle
+    mul-i
+    element-copy-out-i
+    mul-label-before
+    element-copy-out-label-before
+    sub-label-before
+    label-before-requires
+    add-low
+    loop-less
+    loop-again
+    loop-less-2
+    loop-again-2
+    returns)

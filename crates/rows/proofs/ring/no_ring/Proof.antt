@@ -1,0 +1,53 @@
+use Prim.Native.Nat.{_-_, _≤_}
+use native.Mathlib.Omega.{arith}
+use mathlib.Core.Path.{_≡_, sym, _∙_}
+use mathlib.Core.Bool.{true}
+use borrow.Author.Needs.{needs}
+use Rattle.label.specs.Tests.{every}
+use Rattle.label.proofs.Facts.{every-no}
+use Rattle.rows.specs.Held.{held, noRingAt}
+use Rattle.rows.proofs.Checks.{every-none, every-more, every-done, was-false, was-true}
+use Rattle.rows.proofs.Rings.{no-ring-each}
+use Rattle.rows.proofs.ring.no_ring.Statement.{statement}
+use Rattle.rows.proofs.ring.no_ring.Tie as tie
+
+abbrev Inv-loop : tie.InvT-loop
+Inv-loop rows n i₀ i = (i ≤ n) × (every i (noRingAt n (held rows)) ≡ true)
+
+abbrev μ-loop : tie.MeasureT-loop
+μ-loop rows n i₀ i = n - i
+
+loop-holds : tie.Need-loop-holds Inv-loop μ-loop
+loop-holds c = (search needs, every-none _)
+
+no-ring-at-requires : tie.Need-no-ring-at-requires Inv-loop μ-loop
+no-ring-at-requires c κs = search needs
+
+returns : tie.Need-returns Inv-loop μ-loop
+returns c = sym (no-ring-each _ _ (search needs) ∙ every-no _ _ (c .before .before .before .loop .i) (search needs) (was-false (c .before .no-ring-at .ensures) (c .if1 .taken)))
+
+add-i : tie.Need-add-i Inv-loop μ-loop
+add-i c = search needs
+
+loop-less : tie.Need-loop-less Inv-loop μ-loop
+loop-less c = search needs
+
+loop-again : tie.Need-loop-again Inv-loop μ-loop
+loop-again c = (search needs, every-more _ _ (c .before .before .before .loop .inv .1) (was-true (c .before .no-ring-at .ensures) (c .if1 .left)))
+
+returns-2 : tie.Need-returns-2 Inv-loop μ-loop
+returns-2 c = every-done _ (c .before .loop .inv .1) (omega arith) ∙ sym (no-ring-each _ _ (search needs))
+
+pub no-ring-spec : {M : Type 1} → statement M
+no-ring-spec =
+    tie.close
+    (tie.spec
+    Inv-loop
+    μ-loop
+    loop-holds
+    no-ring-at-requires
+    returns
+    add-i
+    loop-less
+    loop-again
+    returns-2)

@@ -1,0 +1,34 @@
+-- The labels of n stations, held in an array of rows; contracts of the searches cite this.
+use Prim.Native.Nat.{ℕ, _-_, _≤_, _<_}
+use mathlib.Core.Path.{_≡_}
+use mathlib.Core.Bool.{Bool, true, not, _&&_, cond}
+use mathlib.Core.List.{List, []}
+use lib.ListN.{getD}
+use lib.Dec.{eqb}
+use Rattle.label.specs.Tests.{every, newest}
+use Rattle.label.specs.Labels.{Label, agrees, labelBefore, newLabel}
+use Rattle.label.specs.Rows.{digit, row, Valid, noRing}
+
+-- the label in a row, and which of the n stations stands before which
+abbrev pub held : List (List ℕ) → ℕ → Label
+held rows i = digit (getD rows i [])
+
+abbrev pub standsIn : ℕ → List (List ℕ) → ℕ → ℕ → Bool
+standsIn n rows i j = labelBefore (n - 1) (held rows i) i (held rows j) j
+
+-- what the searches ask of the rows, so that "stands before" is a total order of the n stations
+pub record Orderly (n : ℕ) (rows : List (List ℕ)) : Type 0 where
+  pub low : 2 ≤ n
+  pub high : n ≤ 32
+  pub valid : (i : ℕ) → i < n → Valid (n - 1) (held rows i)
+  pub free : noRing (n - 1) (held rows) ≡ true
+
+-- the pending label that a snap for a label leaves at place k, where `own` stands: the newest station keeps its own
+unfoldable pub pendingIn : ℕ → List (List ℕ) → ℕ → List ℕ → List ℕ
+pendingIn n rows k own = let z = newest n (standsIn n rows) in cond (eqb k z) own (row 31 (newLabel (n - 1) 1 (held rows) z k))
+
+-- of n labels, no three of which label i is the first agree before some position and have the digits 3, 4, 5 there
+unfoldable pub noRingAt : ℕ → (ℕ → Label) → ℕ → Bool
+noRingAt n t i =
+    every (n - 1) (λ p. every n (λ j. every n (λ k.
+    not (agrees p (t i) (t j) && agrees p (t j) (t k) && eqb (t i p) 3 && eqb (t j p) 4 && eqb (t k p) 5))))
