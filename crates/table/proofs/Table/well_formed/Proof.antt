@@ -13,7 +13,7 @@ use Rattle.rows.specs.Held.{held}
 use Rattle.table.specs.Tables.{at, labels}
 use Rattle.table.specs.WellFormed.{stationFits, isFresh, wellFormed}
 use Rattle.rows.proofs.Checks.{and-yes, was-false, was-true}
-use Rattle.table.proofs.Gathered.{no-ring-gathered}
+use Rattle.table.proofs.Gathered.{gathered-labels, rows-no-ring}
 use borrow.Author.Tests.{ltb-true, ltb-false, lt-leb}
 use Rattle.label.proofs.Facts.{within-of}
 use Rattle.table.proofs.Table.well_formed.Statement.{statement}
@@ -60,7 +60,7 @@ returns-3 c =
     let high : n ≤ 32 = ltb-false 32 n (c .before .before .before .before .before .before .before .if2 .left) in
     let fits = was-true (c .before .before .before .before .before .before .stations-fit .ensures) (c .before .before .before .before .before .if3 .left) in
     let rest = was-true (c .before .before .before .before .rest-is-fresh .ensures) (c .before .before .before .if4 .left) in
-    let ring = c .no-ring .ensures ∙ ap (λ (rows : List (List ℕ)). noRing (n - 1) (held rows)) (c .before .before .labels .ensures) ∙ no-ring-gathered t (omega arith) high in
+    let ring = c .no-ring .ensures ∙ rows-no-ring t (gathered-labels t high (c .before .before .labels .ensures)) (omega arith) in
     and-yes (both (both (within-of 2 32 n low high) fits) rest) ring
 
 pub well-formed-spec : {M : Type 1} → statement M
