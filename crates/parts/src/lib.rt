@@ -1,0 +1,158 @@
+// The step call on a table that is taken apart: its arrays are lent, and nothing is copied but what changes.
+ghost use mathlib.Core.Path.{_≡_};
+ghost use mathlib.Core.Bool.{true, cond};
+ghost use Prim.Native.Nat.{ℕ, suc, _≤_, _<_};
+ghost use lib.ListN.{length, getD};
+ghost use lib.Dec.{ltb};
+ghost use Rattle.label.specs.Tests.{tabulate};
+ghost use Rattle.table.specs.WellFormed.{wellFormed};
+ghost use Rattle.moves.specs.Moves.{called};
+ghost use Rattle.step.specs.Contracts.{Steps};
+ghost use Rattle.parts.specs.Parts.{parts, phaseOf, entries, assembled};
+use moves::Move;
+use moves::Refusal;
+use step::Reply;
+use table::Entry;
+use table::Operation;
+use table::Phase;
+
+// The numbers of the phases.
+const IDLE: u8 = 0;
+const SNAP_LABEL: u8 = 1;
+const SNAP_SCAN: u8 = 2;
+const UPDATE: u8 = 3;
+const END_LABEL: u8 = 4;
+const END_SCAN: u8 = 5;
+
+// The phase that a number stands for.
+fn phase_of(b: u8) -> Phase
+    ensures { λ r. ⌜ r ≡ phaseOf b ⌝ }
+{
+    if b == IDLE {
+        return Phase::Idle;
+    }
+    if b == SNAP_LABEL {
+        return Phase::Snap(Operation::Label);
+    }
+    if b == SNAP_SCAN {
+        return Phase::Snap(Operation::Scan);
+    }
+    if b == UPDATE {
+        return Phase::Update;
+    }
+    if b == END_LABEL {
+        return Phase::End(Operation::Label);
+    }
+    Phase::End(Operation::Scan)
+}
+
+// The stations, from 1, of the first n places of an order; 0s past them.
+fn ordered_stations(order: &[usize; 32], n: usize) -> [u8; 32]
+    requires { ⌜ n ≤ 32 ⌝ }
+    requires { ⌜ ((p : ℕ) → p < n → getD (now order) p 0 < 32) ⌝ }
+    ensures { λ r. ⌜ r ≡ tabulate 32 0 (λ p. cond (ltb p n) (suc (getD (now (order .entry)) p 0)) 0) ⌝ }
+{
+    let mut r = [0u8; 32];
+    let mut p: usize = 0;
+    while p < n {
+        r[p] = (order[p] + 1) as u8;
+        p += 1;
+    }
+    r
+}
+
+// The jobs of those stations.
+fn ordered_jobs(order: &[usize; 32], jobs: &[u32; 32], n: usize) -> [u32; 32]
+    requires { ⌜ n ≤ 32 ⌝ }
+    requires { ⌜ ((p : ℕ) → p < n → getD (now order) p 0 < 32) ⌝ }
+    ensures { λ r. ⌜ r ≡ tabulate 32 0 (λ p. cond (ltb p n) (getD (now (jobs .entry)) (getD (now (order .entry)) p 0) 0) 0) ⌝ }
+{
+    let mut r = [0u32; 32];
+    let mut p: usize = 0;
+    while p < n {
+        let i = order[p];
+        r[p] = jobs[i];
+        p += 1;
+    }
+    r
+}
+
+// A scan result from its stations and jobs.
+fn entries_of(stations: [u8; 32], jobs: [u32; 32]) -> [Entry; 32]
+    ensures { λ r. ⌜ r ≡ entries stations jobs ⌝ }
+{
+    let mut r = [Entry { station: 0, job: 0 }; 32];
+    let mut p: usize = 0;
+    while p < 32 {
+        r[p] = Entry {
+            station: stations[p],
+            job: jobs[p],
+        };
+        p += 1;
+    }
+    r
+}
+
+// A step call on the parts of a well-formed table; its report lines bear the number `line`.
+pub fn serve(
+    n: usize,
+    labels: &mut [[u8; 31]; 32],
+    jobs: &mut [u32; 32],
+    pending_labels: &mut [[u8; 31]; 32],
+    pending_jobs: &mut [u32; 32],
+    result_stations: &mut [[u8; 32]; 32],
+    result_jobs: &mut [[u32; 32]; 32],
+    phases: &mut [u8; 32],
+    line: u64,
+    code: u64,
+    station: u64,
+    job: u64,
+    report: &mut [u8],
+) -> Reply
+    requires { ⌜ wellFormed (assembled (parts n (now labels) (now jobs) (now «pending_labels») (now «pending_jobs») (now «result_stations») (now «result_jobs») (now phases))) ≡ true ⌝ }
+    ensures { λ r. ⌜ Steps (assembled (parts n (now (labels .entry)) (now (jobs .entry)) (now («pending_labels» .entry)) (now («pending_jobs» .entry)) (now («result_stations» .entry)) (now («result_jobs» .entry)) (now (phases .entry)))) (called line code station job (length (now (report .entry)))) (now (report .entry)) (assembled (parts n (now (labels .exit)) (now (jobs .exit)) (now («pending_labels» .exit)) (now («pending_jobs» .exit)) (now («result_stations» .exit)) (now («result_jobs» .exit)) (now (phases .exit)))) r (now (report .exit)) ⌝ }
+    ensures { λ _. ⌜ (((i : ℕ) → i < 32 → getD (now (phases .entry)) i 0 ≤ 5) → (i : ℕ) → i < 32 → getD (now (phases .exit)) i 0 ≤ 5) ⌝ }
+{
+    let place = moves::place_of(station, n);
+    let p = phase_of(phases[place]);
+    let m = moves::judge(n, p, code, station, job, report.len());
+    let mut written = 0;
+    let mut refusal = Refusal::Accepted;
+    match m {
+        Move::Refused(r) => {
+            refusal = r;
+        }
+        Move::BeginLabel => {
+            pending_jobs[place] = job as u32;
+            phases[place] = SNAP_LABEL;
+        }
+        Move::BeginScan => {
+            phases[place] = SNAP_SCAN;
+        }
+        Move::SnapLabel => {
+            let own = pending_labels[place];
+            pending_labels[place] = rows::choice::pending(labels, n, place, own);
+            phases[place] = UPDATE;
+        }
+        Move::SnapScan => {
+            let order = rows::order::order(labels, n);
+            result_stations[place] = ordered_stations(&order, n);
+            result_jobs[place] = ordered_jobs(&order, jobs, n);
+            phases[place] = END_SCAN;
+        }
+        Move::Update => {
+            labels[place] = pending_labels[place];
+            jobs[place] = pending_jobs[place];
+            phases[place] = END_LABEL;
+        }
+        Move::EndLabel => {
+            phases[place] = IDLE;
+        }
+        Move::EndScan => {
+            written = n * 29;
+            step::write_result(entries_of(result_stations[place], result_jobs[place]), n, line, report);
+            phases[place] = IDLE;
+        }
+    }
+    Reply { refusal, written }
+}
