@@ -2,45 +2,40 @@
 use Prim.Native.Nat.{ℕ, suc, _-_, _≤_, _<_}
 use native.Mathlib.Omega.{arith}
 use mathlib.Core.Path.{_≡_, refl, sym, ap, ap₂, subst, _∙_}
-use mathlib.Core.Bool.{true, not, _&&_, cond}
+use mathlib.Core.Bool.{true, cond}
 use mathlib.Core.List as Lists
 use mathlib.Core.List.{[], _∷_, _++_, map}
 use lib.ListN.{getD, take, replicate}
 use lib.Dec.{eqb}
 use Rattle.label.specs.Tests.{newest, ordered, All}
 use Rattle.label.specs.Labels as Labels
-use Rattle.label.specs.Labels.{agrees, labelBefore}
+use Rattle.label.specs.Labels.{labelBefore}
 use Rattle.label.specs.Rows.{digit, row, Digit, noRing}
-use Rattle.label.proofs.Facts.{Same, every-same, newest-same, ordered-same, ordered-all}
+use Rattle.label.proofs.Facts.{Same, newest-same, ordered-same, ordered-all}
 use Rattle.table.specs.Results.{entry, blank, stored}
 use Rattle.table.specs.Tables.{at, labels, stands, newestOf, pendingAfter, scanOf}
 use Rattle.table.specs.WellFormed.{wellFormed}
 use Rattle.rows.specs.Held.{held, standsIn, Orderly, pendingIn}
 use Rattle.rows.proofs.OrderLaws.{orderIn, order-front}
 use Rattle.rows.proofs.ChoiceLaws.{new-label-same}
+use Rattle.rows.proofs.Rings.{no-ring-same}
 use Rattle.table.specs.Gathered.{rowsOf, jobsOf}
 use Rattle.table.specs.declared.Entry.{Entry}
 use Rattle.table.specs.declared.Table.{Table}
 use Rattle.table.proofs.Orders.{passed, label-digits, newest-station}
 use Rattle.label.proofs.Filled.{filled-in}
 
-pub held-labels : (t : Table) (i : ℕ) → i < t .count → t .count ≤ 32 → held (rowsOf t) i ≡ labels t i
+held-labels : (t : Table) (i : ℕ) → i < t .count → t .count ≤ 32 → held (rowsOf t) i ≡ labels t i
 held-labels t i l h = ap digit (filled-in 32 (λ j. at t j .label) (replicate 31 1) [] (t .count) i l h)
 
-pub held-job : (t : Table) (i : ℕ) → i < t .count → t .count ≤ 32 → getD (jobsOf t) i 0 ≡ at t i .job
+held-job : (t : Table) (i : ℕ) → i < t .count → t .count ≤ 32 → getD (jobsOf t) i 0 ≡ at t i .job
 held-job t i l h = filled-in 32 (λ j. at t j .job) 0 0 (t .count) i l h
-
--- tests and results that see only the first m + 1 labels, or the listed processes
-no-ring-same : (m : ℕ) (t u : ℕ → Labels.Label) → ((i : ℕ) → i < suc m → t i ≡ u i) → noRing m t ≡ noRing m u
-unfolding noRing
-no-ring-same m t u e =
-    every-same m _ _ (λ p lp. every-same (suc m) _ _ (λ i li. every-same (suc m) _ _ (λ j lj. every-same (suc m) _ _ (λ k lk.
-    λ x. not (agrees p (e i li x) (e j lj x) && agrees p (e j lj x) (e k lk x) && eqb (e i li x p) 3 && eqb (e j lj x p) 4 && eqb (e k lk x p) 5)))))
 
 pub no-ring-gathered : (t : Table) → 1 ≤ t .count → t .count ≤ 32 → noRing (t .count - 1) (held (rowsOf t)) ≡ noRing (t .count - 1) (labels t)
 no-ring-gathered t l h = no-ring-same (t .count - 1) (held (rowsOf t)) (labels t) (λ i k. held-labels t i (omega arith) h)
 
-pub stored-same : (size n : ℕ) (f g : ℕ → ℕ) (l : Lists.List ℕ) → All (λ i. f i ≡ g i) l → stored size n f l ≡ stored size n g l
+-- a result sees only the jobs of the listed processes
+stored-same : (size n : ℕ) (f g : ℕ → ℕ) (l : Lists.List ℕ) → All (λ i. f i ≡ g i) l → stored size n f l ≡ stored size n g l
 unfolding stored
 stored-same size n f g l a = ap (λ (r : Lists.List Entry). r ++ replicate (size - n) blank) (each l a)
   where
@@ -51,10 +46,10 @@ stored-same size n f g l a = ap (λ (r : Lists.List Entry). r ++ replicate (size
 stands-same : (t : Table) → t .count ≤ 32 → Same (t .count) (standsIn (t .count) (rowsOf t)) (stands t)
 stands-same t h i j li lj = ap₂ (λ (a b : Labels.Label). labelBefore (t .count - 1) a i b j) (held-labels t i li h) (held-labels t j lj h)
 
-pub ordered-gathered : (t : Table) → t .count ≤ 32 → ordered (t .count) (standsIn (t .count) (rowsOf t)) ≡ ordered (t .count) (stands t)
+ordered-gathered : (t : Table) → t .count ≤ 32 → ordered (t .count) (standsIn (t .count) (rowsOf t)) ≡ ordered (t .count) (stands t)
 ordered-gathered t h = ordered-same (t .count) (t .count) (standsIn (t .count) (rowsOf t)) (stands t) (omega arith) (stands-same t h)
 
-pub scan-gathered : (t : Table) → t .count ≤ 32
+scan-gathered : (t : Table) → t .count ≤ 32
     → stored 32 (t .count) (λ i. getD (jobsOf t) i 0) (ordered (t .count) (standsIn (t .count) (rowsOf t))) ≡ scanOf t
 unfolding scanOf
 scan-gathered t h =
