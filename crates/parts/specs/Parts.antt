@@ -1,18 +1,22 @@
 -- A table taken apart: an array of numbers for each field of its records, so that it can be lent without being copied.
-use Prim.Native.Nat.{ℕ}
+use Prim.Native.Nat.{ℕ, _≤_, _<_}
+use mathlib.Core.Path.{_≡_}
 use mathlib.Core.List as Lists
 use mathlib.Core.List.{[]}
 use mathlib.Core.Bool.{cond}
-use lib.ListN.{getD}
+use lib.ListN.{length, getD}
 use lib.Dec.{eqb}
 use Rattle.label.specs.Tests.{tabulate}
+use Rattle.simulation.specs.Calls.{Call}
 use Rattle.table.specs.Results.{entry}
+use Rattle.step.specs.Contracts.{Steps}
 use Rattle.table.specs.declared.Entry.{Entry}
 use Rattle.table.specs.declared.Phase.{Phase}
 use Rattle.table.specs.declared.Phase.the-variants.{Idle, Snap, Update, End}
 use Rattle.table.specs.declared.Operation.the-variants.{Label, Scan}
 use Rattle.table.specs.declared.Station.{Station}
 use Rattle.table.specs.declared.Table.{Table}
+use Rattle.step.specs.declared.Reply.{Reply}
 
 pub record Parts : Type 0 where
   pub count : ℕ
@@ -54,3 +58,23 @@ stationAt p i = record {
 
 unfoldable pub assembled : Parts → Table
 assembled p = record { count = p .count; stations = tabulate 32 0 (stationAt p) }
+
+-- each array has a place for each station
+pub record Sized (p : Parts) : Type 0 where
+  pub labels : length (p .labels) ≡ 32
+  pub jobs : length (p .jobs) ≡ 32
+  pub pendingLabels : length (p .pendingLabels) ≡ 32
+  pub pendingJobs : length (p .pendingJobs) ≡ 32
+  pub resultStations : length (p .resultStations) ≡ 32
+  pub resultJobs : length (p .resultJobs) ≡ 32
+  pub phases : length (p .phases) ≡ 32
+
+-- each phase is the number of one
+abbrev pub Phased : Parts → Type 0
+Phased p = (i : ℕ) → i < 32 → getD (p .phases) i 0 ≤ 5
+
+-- the call c on the parts p with this report buffer: the parts, the reply and the buffer left are those of the step on the table
+pub record Serves (p : Parts) (c : Call) (buffer : Lists.List ℕ) (p′ : Parts) (r : Reply) (buffer′ : Lists.List ℕ) : Type 0 where
+  pub steps : Steps (assembled p) c buffer (assembled p′) r buffer′
+  pub sized : Sized p′
+  pub phased : Phased p → Phased p′

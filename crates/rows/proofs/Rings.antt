@@ -11,7 +11,7 @@ use lib.ListN.{length, getD, set}
 use lib.Dec.{eqb}
 use borrow.Author.Tests.{eqb-true, eq-eqb, ne-eqb, not-true}
 use Rattle.label.specs.Tests.{every}
-use Rattle.label.specs.Labels.{Label, firstDifference}
+use Rattle.label.specs.Labels.{Label, agrees, firstDifference}
 use Rattle.label.specs.Rows.{noRing}
 use Rattle.rows.specs.Held.{noRingAt}
 use Rattle.label.proofs.Facts.{tf, is-false, and-both, both, left-no, right-no, every-all, every-at, every-no, every-same, set-each}
@@ -80,6 +80,14 @@ every-swap m n f = alike _ _
     (λ e. every-all n _ (λ i li. every-all m _ (λ p lp. every-at n _ (every-at m _ e p lp) i li)))
     (λ e. every-all m _ (λ p lp. every-all n _ (λ i li. every-at m _ (every-at n _ e i li) p lp)))
 
+-- the test sees only the first m + 1 labels
+pub no-ring-same : (m : ℕ) (t u : ℕ → Label) → ((i : ℕ) → i < suc m → t i ≡ u i) → noRing m t ≡ noRing m u
+unfolding noRing
+no-ring-same m t u e =
+    every-same m _ _ (λ p lp. every-same (suc m) _ _ (λ i li. every-same (suc m) _ _ (λ j lj. every-same (suc m) _ _ (λ k lk.
+    λ x. not (agrees p (e i li x) (e j lj x) && agrees p (e j lj x) (e k lk x) && eqb (e i li x p) 3 && eqb (e j lj x p) 4 && eqb (e k lk x p) 5)))))
+
+-- no ring: none that starts at some label
 pub no-ring-each : (n : ℕ) (t : ℕ → Label) → 1 ≤ n → noRing (n - 1) t ≡ every n (noRingAt n t)
 unfolding noRing noRingAt
 no-ring-each n t h =

@@ -46,7 +46,7 @@ fn histogram(shared: &[usize; 32], n: usize, k: usize) -> [usize; 32]
 
 // The position h - 1 of the new label, h the smallest at which at least n - h stations other than k share h digits.
 // As there are n - 1 of them, that is the first p at which at most p of them share at most p digits.
-pub fn level(shared: &[usize; 32], n: usize, k: usize) -> usize
+fn level(shared: &[usize; 32], n: usize, k: usize) -> usize
     requires { ⌜ (k < n) × (n ≤ 32) ⌝ }
     requires { ⌜ ((j : ℕ) → j < n → getD (now shared) j 0 < 32) ⌝ }
     ensures { λ r. ⌜ r ≡ firstFrom (n - 1) 0 (λ p. leb (n - 1 - p) (count n (λ j. not (eqb j k) && leb (suc p) (getD (now (shared .entry)) j 0)))) ⌝ }
@@ -66,7 +66,7 @@ pub fn level(shared: &[usize; 32], n: usize, k: usize) -> usize
 }
 
 // The new label of station k, where station z is the newest.
-pub fn new_label(rows: &[[u8; 31]; 32], n: usize, z: usize, k: usize) -> [u8; 31]
+fn new_label(rows: &[[u8; 31]; 32], n: usize, z: usize, k: usize) -> [u8; 31]
     requires { ⌜ Orderly n (now rows) ⌝ }
     requires { ⌜ (z < n) × (k < n) × (z ≢ k) ⌝ }
     ensures { λ r. ⌜ r ≡ row 31 (newLabel (n - 1) 1 (held (now (rows .entry))) z k) ⌝ }

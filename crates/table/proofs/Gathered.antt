@@ -2,22 +2,22 @@
 use Prim.Native.Nat.{ℕ, suc, _-_, _≤_, _<_}
 use native.Mathlib.Omega.{arith}
 use mathlib.Core.Path.{_≡_, refl, sym, ap, ap₂, subst, _∙_}
-use mathlib.Core.Bool.{true, not, _&&_, cond}
+use mathlib.Core.Bool.{true, cond}
 use mathlib.Core.List as Lists
 use mathlib.Core.List.{[], _∷_, _++_, map}
-use lib.ListN.{getD, take, replicate}
+use lib.ListN.{getD, replicate}
 use lib.Dec.{eqb}
 use Rattle.label.specs.Tests.{newest, ordered, All}
 use Rattle.label.specs.Labels as Labels
-use Rattle.label.specs.Labels.{agrees, labelBefore}
+use Rattle.label.specs.Labels.{labelBefore}
 use Rattle.label.specs.Rows.{digit, row, Digit, noRing}
-use Rattle.label.proofs.Facts.{Same, every-same, newest-same, ordered-same, ordered-all}
+use Rattle.label.proofs.Facts.{Same, newest-same, ordered-same, ordered-all}
 use Rattle.table.specs.Results.{entry, blank, stored}
 use Rattle.table.specs.Tables.{at, labels, stands, newestOf, pendingAfter, scanOf}
 use Rattle.table.specs.WellFormed.{wellFormed}
 use Rattle.rows.specs.Held.{held, standsIn, Orderly, pendingIn}
-use Rattle.rows.proofs.OrderLaws.{orderIn, order-front}
 use Rattle.rows.proofs.ChoiceLaws.{new-label-same}
+use Rattle.rows.proofs.Rings.{no-ring-same}
 use Rattle.table.specs.Gathered.{rowsOf, jobsOf}
 use Rattle.table.specs.declared.Entry.{Entry}
 use Rattle.table.specs.declared.Table.{Table}
@@ -30,13 +30,7 @@ held-labels t i l h = ap digit (filled-in 32 (λ j. at t j .label) (replicate 31
 held-job : (t : Table) (i : ℕ) → i < t .count → t .count ≤ 32 → getD (jobsOf t) i 0 ≡ at t i .job
 held-job t i l h = filled-in 32 (λ j. at t j .job) 0 0 (t .count) i l h
 
--- tests and results that see only the first m + 1 labels, or the listed processes
-no-ring-same : (m : ℕ) (t u : ℕ → Labels.Label) → ((i : ℕ) → i < suc m → t i ≡ u i) → noRing m t ≡ noRing m u
-unfolding noRing
-no-ring-same m t u e =
-    every-same m _ _ (λ p lp. every-same (suc m) _ _ (λ i li. every-same (suc m) _ _ (λ j lj. every-same (suc m) _ _ (λ k lk.
-    λ x. not (agrees p (e i li x) (e j lj x) && agrees p (e j lj x) (e k lk x) && eqb (e i li x p) 3 && eqb (e j lj x p) 4 && eqb (e k lk x p) 5)))))
-
+-- a result sees only the jobs of the listed processes
 stored-same : (size n : ℕ) (f g : ℕ → ℕ) (l : Lists.List ℕ) → All (λ i. f i ≡ g i) l → stored size n f l ≡ stored size n g l
 unfolding stored
 stored-same size n f g l a = ap (λ (r : Lists.List Entry). r ++ replicate (size - n) blank) (each l a)
