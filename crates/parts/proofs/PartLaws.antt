@@ -23,11 +23,14 @@ use Rattle.table.specs.Results.{entry, blank, stored}
 use Rattle.table.specs.Tables.{at, store, scanOf}
 use Rattle.table.specs.WellFormed.{wellFormed}
 use Rattle.table.proofs.ResultLaws.{stored-turns}
+use Rattle.table.proofs.Orders.{passed}
 use Rattle.table.proofs.Gathered.{Held, HeldJobs, rows-scan}
+use Rattle.transition.specs.Steps.{stepOf}
 use Rattle.moves.specs.Moves.{refusalNumber, called, reportSize, placeOf}
 use Rattle.step.specs.Contracts.{recordAfter, due, over, Steps}
-use Rattle.step.proofs.StepLaws.{Made, judged}
-use Rattle.parts.specs.Parts.{Parts, parts, phaseOf, entries, stationAt, assembled, Sized, Serves}
+use Rattle.moves.proofs.MoveLaws.{place-below}
+use Rattle.step.proofs.StepLaws.{Made, judged, report-long}
+use Rattle.parts.specs.Parts.{Parts, parts, phaseOf, entries, stationAt, assembled, Sized, Phased, Serves}
 use Rattle.table.specs.declared.Entry.{Entry}
 use Rattle.table.specs.declared.Phase.{Phase}
 use Rattle.table.specs.declared.Station.{Station}
@@ -103,8 +106,77 @@ module _ (p : Parts) (z : Sized p) (k : ℕ) (h : k < 32) (l : Lists.List ℕ) (
       (λ s. rw s (rw (getD-set-same (p .phases) k b 0 (omega (arith, z .phases))) low))
       (λ n. rw (getD-set-other (p .phases) k i b 0 n) (old i q))
 
--- THE TABLE
+-- RESULTS
 
-module _ (p : Parts) (ok : wellFormed (assembled p) ≡ true) where
+-- the rows made of an order and the jobs, as one result
+pub ordered-entries : (n : ℕ) (order jobs stations results : Lists.List ℕ) → n ≤ 32 → n ≤ length order
+    → stations ≡ tabulate 32 0 (λ q. cond (ltb q n) (suc (getD order q 0)) 0) → results ≡ tabulate 32 0 (λ q. cond (ltb q n) (getD jobs (getD order q 0) 0) 0)
+    → entries stations results ≡ stored 32 n (λ i. getD jobs i 0) (take n order)
+unfolding entries
+ordered-entries n order jobs stations results h long e f = tabulate-same 32 0 _ _ each ∙ turned n h long
+  where
+    at : ℕ → Entry
+    at q = entry (suc (getD order q 0)) (getD jobs (getD order q 0) 0)
+
+    each : (q : ℕ) → q < 32 → entry (getD stations q 0) (getD results q 0) ≡ cond (ltb q n) (at q) blank
+    each q l = rw (e, f, getD-tabulate 32 0 q (λ (i : ℕ). cond (ltb i n) (suc (getD order i 0)) 0) 0 l, getD-tabulate 32 0 q (λ (i : ℕ). cond (ltb i n) (getD jobs (getD order i 0) 0) 0) 0 l, zero-add q)
+        (go (ltb q n))
+      where
+        go : (b : Bool) → entry (cond b (suc (getD order q 0)) 0) (cond b (getD jobs (getD order q 0) 0) 0) ≡ cond b (at q) blank
+        go true = refl
+        go false = refl
+
+    turned : (m : ℕ) → m ≤ 32 → m ≤ length order → filled 32 m at blank ≡ stored 32 m (λ i. getD jobs i 0) (take m order)
+    unfolding stored
+    turned zero u v = sym (filled-none 32 at blank)
+    turned (suc m) u v = ?
+
+-- the first n entries, in an array that holds no more
+pub entries-front : (n : ℕ) (stations jobs : Lists.List ℕ) (r : Lists.List Entry) → n ≤ 32 → r ≡ filled 32 n (λ q. entry (getD stations q 0) (getD jobs q 0)) blank → take n r ≡ take n (entries stations jobs)
+unfolding entries
+entries-front n stations jobs r h e =
+    rw e (take-tabulate n 32 0 _ h ∙ tabulate-same n 0 _ _ (λ q l. rw (lt-ltb q n l) refl) ∙ sym (take-tabulate n 32 0 _ h))
+
+-- A CALL
+
+module _ (p : Parts) (z : Sized p) (ok : wellFormed (assembled p) ≡ true) where
   abbrev t : Table
   t = assembled p
+
+  -- the arrays of labels and jobs hold the table's
+  pub held-parts : Held t (p .labels)
+  unfolding assembled
+  held-parts = record { each = λ i l. ap (λ (s : Station). digit (s .label)) (sym (at-part p i (omega (arith, passed t ok .high)))) }
+
+  pub held-part-jobs : HeldJobs t (p .jobs)
+  unfolding assembled
+  held-part-jobs = record { each = λ i l. ap (λ (s : Station). s .job) (sym (at-part p i (omega (arith, passed t ok .high)))) }
+
+  module _ (line code station job room k : ℕ) (e : k ≡ placeOf (p .count) station) where
+    pub inside : (k < p .count) × (k < 32)
+    unfolding assembled
+    inside = let b = place-below (p .count) station (passed t ok .low) in (omega arith, omega (arith, passed t ok .high))
+
+    -- what a call amounts to, and what it leaves
+    module _ (ph : Phase) (q : ph ≡ phaseOf (getD (p .phases) k 0)) (w : Calls.Move) (j : w ≡ judge (p .count) ph (called 0 code station job room)) where
+      made : Made t (called line code station job room) w
+      unfolding assembled
+      made = judged t ok code station job room k ph w e (q ∙ ap (λ (s : Station). s .phase) (sym (at-part p k (inside .1)))) j line
+
+      served : (p′ : Parts) → Sized p′ → (Phased p → Phased p′) → assembled p′ ≡ store t k (recordAfter t k job w) → (r : Reply) → refusalNumber (r .refusal) ≡ numberOf w → r .written ≡ reportSize (p .count) w
+          → (w ≡ Calls.Move.endsScan → p .count ≤ length (recordAfter t k job w .«scan_result»)) → (buffer buffer′ : Lists.List ℕ)
+          → buffer′ ≡ over (due (reportSize (p .count) w) line (take (p .count) (recordAfter t k job w .«scan_result»))) buffer → Serves p (called line code station job room) buffer p′ r buffer′
+      unfolding assembled
+      served p′ z′ f a r n v long buffer buffer′ b = record {
+        steps = record {
+          table = a ∙ ap (λ (i : ℕ). store t i (recordAfter t i job w)) e ∙ made .table;
+          refusal = n ∙ made .refusal;
+          written = v ∙ report-long (p .count) line w (recordAfter t k job w .«scan_result») long ∙ ap length (sym bytes);
+          report = b ∙ ap (λ (x : Lists.List ℕ). over x buffer) (sym bytes);
+        };
+        sized = z′;
+        phased = f;
+      }
+        where
+          bytes : stepOf t (called line code station job room) .bytes ≡ due (reportSize (p .count) w) line (take (p .count) (recordAfter t k job w .«scan_result»))
+          bytes = made .bytes ∙ ap (λ (i : ℕ). due (reportSize (p .count) w) line (take (p .count) (recordAfter t i job w .«scan_result»))) (sym e)
