@@ -67,10 +67,10 @@ fn put_long(column: &mut [u8], number: u64) {
     }
 }
 
-/// A job of any length: 1 to 32 bits, not 0.
+/// A job of any length: not 0, below 2 to the power of 1 to 32.
 fn job(random: &mut Random) -> u64 {
     let bits = 1 + random.below(32);
-    random.word() >> (64 - bits) | 1
+    (random.word() >> (64 - bits)).max(1)
 }
 
 /// How long a station stalls: mostly some rounds of the others, now and then for hundreds of them.
@@ -79,7 +79,7 @@ fn stall(random: &mut Random, n: u64) -> u64 {
     1 + random.below(rounds * n)
 }
 
-/// A line that is refused with 2, 3, 4, 5, 6, 10 or 11, each about as often.
+/// A line that is refused: with 2, 10 or 11, or by the phase of its station.
 fn refused(random: &mut Random, n: u64, players: &[Player]) -> [u8; LINE] {
     let station = 1 + random.below(n);
     let phase = players[station as usize - 1].phase;
@@ -88,7 +88,7 @@ fn refused(random: &mut Random, n: u64, players: &[Player]) -> [u8; LINE] {
         1 => line(station, random.pick(&[0, 6, 7, 9, 255, 257, 999]), random.pick(&[0, 0, 7])),
         2 if random.one_in(2) => line(station, 1, random.pick(&[0, 4_294_967_296, 99_999_999_999])),
         2 => line(station, 2 + random.below(4), job(random)),
-        // The four refusals by phase: the codes that this phase does not allow.
+        // 3 to 6: a code that the phase does not allow.
         _ if phase == Phase::Idle => line(station, 3 + random.below(3), 0),
         _ => {
             let allowed = match phase {

@@ -57,6 +57,14 @@ fn usage() -> ! {
     std::process::exit(2);
 }
 
+/// A schedule, the size of its report, and the best times of the plain program and of `tickets`.
+struct Trial {
+    n: u64,
+    input: PathBuf,
+    report: usize,
+    best: [Time; 2],
+}
+
 fn main() {
     let mut runs = 7;
     let mut lines = 1_000_000;
@@ -72,30 +80,42 @@ fn main() {
         }
     }
     let plain = std::env::current_exe().expect("this program's path").with_file_name("plain");
+    if let Some(missing) = [&plain, &tickets].into_iter().find(|program| !program.exists()) {
+        eprintln!("{} is not built", missing.display());
+        std::process::exit(2);
+    }
     let folder = std::env::temp_dir().join(format!("ticket-bench-{}", std::process::id()));
     fs::create_dir(&folder).expect("a temporary folder");
-    let input = folder.join("schedule");
 
-    println!("{lines} step lines, report to /dev/null, minimum of {runs} alternating runs; cpu is user + system time");
-    println!("               wall ms                    cpu ms                     wall ns per line");
-    println!(" n  report MB    plain  tickets  ratio     plain  tickets  ratio      plain  tickets");
     let mut differ = false;
+    let mut trials = Vec::new();
     for n in COUNTS {
+        let input = folder.join(format!("schedule-{n}"));
         fs::write(&input, schedule(n, lines, SEED, Ending::Plain)).expect("a schedule file");
         let ours = report(&tickets, &input, &folder.join("tickets"));
         if ours != report(&plain, &input, &folder.join("plain")) {
-            println!("{n:2}  the reports differ");
+            println!("the reports differ for n = {n}");
             differ = true;
-            continue;
         }
-        let mut best = [Time { wall: f64::MAX, cpu: f64::MAX }; 2];
-        for _ in 0..runs {
-            for (best, program) in best.iter_mut().zip([&plain, &tickets]) {
-                *best = best.least(run(program, &input, Stdio::null()));
+        trials.push(Trial { n, input, report: ours.len(), best: [Time { wall: f64::MAX, cpu: f64::MAX }; 2] });
+    }
+    if differ {
+        fs::remove_dir_all(&folder).expect("the temporary folder");
+        std::process::exit(1);
+    }
+    // All schedules in each round, so that a busy spell of the machine does not fall on one of them alone.
+    for _ in 0..runs {
+        for trial in &mut trials {
+            for (best, program) in trial.best.iter_mut().zip([&plain, &tickets]) {
+                *best = best.least(run(program, &trial.input, Stdio::null()));
             }
         }
-        let [p, t] = best;
-        let megabytes = ours.len() as f64 / 1e6;
+    }
+    println!("{lines} step lines, report to /dev/null, minimum of {runs} alternating runs; cpu is user + system time");
+    println!("               wall ms                    cpu ms                     wall ns per line");
+    println!(" n  report MB    plain  tickets  ratio     plain  tickets  ratio      plain  tickets");
+    for Trial { n, report, best: [p, t], .. } in trials {
+        let megabytes = report as f64 / 1e6;
         let per_line = |time: Time| time.wall * 1e6 / lines as f64;
         println!(
             "{n:2} {megabytes:10.1} {:8.1} {:8.1} {:6.2}  {:8.1} {:8.1} {:6.2}   {:8.0} {:8.0}",
@@ -110,5 +130,4 @@ fn main() {
         );
     }
     fs::remove_dir_all(&folder).expect("the temporary folder");
-    std::process::exit(differ.into());
 }
