@@ -1,0 +1,133 @@
+//! bench [--runs K] [--lines K] [TICKETS]: times `tickets` and the plain program on the same schedules. README.md says what it prints.
+
+use std::fs::{self, File};
+use std::path::{Path, PathBuf};
+use std::process::{Command, Stdio};
+use std::time::Instant;
+use ticket_bench::generate::{schedule, Ending};
+
+const COUNTS: [u64; 5] = [2, 4, 8, 16, 32];
+const SEED: u64 = 1995;
+
+#[derive(Clone, Copy)]
+struct Time {
+    wall: f64,
+    cpu: f64,
+}
+
+impl Time {
+    fn least(self, other: Time) -> Time {
+        Time { wall: self.wall.min(other.wall), cpu: self.cpu.min(other.cpu) }
+    }
+}
+
+extern "C" {
+    /// The C library's call; a `struct rusage` is 18 words on 64-bit Linux, seconds and microseconds of user and system time first.
+    fn getrusage(who: i32, usage: *mut [i64; 18]) -> i32;
+}
+
+/// Milliseconds of user and system time of all children that have ended.
+fn children_cpu() -> f64 {
+    const RUSAGE_CHILDREN: i32 = -1;
+    let mut usage = [0; 18];
+    // SAFETY: the call writes one `struct rusage`, for which the array has room.
+    let result = unsafe { getrusage(RUSAGE_CHILDREN, &mut usage) };
+    assert_eq!(result, 0, "getrusage");
+    (usage[0] + usage[2]) as f64 * 1e3 + (usage[1] + usage[3]) as f64 / 1e3
+}
+
+fn run(program: &Path, input: &Path, output: Stdio) -> Time {
+    let input = File::open(input).expect("the schedule");
+    let cpu = children_cpu();
+    let start = Instant::now();
+    let status = Command::new(program).stdin(input).stdout(output).status();
+    let wall = start.elapsed().as_secs_f64() * 1e3;
+    let status = status.unwrap_or_else(|error| panic!("{}: {error}", program.display()));
+    assert!(status.success(), "{}: {status}", program.display());
+    Time { wall, cpu: children_cpu() - cpu }
+}
+
+fn report(program: &Path, input: &Path, output: &Path) -> Vec<u8> {
+    run(program, input, File::create(output).expect("a report file").into());
+    fs::read(output).expect("the report")
+}
+
+fn usage() -> ! {
+    eprintln!("bench [--runs K] [--lines K] [TICKETS]");
+    std::process::exit(2);
+}
+
+/// A schedule, the size of its report, and the best times of the plain program and of `tickets`.
+struct Trial {
+    n: u64,
+    input: PathBuf,
+    report: usize,
+    best: [Time; 2],
+}
+
+fn main() {
+    let mut runs = 7;
+    let mut lines = 1_000_000;
+    let mut tickets = Path::new(env!("CARGO_MANIFEST_DIR")).join("../target/bin/tickets");
+    let mut arguments = std::env::args().skip(1);
+    while let Some(argument) = arguments.next() {
+        let mut number = || arguments.next().and_then(|a| a.parse().ok()).filter(|&k| k > 0).unwrap_or_else(|| usage());
+        match argument.as_str() {
+            "--runs" => runs = number(),
+            "--lines" => lines = number(),
+            _ if argument.starts_with('-') => usage(),
+            _ => tickets = PathBuf::from(argument),
+        }
+    }
+    let plain = std::env::current_exe().expect("this program's path").with_file_name("plain");
+    if let Some(missing) = [&plain, &tickets].into_iter().find(|program| !program.exists()) {
+        eprintln!("{} is not built", missing.display());
+        std::process::exit(2);
+    }
+    let folder = std::env::temp_dir().join(format!("ticket-bench-{}", std::process::id()));
+    fs::create_dir(&folder).expect("a temporary folder");
+
+    let mut differ = false;
+    let mut trials = Vec::new();
+    for n in COUNTS {
+        let input = folder.join(format!("schedule-{n}"));
+        fs::write(&input, schedule(n, lines, SEED, Ending::Plain)).expect("a schedule file");
+        let ours = report(&tickets, &input, &folder.join("tickets"));
+        if ours != report(&plain, &input, &folder.join("plain")) {
+            println!("the reports differ for n = {n}");
+            differ = true;
+        }
+        trials.push(Trial { n, input, report: ours.len(), best: [Time { wall: f64::MAX, cpu: f64::MAX }; 2] });
+    }
+    if differ {
+        fs::remove_dir_all(&folder).expect("the temporary folder");
+        std::process::exit(1);
+    }
+    // All schedules in each round, so that a busy spell of the machine does not fall on one of them alone.
+    for _ in 0..runs {
+        for trial in &mut trials {
+            for (best, program) in trial.best.iter_mut().zip([&plain, &tickets]) {
+                *best = best.least(run(program, &trial.input, Stdio::null()));
+            }
+        }
+    }
+    println!("{lines} step lines, report to /dev/null, minimum of {runs} alternating runs; cpu is user + system time");
+    println!("               wall ms                    cpu ms                     wall ns per line");
+    println!(" n  report MB    plain  tickets  ratio     plain  tickets  ratio      plain  tickets");
+    for Trial { n, report, best: [p, t], .. } in trials {
+        let megabytes = report as f64 / 1e6;
+        let per_line = |time: Time| time.wall * 1e6 / lines as f64;
+        println!(
+            "{n:2} {megabytes:10.1} {:8.1} {:8.1} {:6.2}  {:8.1} {:8.1} {:6.2}   {:8.0} {:8.0}",
+            p.wall,
+            t.wall,
+            t.wall / p.wall,
+            p.cpu,
+            t.cpu,
+            t.cpu / p.cpu,
+            per_line(p),
+            per_line(t)
+        );
+    }
+    fs::remove_dir_all(&folder).expect("the temporary folder");
+}

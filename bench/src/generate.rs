@@ -1,0 +1,153 @@
+//! Schedules by a seed. The generator keeps the phases of the stations and no labels.
+
+use crate::plain::{put, Operation, Phase, LINE};
+
+/// SplitMix64.
+pub struct Random(pub u64);
+
+impl Random {
+    pub fn word(&mut self) -> u64 {
+        self.0 = self.0.wrapping_add(0x9e37_79b9_7f4a_7c15);
+        let mut z = self.0;
+        z = (z ^ (z >> 30)).wrapping_mul(0xbf58_476d_1ce4_e5b9);
+        z = (z ^ (z >> 27)).wrapping_mul(0x94d0_49bb_1331_11eb);
+        z ^ (z >> 31)
+    }
+
+    /// A number below `bound`; the bounds are small, so the bias does not matter.
+    pub fn below(&mut self, bound: u64) -> u64 {
+        self.word() % bound
+    }
+
+    pub fn one_in(&mut self, bound: u64) -> bool {
+        self.below(bound) == 0
+    }
+
+    fn pick<T: Copy>(&mut self, from: &[T]) -> T {
+        from[self.below(from.len() as u64) as usize]
+    }
+}
+
+/// How a schedule ends: after its last line, or with one more line that ends the reading.
+#[derive(Clone, Copy, PartialEq, Eq, Debug)]
+pub enum Ending {
+    Plain,
+    /// Refusal 8: a line cut short.
+    Torn,
+    /// Refusal 9: a column with a needless 0.
+    Column,
+    /// Refusal 12 after 1,000,000 lines, and else one line more.
+    OneMore,
+}
+
+struct Player {
+    phase: Phase,
+    /// Stalled up to this line.
+    until: u64,
+}
+
+fn line(station: u64, code: u64, job: u64) -> [u8; LINE] {
+    let mut bytes = [b' '; LINE];
+    put(&mut bytes[..3], station as u32);
+    put(&mut bytes[3..6], code as u32);
+    put_long(&mut bytes[6..17], job);
+    bytes[LINE - 1] = b'\n';
+    bytes
+}
+
+/// `put` for a number past 32 bits.
+fn put_long(column: &mut [u8], number: u64) {
+    if number < 1_000_000_000 {
+        put(column, number as u32);
+    } else {
+        let (high, low) = column.split_at_mut(column.len() - 9);
+        put(high, (number / 1_000_000_000) as u32);
+        low.fill(b'0');
+        put(low, (number % 1_000_000_000) as u32);
+    }
+}
+
+/// A job of any length: not 0, below 2 to the power of 1 to 32.
+fn job(random: &mut Random) -> u64 {
+    let bits = 1 + random.below(32);
+    (random.word() >> (64 - bits)).max(1)
+}
+
+/// How long a station stalls: mostly some rounds of the others, now and then for hundreds of them.
+fn stall(random: &mut Random, n: u64) -> u64 {
+    let rounds = if random.one_in(64) { 400 } else { 20 };
+    1 + random.below(rounds * n)
+}
+
+/// A line that is refused: with 2, 10 or 11, or by the phase of its station.
+fn refused(random: &mut Random, n: u64, players: &[Player]) -> [u8; LINE] {
+    let station = 1 + random.below(n);
+    let phase = players[station as usize - 1].phase;
+    match random.below(7) {
+        0 => line(random.pick(&[0, n + 1, n + 1, n + 256, 999]), 1 + random.below(5), 0),
+        1 => line(station, random.pick(&[0, 6, 7, 9, 255, 257, 999]), random.pick(&[0, 0, 7])),
+        2 if random.one_in(2) => line(station, 1, random.pick(&[0, 4_294_967_296, 99_999_999_999])),
+        2 => line(station, 2 + random.below(4), job(random)),
+        // 3 to 6: a code that the phase does not allow.
+        _ if phase == Phase::Idle => line(station, 3 + random.below(3), 0),
+        _ => {
+            let allowed = match phase {
+                Phase::Snap(_) => 3,
+                Phase::Update => 4,
+                _ => 5,
+            };
+            match random.pick(&[1, 2, 3, 4, 5]) {
+                1 => line(station, 1, job(random)),
+                code if code == allowed => line(station, 2, 0),
+                code => line(station, code, 0),
+            }
+        }
+    }
+}
+
+/// A schedule of n stations with so many step lines, and the line of its ending.
+pub fn schedule(n: u64, lines: u64, seed: u64, ending: Ending) -> Vec<u8> {
+    assert!((2..=32).contains(&n), "2 to 32 stations");
+    let mut random = Random(seed ^ n << 32);
+    let mut players: Vec<Player> = (0..n).map(|_| Player { phase: Phase::Idle, until: 0 }).collect();
+    let mut awake = Vec::new();
+    let mut bytes = Vec::with_capacity((lines as usize + 2) * LINE);
+    bytes.extend(line(n, 0, 0));
+    for now in 1..=lines {
+        if random.one_in(32) {
+            bytes.extend(refused(&mut random, n, &players));
+            continue;
+        }
+        awake.clear();
+        awake.extend((0..players.len()).filter(|&i| players[i].until < now));
+        // When all stall, the first that would go on does so at once.
+        let first = (0..players.len()).min_by_key(|&i| players[i].until);
+        let i = if awake.is_empty() { first.unwrap_or(0) } else { random.pick(&awake) };
+        let player = &mut players[i];
+        let (code, job, next) = match player.phase {
+            Phase::Idle if random.one_in(4) => (2, 0, Phase::Snap(Operation::Scan)),
+            Phase::Idle => (1, job(&mut random), Phase::Snap(Operation::Label)),
+            Phase::Snap(Operation::Label) => (3, 0, Phase::Update),
+            Phase::Snap(Operation::Scan) => (3, 0, Phase::End(Operation::Scan)),
+            Phase::Update => (4, 0, Phase::End(Operation::Label)),
+            Phase::End(_) => (5, 0, Phase::Idle),
+        };
+        let stalls = match next {
+            Phase::Snap(_) => random.one_in(32),
+            Phase::Update => random.one_in(16),
+            _ => false,
+        };
+        if stalls {
+            player.until = now + stall(&mut random, n);
+        }
+        player.phase = next;
+        bytes.extend(line(i as u64 + 1, code, job));
+    }
+    match ending {
+        Ending::Plain => {}
+        Ending::Torn => bytes.extend(&line(1, 1, 1)[..LINE - 1]),
+        Ending::Column => bytes.extend(b" 01  1          1\n"),
+        Ending::OneMore => bytes.extend(line(1, 1, 1)),
+    }
+    bytes
+}

@@ -1,0 +1,4 @@
+//! The yardstick of `tickets`: the same program in plain Rust, and schedules to run both on. README.md says how.
+
+pub mod generate;
+pub mod plain;
