@@ -4,35 +4,39 @@ use native.Mathlib.Nat.{zero-add}
 use native.Mathlib.Omega.{arith}
 use native.Mathlib.Decide.{ℕ-discrete}
 use mathlib.Core.Path.{_≡_, refl, sym, ap, ap₂, subst, _∙_}
-use mathlib.Core.Logic.{_≢_, by-cases}
-use mathlib.Core.Bool.{Bool, true, cond}
+use mathlib.Core.Logic.{_≢_, _⊎_, inl, inr, ⊎-elim, by-cases}
+use mathlib.Core.Bool.{Bool, true, false, cond}
 use mathlib.Core.List as Lists
 use mathlib.Core.List.{[], _∷_}
 use lib.ListN.{length, getD, set, take, length-set}
 use lib.Seq.{set-getD, getD-set-same, getD-set-other}
 use lib.Dec.{ltb}
-use borrow.Author.Tests.{lt-ltb}
-use Rattle.label.specs.Tests.{tabulate, ordered}
+use borrow.Author.Tests.{lt-ltb, ne-eqb}
+use Rattle.label.specs.Tests.{tabulate}
 use Rattle.label.specs.Rows.{digit}
-use Rattle.label.proofs.Facts.{getD-tabulate, tabulate-same, take-tabulate, set-tabulate}
+use Rattle.label.proofs.Facts.{length-tabulate, getD-tabulate, tabulate-same, take-tabulate, set-tabulate}
 use Rattle.label.proofs.Filled.{filled, filled-none, filled-more}
-use Rattle.rows.specs.Held.{standsIn}
+use Rattle.rows.specs.Held.{standsIn, Orderly, pendingIn}
+use Rattle.rows.proofs.OrderLaws.{order-front, order-long}
 use Rattle.simulation.specs.Calls as Calls
-use Rattle.simulation.specs.Calls.{Call, judge, numberOf}
+use Rattle.simulation.specs.Calls.{judge, numberOf, reportLines}
+use Rattle.simulation.proofs.Judged.{accepted-own}
 use Rattle.table.specs.Results.{entry, blank, stored}
 use Rattle.table.specs.Tables.{at, store, scanOf}
 use Rattle.table.specs.WellFormed.{wellFormed}
 use Rattle.table.proofs.ResultLaws.{stored-turns}
 use Rattle.table.proofs.Orders.{passed}
-use Rattle.table.proofs.Gathered.{Held, HeldJobs, rows-scan}
-use Rattle.transition.specs.Steps.{stepOf}
-use Rattle.moves.specs.Moves.{refusalNumber, called, reportSize, placeOf}
+use Rattle.table.proofs.Gathered.{Held, HeldJobs, rows-orderly, rows-scan, rows-pending}
+use Rattle.transition.specs.Steps.{inPhase, begun, snapped, scanned, updated, stepOf}
+use Rattle.moves.specs.Moves.{refusalNumber, recordMoved, called, reportSize, placeOf}
 use Rattle.step.specs.Contracts.{recordAfter, due, over, Steps}
 use Rattle.moves.proofs.MoveLaws.{place-below}
 use Rattle.step.proofs.StepLaws.{Made, judged, report-long}
-use Rattle.parts.specs.Parts.{Parts, parts, phaseOf, entries, stationAt, assembled, Sized, Phased, Serves}
+use Rattle.parts.specs.Parts.{Parts, parts, phaseOf, entries, stationAt, assembled, Sized, Phased, orderOf, Carries}
 use Rattle.table.specs.declared.Entry.{Entry}
 use Rattle.table.specs.declared.Phase.{Phase}
+use Rattle.table.specs.declared.Phase.the-variants.{Idle}
+use Rattle.moves.specs.declared.Refusal.the-variants.{Accepted}
 use Rattle.table.specs.declared.Station.{Station}
 use Rattle.table.specs.declared.Table.{Table}
 use Rattle.step.specs.declared.Reply.{Reply}
@@ -67,23 +71,23 @@ module _ (p : Parts) (z : Sized p) (k : ℕ) (h : k < 32) (l : Lists.List ℕ) (
 
   stored-here : recordOf l j w v e f b ≡ stationAt new k
   stored-here i = recordOf
-    (there (p .labels) l [] (z .labels) i)
-    (there (p .jobs) j 0 (z .jobs) i)
-    (there (p .pendingLabels) w [] (z .pendingLabels) i)
-    (there (p .pendingJobs) v 0 (z .pendingJobs) i)
-    (there (p .resultStations) e [] (z .resultStations) i)
-    (there (p .resultJobs) f [] (z .resultJobs) i)
-    (there (p .phases) b 0 (z .phases) i)
+      (there (p .labels) l [] (z .labels) i)
+      (there (p .jobs) j 0 (z .jobs) i)
+      (there (p .pendingLabels) w [] (z .pendingLabels) i)
+      (there (p .pendingJobs) v 0 (z .pendingJobs) i)
+      (there (p .resultStations) e [] (z .resultStations) i)
+      (there (p .resultJobs) f [] (z .resultJobs) i)
+      (there (p .phases) b 0 (z .phases) i)
 
   kept-there : (q : ℕ) → q ≢ k → stationAt p q ≡ stationAt new q
   kept-there q n i = recordOf
-    (elsewhere (p .labels) l [] q n i)
-    (elsewhere (p .jobs) j 0 q n i)
-    (elsewhere (p .pendingLabels) w [] q n i)
-    (elsewhere (p .pendingJobs) v 0 q n i)
-    (elsewhere (p .resultStations) e [] q n i)
-    (elsewhere (p .resultJobs) f [] q n i)
-    (elsewhere (p .phases) b 0 q n i)
+      (elsewhere (p .labels) l [] q n i)
+      (elsewhere (p .jobs) j 0 q n i)
+      (elsewhere (p .pendingLabels) w [] q n i)
+      (elsewhere (p .pendingJobs) v 0 q n i)
+      (elsewhere (p .resultStations) e [] q n i)
+      (elsewhere (p .resultJobs) f [] q n i)
+      (elsewhere (p .phases) b 0 q n i)
 
   put-law : assembled new ≡ store (assembled p) k (recordOf l j w v e f b)
   unfolding assembled
@@ -108,12 +112,24 @@ module _ (p : Parts) (z : Sized p) (k : ℕ) (h : k < 32) (l : Lists.List ℕ) (
 
 -- RESULTS
 
+-- the entries of the first m stations of an order are the result of m stations
+turned : (order jobs : Lists.List ℕ) (m : ℕ) → m ≤ 32 → m ≤ length order
+    → filled 32 m (λ q. entry (suc (getD order q 0)) (getD jobs (getD order q 0) 0)) blank ≡ stored 32 m (λ i. getD jobs i 0) (take m order)
+unfolding stored
+turned order jobs zero u v = sym (filled-none 32 _ blank)
+turned order jobs (suc m) u v =
+    let f : ℕ → Entry = λ q. entry (suc (getD order q 0)) (getD jobs (getD order q 0) 0) in
+    let e : m + 1 ≡ suc m = omega arith in
+    ap (λ (k : ℕ). filled 32 k f blank) (sym e) ∙ sym (filled-more 32 f blank m (f m) (omega arith) refl)
+    ∙ stored-turns 32 m (λ i. getD jobs i 0) order (filled 32 m f blank) (f m) (turned order jobs m (omega arith) (omega arith)) refl (omega arith) (omega arith)
+    ∙ ap (λ (k : ℕ). stored 32 k (λ i. getD jobs i 0) (take k order)) e
+
 -- the rows made of an order and the jobs, as one result
 pub ordered-entries : (n : ℕ) (order jobs stations results : Lists.List ℕ) → n ≤ 32 → n ≤ length order
     → stations ≡ tabulate 32 0 (λ q. cond (ltb q n) (suc (getD order q 0)) 0) → results ≡ tabulate 32 0 (λ q. cond (ltb q n) (getD jobs (getD order q 0) 0) 0)
     → entries stations results ≡ stored 32 n (λ i. getD jobs i 0) (take n order)
 unfolding entries
-ordered-entries n order jobs stations results h long e f = tabulate-same 32 0 _ _ each ∙ turned n h long
+ordered-entries n order jobs stations results h long e f = tabulate-same 32 0 _ _ each ∙ turned order jobs n h long
   where
     at : ℕ → Entry
     at q = entry (suc (getD order q 0)) (getD jobs (getD order q 0) 0)
@@ -126,18 +142,18 @@ ordered-entries n order jobs stations results h long e f = tabulate-same 32 0 _ 
         go true = refl
         go false = refl
 
-    turned : (m : ℕ) → m ≤ 32 → m ≤ length order → filled 32 m at blank ≡ stored 32 m (λ i. getD jobs i 0) (take m order)
-    unfolding stored
-    turned zero u v = sym (filled-none 32 at blank)
-    turned (suc m) u v = ?
-
 -- the first n entries, in an array that holds no more
 pub entries-front : (n : ℕ) (stations jobs : Lists.List ℕ) (r : Lists.List Entry) → n ≤ 32 → r ≡ filled 32 n (λ q. entry (getD stations q 0) (getD jobs q 0)) blank → take n r ≡ take n (entries stations jobs)
 unfolding entries
 entries-front n stations jobs r h e =
-    rw e (take-tabulate n 32 0 _ h ∙ tabulate-same n 0 _ _ (λ q l. rw (lt-ltb q n l) refl) ∙ sym (take-tabulate n 32 0 _ h))
+    rw e (take-tabulate n 32 0 _ h ∙ tabulate-same n 0 _ _ (λ q l. rw (lt-ltb q n (omega arith)) refl) ∙ sym (take-tabulate n 32 0 _ h))
 
--- A CALL
+-- MOVES
+
+-- the number of stations
+pub counted : (p : Parts) → wellFormed (assembled p) ≡ true → (2 ≤ p .count) × (p .count ≤ 32)
+unfolding assembled
+counted p ok = (passed (assembled p) ok .low, passed (assembled p) ok .high)
 
 module _ (p : Parts) (z : Sized p) (ok : wellFormed (assembled p) ≡ true) where
   abbrev t : Table
@@ -152,31 +168,144 @@ module _ (p : Parts) (z : Sized p) (ok : wellFormed (assembled p) ≡ true) wher
   unfolding assembled
   held-part-jobs = record { each = λ i l. ap (λ (s : Station). s .job) (sym (at-part p i (omega (arith, passed t ok .high)))) }
 
-  module _ (line code station job room k : ℕ) (e : k ≡ placeOf (p .count) station) where
-    pub inside : (k < p .count) × (k < 32)
-    unfolding assembled
-    inside = let b = place-below (p .count) station (passed t ok .low) in (omega arith, omega (arith, passed t ok .high))
+  pub parts-orderly : Orderly (p .count) (p .labels)
+  unfolding assembled
+  parts-orderly = rows-orderly t held-parts ok
 
-    -- what a call amounts to, and what it leaves
-    module _ (ph : Phase) (q : ph ≡ phaseOf (getD (p .phases) k 0)) (w : Calls.Move) (j : w ≡ judge (p .count) ph (called 0 code station job room)) where
-      made : Made t (called line code station job room) w
-      unfolding assembled
-      made = judged t ok code station job room k ph w e (q ∙ ap (λ (s : Station). s .phase) (sym (at-part p k (inside .1)))) j line
-
-      served : (p′ : Parts) → Sized p′ → (Phased p → Phased p′) → assembled p′ ≡ store t k (recordAfter t k job w) → (r : Reply) → refusalNumber (r .refusal) ≡ numberOf w → r .written ≡ reportSize (p .count) w
-          → (w ≡ Calls.Move.endsScan → p .count ≤ length (recordAfter t k job w .«scan_result»)) → (buffer buffer′ : Lists.List ℕ)
-          → buffer′ ≡ over (due (reportSize (p .count) w) line (take (p .count) (recordAfter t k job w .«scan_result»))) buffer → Serves p (called line code station job room) buffer p′ r buffer′
-      unfolding assembled
-      served p′ z′ f a r n v long buffer buffer′ b = record {
-        steps = record {
-          table = a ∙ ap (λ (i : ℕ). store t i (recordAfter t i job w)) e ∙ made .table;
-          refusal = n ∙ made .refusal;
-          written = v ∙ report-long (p .count) line w (recordAfter t k job w .«scan_result») long ∙ ap length (sym bytes);
-          report = b ∙ ap (λ (x : Lists.List ℕ). over x buffer) (sym bytes);
-        };
-        sized = z′;
-        phased = f;
+  -- a move w that stores these parts at place k
+  pub carried : (k job : ℕ) (w : Calls.Move) (line : ℕ) (buffer : Lists.List ℕ) (p′ : Parts) (r : Reply) (buffer′ : Lists.List ℕ) → k < p .count
+      → (l : Lists.List ℕ) (j : ℕ) (wl : Lists.List ℕ) (v : ℕ) (e f : Lists.List ℕ) (b : ℕ) → p′ ≡ putAll p k l j wl v e f b → recordOf l j wl v e f b ≡ recordAfter t k job w
+      → (b ≤ 5) ⊎ (b ≡ getD (p .phases) k 0) → (w ≢ Calls.Move.updates → l ≡ getD (p .labels) k [])
+      → refusalNumber (r .refusal) ≡ numberOf w → r .written ≡ reportSize (p .count) w
+      → buffer′ ≡ over (due (reportSize (p .count) w) line (take (p .count) (recordAfter t k job w .«scan_result»))) buffer
+      → Carries p k job w line buffer p′ r buffer′
+  unfolding assembled
+  carried k job w line buffer p′ r buffer′ h l j wl v e f b q a low same n m o =
+      let high : k < 32 = omega (arith, passed t ok .high) in
+      record {
+        table = ap assembled q ∙ put-law p z k high l j wl v e f b ∙ ap (store t k) a;
+        refusal = n;
+        written = m;
+        report = o;
+        sized = rw q (put-sized p z k high l j wl v e f b);
+        phased = λ old. rw q (put-phases p z k high l j wl v e f b (⊎-elim (λ x. x) (λ x. rw x (old k high)) low) old);
+        others = λ i d. rw q (getD-set-other (p .labels) k i l [] d);
+        labels = λ d. rw (q, same d) (set-getD (p .labels) k []);
       }
+
+  -- each move, by the parts that it stores
+  module _ (k job line : ℕ) (h : k < p .count) (buffer : Lists.List ℕ) (r : Reply) where
+    abbrev K : {A : Type 0} → Lists.List A → A → A
+    K xs d = getD xs k d
+
+    here : at t k ≡ stationAt p k
+    unfolding assembled
+    here = at-part p k (omega (arith, passed t ok .high))
+
+    pub carries-refused : (x : ℕ) → refusalNumber (r .refusal) ≡ x → r .written ≡ 0 → Carries p k job (Calls.Move.refused x) line buffer p r buffer
+    unfolding recordAfter recordMoved
+    carries-refused x e f = carried k job (Calls.Move.refused x) line buffer p r buffer h
+        (K (p .labels) []) (K (p .jobs) 0) (K (p .pendingLabels) []) (K (p .pendingJobs) 0) (K (p .resultStations) []) (K (p .resultJobs) []) (K (p .phases) 0)
+        (λ i. parts (p .count) (keep (p .labels) k [] i) (keep (p .jobs) k 0 i) (keep (p .pendingLabels) k [] i) (keep (p .pendingJobs) k 0 i) (keep (p .resultStations) k [] i) (keep (p .resultJobs) k [] i) (keep (p .phases) k 0 i))
+        (sym here) (inr refl) (λ _. refl) e f refl
+
+    module _ (done : (r .refusal ≡ Accepted) × (r .written ≡ 0)) where
+      no : refusalNumber (r .refusal) ≡ 0
+      no = ap refusalNumber (done .0)
+
+      pub carries-begin-label : Carries p k job Calls.Move.beginsLabel line buffer
+          (parts (p .count) (p .labels) (p .jobs) (p .pendingLabels) (set (p .pendingJobs) k job) (p .resultStations) (p .resultJobs) (set (p .phases) k 1)) r buffer
+      unfolding recordAfter recordMoved
+      carries-begin-label = carried k job Calls.Move.beginsLabel line buffer _ r buffer h
+          (K (p .labels) []) (K (p .jobs) 0) (K (p .pendingLabels) []) job (K (p .resultStations) []) (K (p .resultJobs) []) 1
+          (λ i. parts (p .count) (keep (p .labels) k [] i) (keep (p .jobs) k 0 i) (keep (p .pendingLabels) k [] i) (set (p .pendingJobs) k job) (keep (p .resultStations) k [] i) (keep (p .resultJobs) k [] i) (set (p .phases) k 1))
+          (ap (λ (s : Station). begun s job) (sym here)) (inl (omega arith)) (λ _. refl) no (done .1) refl
+
+      -- a move that only changes the phase
+      pub carries-phase : (w : Calls.Move) (b : ℕ) → b ≤ 5 → inPhase (at t k) (phaseOf b) ≡ recordAfter t k job w → numberOf w ≡ 0 → reportSize (p .count) w ≡ 0 → Carries p k job w line buffer
+          (parts (p .count) (p .labels) (p .jobs) (p .pendingLabels) (p .pendingJobs) (p .resultStations) (p .resultJobs) (set (p .phases) k b)) r buffer
+      carries-phase w b low e f g = carried k job w line buffer _ r buffer h
+          (K (p .labels) []) (K (p .jobs) 0) (K (p .pendingLabels) []) (K (p .pendingJobs) 0) (K (p .resultStations) []) (K (p .resultJobs) []) b
+          (λ i. parts (p .count) (keep (p .labels) k [] i) (keep (p .jobs) k 0 i) (keep (p .pendingLabels) k [] i) (keep (p .pendingJobs) k 0 i) (keep (p .resultStations) k [] i) (keep (p .resultJobs) k [] i) (set (p .phases) k b))
+          (ap (λ (s : Station). inPhase s (phaseOf b)) (sym here) ∙ e) (inl low) (λ _. refl) (no ∙ sym f) (done .1 ∙ sym g) (rw g refl)
+
+      pub carries-snap-label : (new : Lists.List ℕ) → new ≡ pendingIn (p .count) (p .labels) k (K (p .pendingLabels) []) → Carries p k job Calls.Move.snapsLabel line buffer
+          (parts (p .count) (p .labels) (p .jobs) (set (p .pendingLabels) k new) (p .pendingJobs) (p .resultStations) (p .resultJobs) (set (p .phases) k 3)) r buffer
+      unfolding assembled recordAfter
+      carries-snap-label new e = carried k job Calls.Move.snapsLabel line buffer _ r buffer h
+          (K (p .labels) []) (K (p .jobs) 0) new (K (p .pendingJobs) 0) (K (p .resultStations) []) (K (p .resultJobs) []) 3
+          (λ i. parts (p .count) (keep (p .labels) k [] i) (keep (p .jobs) k 0 i) (set (p .pendingLabels) k new) (keep (p .pendingJobs) k 0 i) (keep (p .resultStations) k [] i) (keep (p .resultJobs) k [] i) (set (p .phases) k 3))
+          (ap₂ snapped (sym here) (e ∙ rows-pending t held-parts ok k (ap (λ (s : Station). s .«pending_label») (sym here)))) (inl (omega arith)) (λ _. refl) no (done .1) refl
+
+      pub carries-snap-scan : (order stations jobs : Lists.List ℕ) → order ≡ orderOf (p .count) (p .labels)
+          → stations ≡ tabulate 32 0 (λ q. cond (ltb q (p .count)) (suc (getD order q 0)) 0) → jobs ≡ tabulate 32 0 (λ q. cond (ltb q (p .count)) (getD (p .jobs) (getD order q 0) 0) 0)
+          → Carries p k job Calls.Move.snapsScan line buffer
+          (parts (p .count) (p .labels) (p .jobs) (p .pendingLabels) (p .pendingJobs) (set (p .resultStations) k stations) (set (p .resultJobs) k jobs) (set (p .phases) k 5)) r buffer
+      unfolding assembled recordAfter
+      carries-snap-scan order stations jobs e f g = carried k job Calls.Move.snapsScan line buffer _ r buffer h
+          (K (p .labels) []) (K (p .jobs) 0) (K (p .pendingLabels) []) (K (p .pendingJobs) 0) stations jobs 5
+          (λ i. parts (p .count) (keep (p .labels) k [] i) (keep (p .jobs) k 0 i) (keep (p .pendingLabels) k [] i) (keep (p .pendingJobs) k 0 i) (set (p .resultStations) k stations) (set (p .resultJobs) k jobs) (set (p .phases) k 5))
+          (ap₂ scanned (sym here) scan) (inl (omega arith)) (λ _. refl) no (done .1) refl
         where
-          bytes : stepOf t (called line code station job room) .bytes ≡ due (reportSize (p .count) w) line (take (p .count) (recordAfter t k job w .«scan_result»))
-          bytes = made .bytes ∙ ap (λ (i : ℕ). due (reportSize (p .count) w) line (take (p .count) (recordAfter t i job w .«scan_result»))) (sym e)
+          scan : entries stations jobs ≡ scanOf t
+          scan = ordered-entries (p .count) order (p .jobs) stations jobs (passed t ok .high) (omega (arith, passed t ok .high, order-long 32 (standsIn (p .count) (p .labels)) (p .count) order e (passed t ok .high))) f g
+              ∙ ap (stored 32 (p .count) (λ i. getD (p .jobs) i 0)) (order-front 32 (standsIn (p .count) (p .labels)) (p .count) order e)
+              ∙ rows-scan t held-parts held-part-jobs
+
+      pub carries-update : Carries p k job Calls.Move.updates line buffer
+          (parts (p .count) (set (p .labels) k (K (p .pendingLabels) [])) (set (p .jobs) k (K (p .pendingJobs) 0)) (p .pendingLabels) (p .pendingJobs) (p .resultStations) (p .resultJobs) (set (p .phases) k 4)) r buffer
+      unfolding recordAfter recordMoved
+      carries-update = carried k job Calls.Move.updates line buffer _ r buffer h
+          (K (p .pendingLabels) []) (K (p .pendingJobs) 0) (K (p .pendingLabels) []) (K (p .pendingJobs) 0) (K (p .resultStations) []) (K (p .resultJobs) []) 4
+          (λ i. parts (p .count) (set (p .labels) k (K (p .pendingLabels) [])) (set (p .jobs) k (K (p .pendingJobs) 0)) (keep (p .pendingLabels) k [] i) (keep (p .pendingJobs) k 0 i) (keep (p .resultStations) k [] i) (keep (p .resultJobs) k [] i) (set (p .phases) k 4))
+          (ap updated (sym here)) (inl (omega arith)) (λ d. absurd (d refl)) no (done .1) refl
+
+    pub carries-end-scan : (l : Lists.List Entry) (buffer′ : Lists.List ℕ) → (r .refusal ≡ Accepted) × (r .written ≡ p .count * 29)
+        → l ≡ filled 32 (p .count) (λ q. entry (getD (K (p .resultStations) []) q 0) (getD (K (p .resultJobs) []) q 0)) blank
+        → buffer′ ≡ over (reportLines line 1 (take (p .count) l)) buffer → Carries p k job Calls.Move.endsScan line buffer
+        (parts (p .count) (p .labels) (p .jobs) (p .pendingLabels) (p .pendingJobs) (p .resultStations) (p .resultJobs) (set (p .phases) k 0)) r buffer′
+    unfolding assembled recordAfter recordMoved
+    carries-end-scan l buffer′ done e b = carried k job Calls.Move.endsScan line buffer _ r buffer′ h
+        (K (p .labels) []) (K (p .jobs) 0) (K (p .pendingLabels) []) (K (p .pendingJobs) 0) (K (p .resultStations) []) (K (p .resultJobs) []) 0
+        (λ i. parts (p .count) (keep (p .labels) k [] i) (keep (p .jobs) k 0 i) (keep (p .pendingLabels) k [] i) (keep (p .pendingJobs) k 0 i) (keep (p .resultStations) k [] i) (keep (p .resultJobs) k [] i) (set (p .phases) k 0))
+        (ap (λ (s : Station). inPhase s Idle) (sym here)) (inl (omega arith)) (λ _. refl) (ap refusalNumber (done .0)) (done .1)
+        (b ∙ ap (λ (x : Lists.List ℕ). over x buffer) shown)
+      where
+        shown : reportLines line 1 (take (p .count) l) ≡ due (p .count * 29) line (take (p .count) (at t k .«scan_result»))
+        shown = rw (ne-eqb (p .count * 29) 0 (λ y. omega (arith, passed t ok .low)))
+            (ap (reportLines line 1) (entries-front (p .count) (K (p .resultStations) []) (K (p .resultJobs) []) l (passed t ok .high) e ∙ ap (λ (s : Station). take (p .count) (s .«scan_result»)) (sym here)))
+
+  -- CALLS
+
+  module _ (line code station job room k : ℕ) (e : k ≡ placeOf (p .count) station) (ph : Phase) (q : ph ≡ phaseOf (getD (p .phases) k 0)) (w : Calls.Move)
+      (j : w ≡ judge (p .count) ph (called 0 code station job room)) where
+    pub inside : k < p .count
+    unfolding assembled
+    inside = omega (arith, place-below (p .count) station (passed t ok .low))
+
+    made : (line : ℕ) → Made t (called line code station job room) w
+    unfolding assembled
+    made line = judged t ok code station job room k ph w e (q ∙ ap (λ (s : Station). s .phase) (sym (at-part p k (omega (arith, inside, passed t ok .high))))) j line
+
+    -- what the move asks for
+    pub asked : (w ≡ Calls.Move.beginsLabel → job ≤ 4294967295) × (w ≡ Calls.Move.endsScan → p .count * 29 ≤ room)
+    unfolding assembled
+    asked = (λ x. accepted-own _ _ (called 0 code station job room) _ (sym j ∙ x) tt .job, λ x. made 0 .fits (rw x (λ y. omega (arith, passed t ok .low, y))))
+
+    -- a call whose move is carried out is served
+    pub served : {buffer : Lists.List ℕ} {p′ : Parts} {r : Reply} {buffer′ : Lists.List ℕ} → Carries p k job w line buffer p′ r buffer′
+        → Steps t (called line code station job room) buffer (assembled p′) r buffer′
+    unfolding assembled recordAfter recordMoved entries
+    served {buffer} {p′} {r} {buffer′} f = record {
+      table = f .table ∙ ap (λ (i : ℕ). store t i (recordAfter t i job w)) e ∙ made line .table;
+      refusal = f .refusal ∙ made line .refusal;
+      written = f .written ∙ report-long (p .count) line w (recordAfter t k job w .«scan_result») long ∙ ap length (sym bytes);
+      report = f .report ∙ ap (λ (x : Lists.List ℕ). over x buffer) (sym bytes);
+    }
+      where
+        bytes : stepOf t (called line code station job room) .bytes ≡ due (reportSize (p .count) w) line (take (p .count) (recordAfter t k job w .«scan_result»))
+        bytes = made line .bytes ∙ ap (λ (i : ℕ). due (reportSize (p .count) w) line (take (p .count) (recordAfter t i job w .«scan_result»))) (sym e)
+
+        long : w ≡ Calls.Move.endsScan → p .count ≤ length (recordAfter t k job w .«scan_result»)
+        long x = rw x (subst (λ (s : Station). p .count ≤ length (s .«scan_result»)) (sym (at-part p k (omega (arith, inside, passed t ok .high))))
+            (omega (arith, passed t ok .high, length-tabulate 32 0 (λ (q : ℕ). entry (getD (getD (p .resultStations) k []) q 0) (getD (getD (p .resultJobs) k []) q 0)))))

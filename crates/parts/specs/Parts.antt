@@ -1,15 +1,21 @@
 -- A table taken apart: an array of numbers for each field of its records, so that it can be lent without being copied.
-use Prim.Native.Nat.{ℕ, _≤_, _<_}
+use Prim.Native.Nat.{ℕ, _-_, _*_, _≤_, _<_}
 use mathlib.Core.Path.{_≡_}
+use mathlib.Core.Logic.{_≢_}
 use mathlib.Core.List as Lists
-use mathlib.Core.List.{[]}
-use mathlib.Core.Bool.{cond}
-use lib.ListN.{length, getD}
+use mathlib.Core.List.{[], _++_}
+use mathlib.Core.Bool.{true, cond}
+use lib.ListN.{length, getD, take, replicate}
 use lib.Dec.{eqb}
-use Rattle.label.specs.Tests.{tabulate}
-use Rattle.simulation.specs.Calls.{Call}
+use Rattle.label.specs.Tests.{tabulate, ordered}
+use Rattle.rows.specs.Held.{standsIn}
+use Rattle.simulation.specs.Calls as Calls
+use Rattle.simulation.specs.Calls.{numberOf}
 use Rattle.table.specs.Results.{entry}
-use Rattle.step.specs.Contracts.{Steps}
+use Rattle.table.specs.Tables.{store}
+use Rattle.table.specs.WellFormed.{wellFormed}
+use Rattle.moves.specs.Moves.{refusalNumber, reportSize}
+use Rattle.step.specs.Contracts.{recordAfter, due, over}
 use Rattle.table.specs.declared.Entry.{Entry}
 use Rattle.table.specs.declared.Phase.{Phase}
 use Rattle.table.specs.declared.Phase.the-variants.{Idle, Snap, Update, End}
@@ -73,8 +79,26 @@ pub record Sized (p : Parts) : Type 0 where
 abbrev pub Phased : Parts → Type 0
 Phased p = (i : ℕ) → i < 32 → getD (p .phases) i 0 ≤ 5
 
--- the call c on the parts p with this report buffer: the parts, the reply and the buffer left are those of the step on the table
-pub record Serves (p : Parts) (c : Call) (buffer : Lists.List ℕ) (p′ : Parts) (r : Reply) (buffer′ : Lists.List ℕ) : Type 0 where
-  pub steps : Steps (assembled p) c buffer (assembled p′) r buffer′
+-- the scan order of the n stations with these labels, and 0s past them
+abbrev pub orderOf : ℕ → Lists.List (Lists.List ℕ) → Lists.List ℕ
+orderOf n labels = ordered n (standsIn n labels) ++ replicate (32 - n) 0
+
+-- what the move w of the station at place k asks for: a well-formed table; the job, the scan order and the room that it uses
+pub record Ready (p : Parts) (k job : ℕ) (w : Calls.Move) (order : Lists.List ℕ) (room : ℕ) : Type 0 where
+  pub inside : k < p .count
+  pub sized : Sized p
+  pub passed : wellFormed (assembled p) ≡ true
+  pub jobFits : w ≡ Calls.Move.beginsLabel → job ≤ 4294967295
+  pub isOrder : w ≡ Calls.Move.snapsScan → order ≡ orderOf (p .count) (p .labels)
+  pub hasRoom : w ≡ Calls.Move.endsScan → p .count * 29 ≤ room
+
+-- the move w of the station at place k, carried out on the parts p: the parts, the reply and the report buffer left, all of it; and which labels stay
+pub record Carries (p : Parts) (k job : ℕ) (w : Calls.Move) (line : ℕ) (buffer : Lists.List ℕ) (p′ : Parts) (r : Reply) (buffer′ : Lists.List ℕ) : Type 0 where
+  pub table : assembled p′ ≡ store (assembled p) k (recordAfter (assembled p) k job w)
+  pub refusal : refusalNumber (r .refusal) ≡ numberOf w
+  pub written : r .written ≡ reportSize (p .count) w
+  pub report : buffer′ ≡ over (due (reportSize (p .count) w) line (take (p .count) (recordAfter (assembled p) k job w .«scan_result»))) buffer
   pub sized : Sized p′
   pub phased : Phased p → Phased p′
+  pub others : (i : ℕ) → i ≢ k → getD (p′ .labels) i [] ≡ getD (p .labels) i []
+  pub labels : w ≢ Calls.Move.updates → p′ .labels ≡ p .labels

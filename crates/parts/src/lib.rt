@@ -1,14 +1,14 @@
 // The step call on a table that is taken apart: its arrays are lent, and nothing is copied but what changes.
 ghost use mathlib.Core.Path.{_≡_};
-ghost use mathlib.Core.Bool.{true, cond};
+ghost use mathlib.Core.Bool.{cond};
 ghost use Prim.Native.Nat.{ℕ, suc, _≤_, _<_};
 ghost use lib.ListN.{length, getD};
 ghost use lib.Dec.{ltb};
 ghost use Rattle.label.specs.Tests.{tabulate};
-ghost use Rattle.table.specs.WellFormed.{wellFormed};
-ghost use Rattle.moves.specs.Moves.{called};
-ghost use Rattle.step.specs.Contracts.{Steps};
-ghost use Rattle.parts.specs.Parts.{parts, phaseOf, entries, assembled};
+ghost use Rattle.table.specs.Results.{entry, blank};
+ghost use Rattle.moves.specs.Moves.{moveOf};
+ghost use Rattle.moves.specs.declared.Refusal.the-variants.{Accepted};
+ghost use Rattle.parts.specs.Parts.{parts, phaseOf, Ready, Carries};
 use moves::Move;
 use moves::Refusal;
 use step::Reply;
@@ -18,14 +18,19 @@ use table::Phase;
 
 // The numbers of the phases.
 const IDLE: u8 = 0;
+
 const SNAP_LABEL: u8 = 1;
+
 const SNAP_SCAN: u8 = 2;
+
 const UPDATE: u8 = 3;
+
 const END_LABEL: u8 = 4;
+
 const END_SCAN: u8 = 5;
 
 // The phase that a number stands for.
-fn phase_of(b: u8) -> Phase
+pub fn phase_of(b: u8) -> Phase
     ensures { λ r. ⌜ r ≡ phaseOf b ⌝ }
 {
     if b == IDLE {
@@ -77,13 +82,14 @@ fn ordered_jobs(order: &[usize; 32], jobs: &[u32; 32], n: usize) -> [u32; 32]
     r
 }
 
-// A scan result from its stations and jobs.
-fn entries_of(stations: [u8; 32], jobs: [u32; 32]) -> [Entry; 32]
-    ensures { λ r. ⌜ r ≡ entries stations jobs ⌝ }
+// The first n entries of a scan result, from its stations and jobs.
+fn entries_of(stations: [u8; 32], jobs: [u32; 32], n: usize) -> [Entry; 32]
+    requires { ⌜ n ≤ 32 ⌝ }
+    ensures { λ r. ⌜ r ≡ tabulate 32 0 (λ p. cond (ltb p n) (entry (getD stations p 0) (getD jobs p 0)) blank) ⌝ }
 {
     let mut r = [Entry { station: 0, job: 0 }; 32];
     let mut p: usize = 0;
-    while p < 32 {
+    while p < n {
         r[p] = Entry {
             station: stations[p],
             job: jobs[p],
@@ -93,9 +99,23 @@ fn entries_of(stations: [u8; 32], jobs: [u32; 32]) -> [Entry; 32]
     r
 }
 
-// A step call on the parts of a well-formed table; its report lines bear the number `line`.
-pub fn serve(
+fn accepted(written: usize) -> Reply
+    ensures { λ r. ⌜ (r .refusal ≡ Accepted) × (r .written ≡ written) ⌝ }
+{
+    Reply {
+        refusal: Refusal::Accepted,
+        written,
+    }
+}
+
+// Carries out a move of the station at a place, on the parts of a well-formed table with this scan order; report lines bear the number `line`.
+pub fn carry_out(
+    m: Move,
+    place: usize,
+    job: u64,
+    line: u64,
     n: usize,
+    order: &[usize; 32],
     labels: &mut [[u8; 31]; 32],
     jobs: &mut [u32; 32],
     pending_labels: &mut [[u8; 31]; 32],
@@ -103,56 +123,52 @@ pub fn serve(
     result_stations: &mut [[u8; 32]; 32],
     result_jobs: &mut [[u32; 32]; 32],
     phases: &mut [u8; 32],
-    line: u64,
-    code: u64,
-    station: u64,
-    job: u64,
     report: &mut [u8],
 ) -> Reply
-    requires { ⌜ wellFormed (assembled (parts n (now labels) (now jobs) (now «pending_labels») (now «pending_jobs») (now «result_stations») (now «result_jobs») (now phases))) ≡ true ⌝ }
-    ensures { λ r. ⌜ Steps (assembled (parts n (now (labels .entry)) (now (jobs .entry)) (now («pending_labels» .entry)) (now («pending_jobs» .entry)) (now («result_stations» .entry)) (now («result_jobs» .entry)) (now (phases .entry)))) (called line code station job (length (now (report .entry)))) (now (report .entry)) (assembled (parts n (now (labels .exit)) (now (jobs .exit)) (now («pending_labels» .exit)) (now («pending_jobs» .exit)) (now («result_stations» .exit)) (now («result_jobs» .exit)) (now (phases .exit)))) r (now (report .exit)) ⌝ }
-    ensures { λ _. ⌜ (((i : ℕ) → i < 32 → getD (now (phases .entry)) i 0 ≤ 5) → (i : ℕ) → i < 32 → getD (now (phases .exit)) i 0 ≤ 5) ⌝ }
+    requires { ⌜ Ready (parts n (now labels) (now jobs) (now «pending_labels») (now «pending_jobs») (now «result_stations») (now «result_jobs») (now phases)) place job (moveOf m) (now order) (length (now report)) ⌝ }
+    ensures { λ r. ⌜ Carries (parts n (now (labels .entry)) (now (jobs .entry)) (now («pending_labels» .entry)) (now («pending_jobs» .entry)) (now («result_stations» .entry)) (now («result_jobs» .entry)) (now (phases .entry))) place job (moveOf m) line (now (report .entry)) (parts n (now (labels .exit)) (now (jobs .exit)) (now («pending_labels» .exit)) (now («pending_jobs» .exit)) (now («result_stations» .exit)) (now («result_jobs» .exit)) (now (phases .exit))) r (now (report .exit)) ⌝ }
 {
-    let place = moves::place_of(station, n);
-    let p = phase_of(phases[place]);
-    let m = moves::judge(n, p, code, station, job, report.len());
-    let mut written = 0;
-    let mut refusal = Refusal::Accepted;
     match m {
-        Move::Refused(r) => {
-            refusal = r;
-        }
+        Move::Refused(refusal) => Reply {
+            refusal,
+            written: 0,
+        },
         Move::BeginLabel => {
             pending_jobs[place] = job as u32;
             phases[place] = SNAP_LABEL;
+            accepted(0)
         }
         Move::BeginScan => {
             phases[place] = SNAP_SCAN;
+            accepted(0)
         }
         Move::SnapLabel => {
             let own = pending_labels[place];
             pending_labels[place] = rows::choice::pending(labels, n, place, own);
             phases[place] = UPDATE;
+            accepted(0)
         }
         Move::SnapScan => {
-            let order = rows::order::order(labels, n);
-            result_stations[place] = ordered_stations(&order, n);
-            result_jobs[place] = ordered_jobs(&order, jobs, n);
+            result_stations[place] = ordered_stations(order, n);
+            result_jobs[place] = ordered_jobs(order, jobs, n);
             phases[place] = END_SCAN;
+            accepted(0)
         }
         Move::Update => {
             labels[place] = pending_labels[place];
             jobs[place] = pending_jobs[place];
             phases[place] = END_LABEL;
+            accepted(0)
         }
         Move::EndLabel => {
             phases[place] = IDLE;
+            accepted(0)
         }
         Move::EndScan => {
-            written = n * 29;
-            step::write_result(entries_of(result_stations[place], result_jobs[place]), n, line, report);
+            let entries = entries_of(result_stations[place], result_jobs[place], n);
+            step::write_result(entries, n, line, report);
             phases[place] = IDLE;
+            accepted(n * 29)
         }
     }
-    Reply { refusal, written }
 }
