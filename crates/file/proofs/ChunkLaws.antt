@@ -13,31 +13,28 @@ use borrow.Author.Tests.{eq-eqb, ne-eqb, eqb-true, eqb-false, leb-true, leb-fals
 use borrow.Rule.Slice.PartMut.{midOf, putMid}
 use Rattle.columns.specs.Columns.{reportLine}
 use Rattle.columns.proofs.ColumnLaws.{length-report-line}
-use Rattle.simulation.specs.Calls.{Move, numberOf, reportLines}
+use Rattle.simulation.specs.Calls.{Call}
 use Rattle.label.specs.Tests.{within}
-use Rattle.label.proofs.Facts.{within-true, getD-any}
-use Rattle.table.specs.Tables.{freshTable, at, store}
-use Rattle.table.specs.declared.Entry.{Entry}
-use Rattle.table.specs.declared.Station.{Station}
+use Rattle.label.proofs.Facts.{within-true}
+use Rattle.table.specs.Tables.{freshTable}
 use Rattle.table.specs.declared.Table.{Table}
-use Rattle.moves.specs.Moves.{refusalNumber, called, reportSize, placeOf}
-use Rattle.step.specs.Contracts.{recordAfter, due, over}
+use Rattle.moves.specs.Moves.{refusalNumber, called}
+use Rattle.step.specs.Contracts.{over}
 use Rattle.transition.specs.Steps.{stepOf}
 use Rattle.transition.proofs.Reachable.{Reached, reached-passes, stepped-reached, reached-fresh}
-use Rattle.step.proofs.ReportLaws.{length-report-lines}
-use Rattle.step.proofs.StepLaws.{Made}
 use Rattle.moves.specs.declared.Refusal.{Refusal}
 use Rattle.moves.specs.declared.Refusal.the-variants.{Accepted, StationCount, UnknownStep, JobOutOfRange}
+use Rattle.parts.specs.Parts.{Parts, assembled}
 use Rattle.schedule.specs.Lines.{lineRead}
 use Rattle.schedule.specs.Sessions.{session, closed, byHeader, headerOf, Served, refused, nextLine, stepLine}
 use Rattle.file.specs.Files.{cut, pieces, printed, runLines}
-use Rattle.schedule.specs.Contracts.{Serves}
+use Rattle.file.specs.Contracts.{Prints, Runs}
 use Rattle.schedule.proofs.SessionLaws.{serve-next, next-within}
 use Rattle.schedule.specs.declared.Line.{Line}
 use Rattle.file.proofs.FileTheorem.{Numbered, next-numbered}
 use Rattle.schedule.specs.declared.Line.the-variants.{Step, Refused}
 use Rattle.schedule.specs.declared.Session.{Session}
-use Rattle.schedule.specs.declared.Served as Declared
+use Rattle.file.specs.declared.Progress.{Progress}
 
 -- a line that is refused for good has a refusal
 next-refused : (lines : ℕ) (l : Lists.List ℕ) (r : Refusal) → nextLine lines l ≡ Refused r → refusalNumber r ≢ 0
@@ -55,13 +52,9 @@ unfolding runLines
 final-run s [] d = refl
 final-run s (l ∷ ls) d = rw (ne-eqb _ _ d) refl
 
--- the record that a move leaves at the place of a station
-abbrev left : Table → ℕ → ℕ → Move → Station
-left t station job w = recordAfter t (placeOf (t .count) station) job w
-
--- what a line prints whose step is the move w and leaves the record r
-abbrev shownOf : Table → ℕ → Station → Move → Lists.List ℕ
-shownOf t lines r w = printed (lines + 1) (numberOf w) (due (reportSize (t .count) w) (lines + 1) (take (t .count) (r .«scan_result»)))
+-- what a step line prints, and the table that it leaves
+abbrev pub shownOf : Table → Call → Lists.List ℕ
+shownOf t c = let a = stepOf t c in printed (c .line) (a .refusal) (a .bytes)
 
 module _ (s : Session) (l : Lists.List ℕ) (ls : Lists.List (Lists.List ℕ)) (live : refusalNumber (s .refusal) ≡ 0) (reached : Reached (s .table)) where
   run-next : runLines s (l ∷ ls) ≡ behind (printed (s .lines + 1) (stepLine s 928 (nextLine (s .lines) l) .refusal) (stepLine s 928 (nextLine (s .lines) l) .bytes))
@@ -74,9 +67,9 @@ module _ (s : Session) (l : Lists.List ℕ) (ls : Lists.List (Lists.List ℕ)) (
   run-refused r e =
       run-next ∙ rw (e, final-run (session (s .lines) r (s .table)) ls (next-refused (s .lines) l r e), append-nil) refl
 
-  run-step : (station code job : ℕ) (w : Move) → nextLine (s .lines) l ≡ Step station code job → Made (s .table) (called (s .lines + 1) code station job 928) w
-      → runLines s (l ∷ ls) ≡ behind (shownOf (s .table) (s .lines) (left (s .table) station job w) w) (runLines (session (s .lines + 1) (s .refusal) (store (s .table) (placeOf (s .table .count) station) (left (s .table) station job w))) ls)
-  run-step station code job w e m = run-next ∙ rw (e, m .refusal, m .table, ← m .bytes) refl
+  run-step : (station code job : ℕ) → nextLine (s .lines) l ≡ Step station code job → let c = called (s .lines + 1) code station job 928 in
+      runLines s (l ∷ ls) ≡ behind (shownOf (s .table) c) (runLines (session (s .lines + 1) (s .refusal) (stepOf (s .table) c .table)) ls)
+  run-step station code job e = run-next ∙ rw e refl
 
 -- BUFFERS
 
@@ -94,37 +87,31 @@ put-over bytes x buffer k short fits =
 length-over : (bytes buffer : Lists.List ℕ) → length bytes ≤ length buffer → length (over bytes buffer) ≡ length buffer
 length-over bytes buffer h = simp (length-append, length-drop) (omega arith)
 
--- what a line prints, accepted and refused
-abbrev Prints : ℕ → Lists.List ℕ → Lists.List ℕ → Lists.List ℕ → Type 0
-Prints n bytes buffer buffer′ = (n ≡ length bytes) × (buffer′ ≡ over bytes buffer)
+-- what leaves the buffer as long as it was fits
+over-short : (bytes buffer x : Lists.List ℕ) → x ≡ over bytes buffer → length x ≡ length buffer → length bytes ≤ length buffer
+over-short bytes buffer x e h = omega (arith, ap length e ∙ length-append bytes (drop (length bytes) buffer), h)
 
-pub prints-accepted : (number refusal n : ℕ) (bytes buffer buffer′ : Lists.List ℕ) → refusal ≡ 0 → Prints n bytes buffer buffer′ → Prints n (printed number refusal bytes) buffer buffer′
-prints-accepted number refusal n bytes buffer buffer′ e p = rw (eq-eqb refusal 0 e) p
+pub prints-short : {p p′ : Parts} {c : Call} {n : ℕ} {buffer buffer′ : Lists.List ℕ} → Prints p c buffer p′ n buffer′ → length buffer′ ≡ length buffer → n ≤ length buffer
+prints-short {p} {p′} {c} {n} {buffer} {buffer′} f h = omega (arith, f .written, over-short (shownOf (assembled p) c) buffer buffer′ (f .report) h)
 
-pub prints-refused : (number refusal n : ℕ) (x buffer : Lists.List ℕ) → n ≡ refusal → n ≢ 0 → x ≡ reportLine number n 0 0 0 → Prints 29 (printed number refusal []) buffer (x ++ drop 29 buffer)
-prints-refused number refusal n x buffer k d e =
+abbrev Printed : ℕ → Lists.List ℕ → Lists.List ℕ → Lists.List ℕ → Type 0
+Printed n bytes buffer buffer′ = (n ≡ length bytes) × (buffer′ ≡ over bytes buffer)
+
+pub printed-accepted : (number refusal : ℕ) (buffer : Lists.List ℕ) → refusal ≡ 0 → Printed 0 (printed number refusal []) buffer buffer
+printed-accepted number refusal buffer e = rw (eq-eqb refusal 0 e) (refl, refl)
+
+pub printed-refused : (number refusal n : ℕ) (x buffer : Lists.List ℕ) → n ≡ refusal → n ≢ 0 → x ≡ reportLine number n 0 0 0 → Printed 29 (printed number refusal []) buffer (x ++ drop 29 buffer)
+printed-refused number refusal n x buffer k d e =
     let long = length-report-line number n 0 0 0 in
     rw (← k, ne-eqb n 0 d, e, long) (refl, refl)
 
-pub prints-any : (number refusal n : ℕ) (bytes buffer buffer′ : Lists.List ℕ) → refusal ≢ 0 → Prints n (printed number refusal []) buffer buffer′
-    → Prints n (printed number refusal bytes) buffer buffer′
-prints-any number refusal n bytes buffer buffer′ d p = rw (ne-eqb refusal 0 d) (rw (ne-eqb refusal 0 d) at p)
-
--- a refusal line has 29 bytes, and what a decided line prints has room in 928
+-- a refusal line has 29 bytes
 pub printed-refusal : (number refusal : ℕ) → length (printed number refusal []) ≤ 29
 printed-refusal number refusal = go (eqb refusal 0)
   where
     go : (b : Bool) → length (cond b [] (reportLine number refusal 0 0 0)) ≤ 29
     go true = omega arith
     go false = omega (arith, length-report-line number refusal 0 0 0)
-
-pub printed-due : (number refusal written n : ℕ) (l : Lists.List Entry) → n ≤ 32 → length (printed number refusal (due written number (take n l))) ≤ 928
-printed-due number refusal written n l h = go (eqb refusal 0) (eqb written 0)
-  where
-    go : (a b : Bool) → length (cond a (cond b [] (reportLines number 1 (take n l))) (reportLine number refusal 0 0 0)) ≤ 928
-    go true true = omega arith
-    go true false = omega (arith, length-report-lines number 1 (take n l), length-take n l)
-    go false b = omega (arith, length-report-line number refusal 0 0 0)
 
 -- PLACES
 
@@ -162,25 +149,21 @@ module _ (chunk : Lists.List ℕ) (at : ℕ) (h : at < length chunk) where
 -- THE LOOP
 
 pub record Sofar (s : Session) (chunk out₀ : Lists.List ℕ) (t : Table) (lines written at : ℕ) (out : Lists.List ℕ) : Type 0 where
-  pub live : refusalNumber (s .refusal) ≡ 0
-  pub reached : Reached t
   pub within : at ≤ length chunk
   pub room : written + 928 * ahead chunk at ≤ length out₀
   pub bytes : Lists.List ℕ
   pub long : written ≡ length bytes
   pub area : out ≡ over bytes out₀
-  pub runs : runLines s (cut (pieces chunk) chunk) ≡ behind bytes (runLines (session lines (s .refusal) t) (cut (ahead chunk at) (drop at chunk)))
+  pub runs : runLines s (cut (pieces chunk) chunk) ≡ behind bytes (runLines (session lines Accepted t) (cut (ahead chunk at) (drop at chunk)))
 
-pub sofar-start : (s : Session) (chunk out : Lists.List ℕ) → refusalNumber (s .refusal) ≡ 0 → Reached (s .table) → 928 * pieces chunk ≤ length out → Sofar s chunk out (s .table) (s .lines) 0 0 out
-sofar-start s chunk out z r h = record {
-  live = z;
-  reached = r;
+pub sofar-start : (lines : ℕ) (t : Table) (chunk out : Lists.List ℕ) → 928 * pieces chunk ≤ length out → Sofar (session lines Accepted t) chunk out t lines 0 0 out
+sofar-start lines t chunk out h = record {
   within = omega arith;
   room = omega arith;
   bytes = [];
   long = refl;
   area = refl;
-  runs = let e : pieces chunk ≡ ahead chunk 0 = omega arith in ap (λ (k : ℕ). runLines s (cut k chunk)) e;
+  runs = let e : pieces chunk ≡ ahead chunk 0 = omega arith in ap (λ (k : ℕ). runLines (session lines Accepted t) (cut k chunk)) e;
 }
 
 module _ {s : Session} {chunk out₀ : Lists.List ℕ} {t : Table} {lines written at : ℕ} {out : Lists.List ℕ} (f : Sofar s chunk out₀ t lines written at out) where
@@ -188,13 +171,12 @@ module _ {s : Session} {chunk out₀ : Lists.List ℕ} {t : Table} {lines writte
   as-long = rw (f .area) (length-over (f .bytes) out₀ (omega (arith, f .long, f .room)))
 
   -- the run is over
-  pub sofar-end : (r : Declared.Served) → r .session ≡ session lines (s .refusal) t → r .reply .refusal ≡ s .refusal → r .reply .written ≡ written → length chunk ≤ at
-      → Serves (runLines s (cut (pieces chunk) chunk)) r out₀ out
+  pub sofar-end : (r : Progress) → r .lines ≡ lines → r .refusal ≡ Accepted → r .written ≡ written → length chunk ≤ at → Runs (runLines s (cut (pieces chunk) chunk)) t r out₀ out
   unfolding cut runLines
   sofar-end r e v w h =
       let none : ahead chunk at ≡ 0 = omega arith in
-      let q : runLines s (cut (pieces chunk) chunk) ≡ behind (f .bytes) (refused (session lines (s .refusal) t) (refusalNumber (s .refusal))) = f .runs ∙ rw none refl in
-      rw (q, append-nil) (record { session = e; refusal = ap refusalNumber v; written = w ∙ f .long; report = f .area })
+      let q : runLines s (cut (pieces chunk) chunk) ≡ behind (f .bytes) (refused (session lines Accepted t) 0) = f .runs ∙ rw none refl in
+      rw (q, append-nil) (record { session = rw (e, v) refl; refusal = ap refusalNumber v; written = w ∙ f .long; report = f .area })
 
   module _ (h : at < length chunk) where
     pub room-here : written + 928 ≤ length out
@@ -203,62 +185,48 @@ module _ {s : Session} {chunk out₀ : Lists.List ℕ} {t : Table} {lines writte
     pub at-next : (l : Lists.List ℕ) → l ≡ take 18 (drop at chunk) → (at + length l ≤ length chunk) × (0 < length l)
     at-next l p = rw p (line-within chunk at h .0, line-within chunk at h .1)
 
-    module _ (l : Lists.List ℕ) (p : l ≡ take 18 (drop at chunk)) (k : ℕ) (e : k ≡ 928) where
+    module _ (reached : Reached t) (l : Lists.List ℕ) (p : l ≡ take 18 (drop at chunk)) (k : ℕ) (e : k ≡ 928) where
       -- what is put in behind the bytes so far
       put : (x : Lists.List ℕ) → length x ≤ 928 → putMid written k out (over x (midOf written k out)) ≡ over (f .bytes ++ x) out₀
       put x short = rw (f .area, e, f .long) (put-over (f .bytes) x out₀ 928 short (omega (arith, f .long, f .room, line-within chunk at h)))
 
       -- a line that is refused for good
-      pub sofar-stop : (r : Refusal) (n : ℕ) (x : Lists.List ℕ) (served : Declared.Served) → nextLine lines l ≡ Refused r → n ≡ length (printed (lines + 1) (refusalNumber r) [])
-          → x ≡ over (printed (lines + 1) (refusalNumber r) []) (midOf written k out) → served .session ≡ session lines r t → served .reply .refusal ≡ r → served .reply .written ≡ written + n
-          → Serves (runLines s (cut (pieces chunk) chunk)) served out₀ (putMid written k out x)
-      sofar-stop r n x served a b c u v w =
+      pub sofar-stop : (r : Refusal) (n : ℕ) (x : Lists.List ℕ) (o : Progress) → nextLine lines l ≡ Refused r → n ≡ length (printed (lines + 1) (refusalNumber r) [])
+          → x ≡ over (printed (lines + 1) (refusalNumber r) []) (midOf written k out) → o .lines ≡ lines → o .refusal ≡ r → o .written ≡ written + n
+          → Runs (runLines s (cut (pieces chunk) chunk)) t o out₀ (putMid written k out x)
+      sofar-stop r n x o a b c u v w =
           let bytes = printed (lines + 1) (refusalNumber r) [] in
           let q : runLines s (cut (pieces chunk) chunk) ≡ record { session = session lines r t; refusal = refusalNumber r; bytes = f .bytes ++ bytes } =
           f .runs
-          ∙ ap (λ ls. behind (f .bytes) (runLines (session lines (s .refusal) t) ls)) (cut-line chunk at h)
-          ∙ ap (behind (f .bytes)) (run-refused (session lines (s .refusal) t) (take 18 (drop at chunk)) _ (f .live) (f .reached) r (rw p at a)) in
+          ∙ ap (λ ls. behind (f .bytes) (runLines (session lines Accepted t) ls)) (cut-line chunk at h)
+          ∙ ap (behind (f .bytes)) (run-refused (session lines Accepted t) (take 18 (drop at chunk)) _ refl reached r (rw p at a)) in
           rw q (record {
-            session = u;
+            session = rw (u, v) refl;
             refusal = ap refusalNumber v;
             written = omega (arith, w, b, f .long, length-append (f .bytes) bytes);
             report = rw c (put bytes (omega (arith, printed-refusal (lines + 1) (refusalNumber r))));
           })
 
-      -- a line that is served: a move stores its record
-      module _ (station code job : ℕ) (a : nextLine lines l ≡ Step station code job) (place : ℕ) (r : Station) (w : Move) (q : place ≡ placeOf (t .count) station)
-          (v : r ≡ recordAfter t place job w) (make : (line : ℕ) → Made t (called line code station job 928) w) where
-        record-left : r ≡ left t station job w
-        record-left = v ∙ ap (λ (i : ℕ). recordAfter t i job w) q
-
-        stored : store t place r ≡ store t (placeOf (t .count) station) (left t station job w)
-        stored = ap₂ (λ (i : ℕ) (x : Station). store t i x) q record-left
-
-        pub shown-short : length (shownOf t lines r w) ≤ 928
-        shown-short = printed-due (lines + 1) (numberOf w) (reportSize (t .count) w) (t .count) (r .«scan_result») (f .reached .good .high)
-
-        pub sofar-more : (n : ℕ) (x : Lists.List ℕ) → n ≡ length (shownOf t lines r w) → x ≡ over (shownOf t lines r w) (midOf written k out)
-            → Sofar s chunk out₀ (store t place r) (lines + 1) (written + n) (at + length l) (putMid written k out x)
-        sofar-more n x b c = record {
-          live = f .live;
-          reached = rw (stored, make 0 .table) (stepped-reached t (f .reached) (called 0 code station job 928));
-          within = at-next l p .0;
-          room = rw p (omega (arith, b, f .room, line-within chunk at h, shown-short));
-          bytes = f .bytes ++ shownOf t lines r w;
-          long = omega (arith, b, f .long, length-append (f .bytes) (shownOf t lines r w));
-          area = rw c (put (shownOf t lines r w) shown-short);
-          runs =
-              f .runs
-              ∙ ap (λ ls. behind (f .bytes) (runLines (session lines (s .refusal) t) ls)) (cut-line chunk at h)
-              ∙ ap (behind (f .bytes)) (run-step (session lines (s .refusal) t) (take 18 (drop at chunk)) _ (f .live) (f .reached) station code job w (rw p at a) (make (lines + 1)))
-              ∙ rw (stored, p, ← record-left, append-assoc) refl;
-        }
-
--- no line follows a final refusal
-pub serves-final : (s : Session) (ls : Lists.List (Lists.List ℕ)) (r : Declared.Served) (out : Lists.List ℕ) → refusalNumber (s .refusal) ≢ 0
-    → r .session ≡ s → r .reply .refusal ≡ s .refusal → r .reply .written ≡ 0 → Serves (runLines s ls) r out out
-serves-final s ls r out d e v w =
-    rw (final-run s ls d) (record { session = e; refusal = ap refusalNumber v; written = w; report = refl })
+      -- a line that is served
+      pub sofar-more : (station code job : ℕ) → nextLine lines l ≡ Step station code job → (t′ : Table) (n : ℕ) (x : Lists.List ℕ) → let c = called (lines + 1) code station job 928 in
+          t′ ≡ stepOf t c .table → n ≡ length (shownOf t c) → x ≡ over (shownOf t c) (midOf written k out) → length x ≡ length (midOf written k out)
+          → Sofar s chunk out₀ t′ (lines + 1) (written + n) (at + length l) (putMid written k out x)
+      sofar-more station code job a t′ n x u v w y =
+          let c = called (lines + 1) code station job 928 in
+          let mid : length (midOf written k out) ≡ 928 = length-take-le k (drop written out) (rw length-drop (omega (arith, e, room-here))) ∙ e in
+          let short : length (shownOf t c) ≤ 928 = omega (arith, over-short (shownOf t c) (midOf written k out) x w y, mid) in
+          record {
+            within = at-next l p .0;
+            room = rw p (omega (arith, v, f .room, line-within chunk at h, short));
+            bytes = f .bytes ++ shownOf t c;
+            long = omega (arith, v, f .long, length-append (f .bytes) (shownOf t c));
+            area = rw w (put (shownOf t c) short);
+            runs =
+                f .runs
+                ∙ ap (λ ls. behind (f .bytes) (runLines (session lines Accepted t) ls)) (cut-line chunk at h)
+                ∙ ap (behind (f .bytes)) (run-step (session lines Accepted t) (take 18 (drop at chunk)) _ refl reached station code job (rw p at a))
+                ∙ rw (u, p, append-assoc) refl;
+          }
 
 -- HOW MANY LINES ARE COUNTED
 
@@ -292,10 +260,10 @@ length-cut zero bs = refl
 length-cut (suc k) bs = ap suc (length-cut k (drop 18 bs))
 
 -- a part that leaves no refusal has taken the count further
-pub part-counted : (s : Session) (chunk out out′ : Lists.List ℕ) (r : Declared.Served) → Reached (s .table) → s .lines ≤ 1000001 → 0 < length chunk
-    → Serves (runLines s (cut (pieces chunk) chunk)) r out out′ → refusalNumber (r .reply .refusal) ≡ 0 → (s .lines < r .session .lines) × (r .session .lines ≤ 1000001)
-part-counted s chunk out out′ r g m h f z =
-    let n = run-counted (cut (pieces chunk) chunk) s g m (sym (f .refusal) ∙ z) in
+pub part-counted : (lines : ℕ) (t t′ : Table) (chunk out out′ : Lists.List ℕ) (r : Progress) → Reached t → lines ≤ 1000001 → 0 < length chunk
+    → Runs (runLines (session lines Accepted t) (cut (pieces chunk) chunk)) t′ r out out′ → refusalNumber (r .refusal) ≡ 0 → (lines < r .lines) × (r .lines ≤ 1000001)
+part-counted lines t t′ chunk out out′ r g m h f z =
+    let n = run-counted (cut (pieces chunk) chunk) (session lines Accepted t) g m (sym (f .refusal) ∙ z) in
     let l = length-cut (pieces chunk) chunk in
     let e = ap (λ x. x .lines) (f .session) in
     (omega (arith, n), omega (arith, n))
@@ -303,11 +271,11 @@ part-counted s chunk out out′ r g m h f z =
 -- THE ENDS OF A FILE
 
 -- what is written lies within the buffer
-pub prints-inside : (n : ℕ) (bytes buffer buffer′ : Lists.List ℕ) → Prints n bytes buffer buffer′ → n ≤ length buffer′
-prints-inside n bytes buffer buffer′ p = omega (arith, p .0, ap length (p .1) ∙ length-append bytes (drop (length bytes) buffer))
+pub printed-inside : (n : ℕ) (bytes buffer buffer′ : Lists.List ℕ) → Printed n bytes buffer buffer′ → n ≤ length buffer′
+printed-inside n bytes buffer buffer′ p = omega (arith, p .0, ap length (p .1) ∙ length-append bytes (drop (length bytes) buffer))
 
-pub serves-inside : {o : Served} {r : Declared.Served} {buffer buffer′ : Lists.List ℕ} → Serves o r buffer buffer′ → r .reply .written ≤ length buffer′
-serves-inside {o} {r} {buffer} {buffer′} f = prints-inside (r .reply .written) (o .bytes) buffer buffer′ (f .written, f .report)
+pub runs-inside : {o : Served} {t : Table} {r : Progress} {buffer buffer′ : Lists.List ℕ} → Runs o t r buffer buffer′ → r .written ≤ length buffer′
+runs-inside {o} {t} {r} {buffer} {buffer′} f = printed-inside (r .written) (o .bytes) buffer buffer′ (f .written, f .report)
 
 -- a header leaves a table that is reached, accepted or not, and counts one line at most
 by-header : (w : Line) → Reached (byHeader w .table) × (byHeader w .lines ≤ 1)
@@ -329,10 +297,3 @@ by-header (Step n code job) = go (eqb code 0) (within 2 32 n) refl (eqb job 0)
 pub header-reached : (s : Session) (l : Lists.List ℕ) → s ≡ headerOf l → Reached (s .table) × (s .lines ≤ 1000001)
 unfolding headerOf
 header-reached s l e = let h = by-header (lineRead l) in rw e (h .0, omega (arith, h .1))
-
--- the record that the code reads on a reached table
-pub reached-at : (t : Table) → Reached t → (k : ℕ) → k < t .count → (d : Station) → getD (t .stations) k d ≡ at t k
-reached-at t r k h d = getD-any (t .stations) k d _ (omega (arith, r .good .places, r .good .high))
-
-pub reached-left : (s : Session) (lines : ℕ) (r : Refusal) (t : Table) → s ≡ session lines r t → Reached t → Reached (s .table)
-reached-left s lines r t e g = rw e g

@@ -1,24 +1,30 @@
-// The lines of a part of a schedule file, one after the other, and what they print.
+// A schedule file, served a part at a time on a table that is taken apart, and what its lines print.
 ghost use mathlib.Core.Path.{_≡_};
+ghost use mathlib.Core.Bool.{false};
 ghost use mathlib.Core.List.{[]};
 ghost use Prim.Native.Nat.{_+_, _*_, _≤_};
 ghost use lib.ListN.{length, take, drop};
-ghost use Rattle.moves.specs.Moves.{refusalNumber, moveOf, reportSize};
-ghost use Rattle.step.specs.Contracts.{due, over};
-ghost use Rattle.simulation.specs.Calls.{numberOf};
-ghost use Rattle.transition.proofs.Reachable.{Reached};
-ghost use Rattle.file.specs.Files.{cut, pieces, printed, headerPrinted, runLines};
+ghost use Rattle.moves.specs.Moves.{refusalNumber, moveOf, called};
+ghost use Rattle.moves.specs.declared.Refusal.the-variants.{Accepted};
+ghost use Rattle.step.specs.Contracts.{over};
+ghost use Rattle.rows.specs.Held.{Orderly};
+ghost use Rattle.parts.specs.Parts.{parts, assembled, orderOf};
 ghost use Rattle.schedule.specs.Sessions.{session};
-ghost use Rattle.schedule.specs.Contracts.{Serves};
+ghost use Rattle.file.specs.Files.{cut, pieces, printed, headerPrinted, runLines};
+ghost use Rattle.file.specs.Contracts.{isUpdate, Runnable, Prints, Runs};
 use moves::Move;
 use moves::Refusal;
 use schedule::Line;
-use schedule::Served;
 use schedule::Session;
 use schedule::next_line;
-use step::Reply;
-use table::Entry;
-use table::Table;
+
+// What the lines of a part of the file leave beside the table and the output buffer: how many lines are counted, the final refusal if there is one, and
+// the bytes that they print.
+pub struct Progress {
+    pub lines: u32,
+    pub refusal: Refusal,
+    pub written: usize,
+}
 
 // Writes the refusal line of the line that follows `lines` others to the front of `out`, and nothing for no refusal; hands back its bytes.
 fn print_refusal(lines: u32, refusal: Refusal, out: &mut [u8]) -> usize
@@ -32,22 +38,6 @@ fn print_refusal(lines: u32, refusal: Refusal, out: &mut [u8]) -> usize
     }
     columns::write_report_line(&mut out[0..29], lines as u64 + 1, k, 0, 0, 0);
     29
-}
-
-// Writes what a served line prints to the front of `out`: its refusal, or the report that its move makes due; hands back its bytes.
-fn print_move(lines: u32, m: Move, result: [Entry; 32], n: usize, out: &mut [u8]) -> usize
-    requires { ⌜ n ≤ 32 ⌝ }
-    requires { ⌜ 928 ≤ length (now out) ⌝ }
-    ensures { λ r. ⌜ r ≡ length (printed (lines + 1) (numberOf (moveOf m)) (due (reportSize n (moveOf m)) (lines + 1) (take n result))) ⌝ }
-    ensures { λ _. ⌜ now (out .exit) ≡ over (printed (lines + 1) (numberOf (moveOf m)) (due (reportSize n (moveOf m)) (lines + 1) (take n result))) (now (out .entry)) ⌝ }
-{
-    let refusal = moves::refusal_of(m);
-    if refusal.number() == 0 {
-        let written = moves::report_size(m, n);
-        step::write_due(written, result, n, lines as u64 + 1, out);
-        return written;
-    }
-    print_refusal(lines, refusal, out)
 }
 
 // The line that starts at a place: 18 bytes, or what is left.
@@ -72,63 +62,144 @@ pub fn report_header(s: Session, out: &mut [u8]) -> usize
     print_refusal(0, refusal, out)
 }
 
-// A session, and the reply to its last line.
-fn outcome(lines: u32, refusal: Refusal, table: Table, written: usize) -> Served
-    ensures { λ r. ⌜ r .session ≡ session lines refusal table ⌝ }
-    ensures { λ r. ⌜ (r .reply .refusal ≡ refusal) × (r .reply .written ≡ written) ⌝ }
+// Whether a move is an update, which gives a station another label.
+fn is_update(m: Move) -> bool
+    ensures { λ r. ⌜ r ≡ isUpdate (moveOf m) ⌝ }
 {
-    Served {
-        session: Session {
-            lines,
-            refusal,
-            table,
-        },
-        reply: Reply { refusal, written },
+    match m {
+        Move::Refused(_) => false,
+        Move::BeginLabel => false,
+        Move::BeginScan => false,
+        Move::SnapLabel => false,
+        Move::SnapScan => false,
+        Move::Update => true,
+        Move::EndLabel => false,
+        Move::EndScan => false,
     }
 }
 
-// Serves the lines of a part of the file, up to a final refusal, and writes what they print.
-// The table is a local in which each step stores its record: handed from call to call it would be copied each time.
-pub fn report_lines(s: Session, chunk: &[u8], out: &mut [u8]) -> Served
-    requires { ⌜ Reached (s .table) ⌝ }
-    requires { ⌜ 928 * pieces (now chunk) ≤ length (now out) ⌝ }
-    ensures { λ r. ⌜ Serves (runLines s (cut (pieces (now (chunk .entry))) (now (chunk .entry)))) r (now (out .entry)) (now (out .exit)) ⌝ }
-    ensures { λ r. ⌜ Reached (r .session .table) ⌝ }
+// The scan order after a move: it is another if the move is an update.
+fn refresh(updated: bool, labels: &[[u8; 31]; 32], n: usize, order: &mut [usize; 32])
+    requires { ⌜ Orderly n (now labels) ⌝ }
+    requires { ⌜ (updated ≡ false → now order ≡ orderOf n (now labels)) ⌝ }
+    ensures { λ _. ⌜ now (order .exit) ≡ orderOf n (now (labels .entry)) ⌝ }
 {
-    let refusal = s.refusal;
-    let mut t = s.table;
-    let mut lines = s.lines;
+    if !updated {
+        return;
+    }
+    let next = rows::order::order(labels, n);
+    *order = next;
+}
+
+// Serves the step line that follows `lines` others: prints its report or its refusal to the front of `out`, and hands back its bytes.
+fn serve_line(
+    lines: u32,
+    station: u64,
+    code: u64,
+    job: u64,
+    n: usize,
+    order: &mut [usize; 32],
+    labels: &mut [[u8; 31]; 32],
+    jobs: &mut [u32; 32],
+    pending_labels: &mut [[u8; 31]; 32],
+    pending_jobs: &mut [u32; 32],
+    result_stations: &mut [[u8; 32]; 32],
+    result_jobs: &mut [[u32; 32]; 32],
+    phases: &mut [u8; 32],
+    out: &mut [u8],
+) -> usize
+    requires { ⌜ Runnable (parts n (now labels) (now jobs) (now «pending_labels») (now «pending_jobs») (now «result_stations») (now «result_jobs») (now phases)) (now order) ⌝ }
+    requires { ⌜ length (now out) ≡ 928 ⌝ }
+    ensures { λ r. ⌜ Prints (parts n (now (labels .entry)) (now (jobs .entry)) (now («pending_labels» .entry)) (now («pending_jobs» .entry)) (now («result_stations» .entry)) (now («result_jobs» .entry)) (now (phases .entry))) (called (lines + 1) code station job 928) (now (out .entry)) (parts n (now (labels .exit)) (now (jobs .exit)) (now («pending_labels» .exit)) (now («pending_jobs» .exit)) (now («result_stations» .exit)) (now («result_jobs» .exit)) (now (phases .exit))) r (now (out .exit)) ⌝ }
+    ensures { λ _. ⌜ Runnable (parts n (now (labels .exit)) (now (jobs .exit)) (now («pending_labels» .exit)) (now («pending_jobs» .exit)) (now («result_stations» .exit)) (now («result_jobs» .exit)) (now (phases .exit))) (now (order .exit)) ⌝ }
+{
+    let place = moves::place_of(station, n);
+    let p = parts::phase_of(phases[place]);
+    let m = moves::judge(n, p, code, station, job, 928);
+    let reply = parts::carry_out(
+        m,
+        place,
+        job,
+        lines as u64 + 1,
+        n,
+        order,
+        labels,
+        jobs,
+        pending_labels,
+        pending_jobs,
+        result_stations,
+        result_jobs,
+        phases,
+        out,
+    );
+    refresh(is_update(m), labels, n, order);
+    let refusal = reply.refusal;
+    if refusal.number() == 0 {
+        return reply.written;
+    }
+    print_refusal(lines, refusal, out)
+}
+
+// Serves the lines of a part of the file after `lines` others, up to a final refusal, and writes what they print.
+pub fn report_lines(
+    lines: u32,
+    n: usize,
+    order: &mut [usize; 32],
+    labels: &mut [[u8; 31]; 32],
+    jobs: &mut [u32; 32],
+    pending_labels: &mut [[u8; 31]; 32],
+    pending_jobs: &mut [u32; 32],
+    result_stations: &mut [[u8; 32]; 32],
+    result_jobs: &mut [[u32; 32]; 32],
+    phases: &mut [u8; 32],
+    chunk: &[u8],
+    out: &mut [u8],
+) -> Progress
+    requires { ⌜ Runnable (parts n (now labels) (now jobs) (now «pending_labels») (now «pending_jobs») (now «result_stations») (now «result_jobs») (now phases)) (now order) ⌝ }
+    requires { ⌜ 928 * pieces (now chunk) ≤ length (now out) ⌝ }
+    ensures { λ r. ⌜ Runs (runLines (session lines Accepted (assembled (parts n (now (labels .entry)) (now (jobs .entry)) (now («pending_labels» .entry)) (now («pending_jobs» .entry)) (now («result_stations» .entry)) (now («result_jobs» .entry)) (now (phases .entry))))) (cut (pieces (now (chunk .entry))) (now (chunk .entry)))) (assembled (parts n (now (labels .exit)) (now (jobs .exit)) (now («pending_labels» .exit)) (now («pending_jobs» .exit)) (now («result_stations» .exit)) (now («result_jobs» .exit)) (now (phases .exit)))) r (now (out .entry)) (now (out .exit)) ⌝ }
+    ensures { λ _. ⌜ Runnable (parts n (now (labels .exit)) (now (jobs .exit)) (now («pending_labels» .exit)) (now («pending_jobs» .exit)) (now («result_stations» .exit)) (now («result_jobs» .exit)) (now (phases .exit))) (now (order .exit)) ⌝ }
+{
+    let mut count = lines;
     let mut written = 0;
     let mut at = 0;
-    if refusal.number() != 0 {
-        return outcome(lines, refusal, t, written);
-    }
     while at < chunk.len() {
         let line = line_at(chunk, at);
-        match next_line(lines, line) {
-            Line::Refused(r) => {
-                let k = print_refusal(lines, r, &mut out[written..written + 928]);
-                return outcome(lines, r, t, written + k);
+        match next_line(count, line) {
+            Line::Refused(refusal) => {
+                let k = print_refusal(count, refusal, &mut out[written..written + 928]);
+                return Progress {
+                    lines: count,
+                    refusal,
+                    written: written + k,
+                };
             }
             Line::Step { station, code, job } => {
-                let n = t.count;
-                let place = moves::place_of(station, n);
-                let old = t.stations[place];
-                let p = old.phase;
-                let m = moves::judge(n, p, code, station, job, 928);
-                let record = match m {
-                    Move::SnapLabel => moves::snapped(old, t.pending_after(place)),
-                    Move::SnapScan => moves::scanned(old, t.scan()),
-                    _ => moves::moved(old, m, job),
-                };
-                let result = record.scan_result;
-                let k = print_move(lines, m, result, n, &mut out[written..written + 928]);
-                t.stations[place] = record;
-                lines += 1;
+                let k = serve_line(
+                    count,
+                    station,
+                    code,
+                    job,
+                    n,
+                    order,
+                    labels,
+                    jobs,
+                    pending_labels,
+                    pending_jobs,
+                    result_stations,
+                    result_jobs,
+                    phases,
+                    &mut out[written..written + 928],
+                );
+                count += 1;
                 written += k;
                 at += line.len();
             }
         }
     }
-    outcome(lines, refusal, t, written)
+    Progress {
+        lines: count,
+        refusal: Refusal::Accepted,
+        written,
+    }
 }

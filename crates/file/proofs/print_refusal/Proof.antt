@@ -1,6 +1,5 @@
-use mathlib.Core.Path.{refl, sym, _∙_}
-use mathlib.Core.List.{[]}
-use Rattle.file.proofs.ChunkLaws.{prints-accepted, prints-refused}
+use mathlib.Core.Path.{sym, _∙_}
+use Rattle.file.proofs.ChunkLaws.{printed-accepted, printed-refused}
 use borrow.Author.Needs.{needs}
 use Rattle.file.proofs.print_refusal.Statement.{statement}
 use Rattle.file.proofs.print_refusal.Tie as tie
@@ -9,7 +8,7 @@ number-requires : tie.Need-number-requires
 number-requires c κs = search needs
 
 returns : tie.Need-returns
-returns c = prints-accepted _ _ _ [] _ _ (sym (c .before .number .ensures) ∙ c .if1 .taken) (refl, refl)
+returns c = printed-accepted _ _ _ (sym (c .before .number .ensures) ∙ c .if1 .taken)
 
 sub-write-report-line : tie.Need-sub-write-report-line
 sub-write-report-line c = search needs
@@ -30,7 +29,7 @@ same-length : tie.Need-same-length
 same-length c = search needs
 
 returns-2 : tie.Need-returns-2
-returns-2 c = prints-refused _ _ _ _ _ (c .before .before .before .before .before .number .ensures) (c .before .before .before .before .if1 .left) (c .before .before .write-report-line .ensures)
+returns-2 c = printed-refused _ _ _ _ _ (c .before .before .before .before .before .number .ensures) (c .before .before .before .before .if1 .left) (c .before .before .write-report-line .ensures)
 
 pub print-refusal-spec : {M : Type 1} → statement M
 print-refusal-spec =
