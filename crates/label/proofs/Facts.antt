@@ -10,8 +10,8 @@ use mathlib.Core.List as Lists
 use mathlib.Core.List.{[], _∷_}
 use lib.ListN.{length, getD, take, set, replicate, length-set}
 use lib.Seq.{ext-getD, getD-set-same, getD-set-other}
-use lib.Dec.{leb}
-use borrow.Author.Tests.{leb-true, le-leb}
+use lib.Dec.{leb, eqb}
+use borrow.Author.Tests.{leb-true, le-leb, eq-eqb, ne-eqb}
 use Rattle.label.specs.Tests.{within, every, count, firstFrom, newest, inserted, ordered, tabulate, All}
 
 -- BOOL
@@ -119,6 +119,17 @@ firstFrom-same (suc k) h f g s =
     let r = firstFrom-same k (suc h) f g (λ i l. s i (omega arith)) in
     λ i. elim (p i) [ true ↦ h | false ↦ r i ]
 
+-- P HOLDS OF EACH ELEMENT
+
+pub all-at : {A : Type 0} (P : A → Type 0) (l : Lists.List A) (d : A) → All P l → (p : ℕ) → p < length l → P (getD l p d)
+all-at P [] d a p h = absurd (omega arith)
+all-at P (x ∷ l) d a zero h = a .0
+all-at P (x ∷ l) d a (suc p) h = all-at P l d (a .1) p (omega arith)
+
+pub each-all : {A : Type 0} (P : A → Type 0) (l : Lists.List A) (d : A) → ((p : ℕ) → p < length l → P (getD l p d)) → All P l
+each-all P [] d h = tt
+each-all P (x ∷ l) d h = (h 0 (omega arith), each-all P l d (λ p u. h (suc p) (omega arith)))
+
 -- NEWEST AND ORDER
 
 abbrev pub Same : ℕ → (ℕ → ℕ → Bool) → (ℕ → ℕ → Bool) → Type 0
@@ -141,6 +152,23 @@ pub ordered-all : (P : ℕ → Type 0) (b : ℕ → ℕ → Bool) (k : ℕ) → 
 unfolding ordered
 ordered-all P b zero h = tt
 ordered-all P b (suc k) h = inserted-all P b k (ordered k b) (h k (lt-suc-self k)) (ordered-all P b k (λ i l. h i (le-step l)))
+
+-- and the other way: each process is listed
+inserted-each : (P : ℕ → Type 0) (b : ℕ → ℕ → Bool) (i : ℕ) (l : Lists.List ℕ) → All P (inserted b i l) → P i × All P l
+unfolding inserted
+inserted-each P b i [] a = (a .0, tt)
+inserted-each P b i (j ∷ l) a = go (inserted-each P b i l) (b i j) a
+  where
+    go : (All P (inserted b i l) → P i × All P l) → (x : Bool) → All P (elim x [ true ↦ i ∷ j ∷ l | false ↦ j ∷ inserted b i l ]) → P i × (P j × All P l)
+    go r true a = a
+    go r false a = let h = r (a .1) in (h .0, (a .0, h .1))
+
+pub ordered-each : (P : ℕ → Type 0) (b : ℕ → ℕ → Bool) (k : ℕ) → All P (ordered k b) → (i : ℕ) → i < k → P i
+unfolding ordered
+ordered-each P b zero a i h = absurd (not-suc-le-zero h)
+ordered-each P b (suc k) a i h =
+    let r = inserted-each P b k (ordered k b) a in
+    by-cases (ℕ-discrete i k) (λ e. rw e (r .0)) (λ d. ordered-each P b k (r .1) i (omega arith))
 
 pub inserted-same : (b b′ : ℕ → ℕ → Bool) (i : ℕ) (l : Lists.List ℕ) → All (λ j. b i j ≡ b′ i j) l → inserted b i l ≡ inserted b′ i l
 unfolding inserted
@@ -168,6 +196,42 @@ pub ordered-length : (b : ℕ → ℕ → Bool) (k : ℕ) → length (ordered k 
 unfolding ordered
 ordered-length b zero = refl
 ordered-length b (suc k) = inserted-length b k (ordered k b) ∙ ap suc (ordered-length b k)
+
+-- A LIST WITHOUT k
+
+unfoldable pub without : ℕ → Lists.List ℕ → Lists.List ℕ
+without k [] = []
+without k (j ∷ l) = cond (eqb j k) (without k l) (j ∷ without k l)
+
+module _ (k j : ℕ) (l : Lists.List ℕ) where
+  pub without-it : j ≡ k → without k (j ∷ l) ≡ without k l
+  unfolding without
+  without-it e = rw (eq-eqb j k e) refl
+
+  pub without-other : j ≢ k → without k (j ∷ l) ≡ j ∷ without k l
+  unfolding without
+  without-other d = rw (ne-eqb j k d) refl
+
+pub without-all : (P Q : ℕ → Type 0) (k : ℕ) → ((j : ℕ) → P j → j ≢ k → Q j) → (l : Lists.List ℕ) → All P l → All Q (without k l)
+unfolding without
+without-all P Q k f [] a = tt
+without-all P Q k f (j ∷ l) a = by-cases (ℕ-discrete j k)
+    (λ e. rw (without-it k j l e) (without-all P Q k f l (a .1)))
+    (λ d. rw (without-other k j l d) (f j (a .0) d, without-all P Q k f l (a .1)))
+
+pub without-none : (k : ℕ) (l : Lists.List ℕ) → All (λ j. j ≢ k) l → without k l ≡ l
+unfolding without
+without-none k [] a = refl
+without-none k (j ∷ l) a = without-other k j l (a .0) ∙ ap (λ r. j ∷ r) (without-none k l (a .1))
+
+pub without-own : (b : ℕ → ℕ → Bool) (k : ℕ) (l : Lists.List ℕ) → without k (inserted b k l) ≡ without k l
+unfolding inserted without
+without-own b k [] = without-it k k [] refl
+without-own b k (j ∷ l) = go (without-own b k l) (b k j)
+  where
+    go : without k (inserted b k l) ≡ without k l → (x : Bool) → without k (elim x [ true ↦ k ∷ j ∷ l | false ↦ j ∷ inserted b k l ]) ≡ without k (j ∷ l)
+    go r true = without-it k k (j ∷ l) refl
+    go r false = ap (λ t. cond (eqb j k) t (j ∷ t)) r
 
 -- COUNTS
 
@@ -258,9 +322,3 @@ pub set-each : {A : Type 0} (w : ℕ) (r : Lists.List A) (k : ℕ) (v d : A) (f 
 set-each w r k v d f g h old here other i l = by-cases (ℕ-discrete i k)
     (λ e. rw e (getD-set-same r k v d h ∙ here))
     (λ n. getD-set-other r k i v d n ∙ old i l ∙ other i l n)
-
--- P holds of each element that is read
-pub all-at : {A : Type 0} (P : A → Type 0) (l : Lists.List A) (d : A) → All P l → (p : ℕ) → p < length l → P (getD l p d)
-all-at P [] d a p h = absurd (omega arith)
-all-at P (x ∷ l) d a zero h = a .0
-all-at P (x ∷ l) d a (suc p) h = all-at P l d (a .1) p (omega arith)

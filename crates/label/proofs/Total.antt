@@ -7,10 +7,12 @@ use native.Mathlib.Decide.{ℕ-discrete}
 use native.Mathlib.Omega.{arith}
 use lib.Dec.{ltb, eqb}
 use borrow.Author.Tests.{ltb-true, eqb-true, lt-ltb, le-ltb, ne-eqb, not-true}
-use mathlib.Core.List.{List, [], _∷_}
+use mathlib.Core.List.{List, [], _∷_, _++_}
+use lib.ListN.{length, getD, take, drop}
 use Rattle.label.specs.Tests.{every, newest, inserted, ordered, All}
 use Rattle.label.specs.Labels.{Label, below, agrees, firstDifference, labelBelow, labelBefore}
-use Rattle.label.proofs.Facts.{tf, is-false, or-right, or-cases, implied, both, and-both, every-all, every-at, First, first, inserted-all, ordered-all}
+use Rattle.label.proofs.Facts.{tf, is-false, or-right, or-cases, implied, both, and-both, every-all, every-at, First, first}
+use Rattle.label.proofs.Facts.{all-at, inserted-all, inserted-same, ordered-all, without, without-it, without-other, without-all, without-none, without-own}
 use Rattle.label.proofs.Digits.{Tri, lt, eq, gt, compare, Below, below-small}
 use Rattle.label.proofs.Order.{Agree, agrees-true, agree-agrees, difference-same, difference-apart, Lt, before-less, before-same}
 
@@ -258,3 +260,75 @@ module _ (n : ℕ) (b : ℕ → ℕ → Bool) (o : Total n b) where
   ordered-sorted zero l = tt
   ordered-sorted (suc k) l = inserted-sorted k (ordered k b) (omega arith)
       (ordered-all (λ j. (j < n) × (j ≢ k)) b k (λ j h. (omega arith, λ e. omega arith))) (ordered-sorted k (omega arith))
+
+-- ONE STATION APART: a sorted list is that without k, with k put in again; and the others stand in it as in any order that differs in k alone
+
+inserted-first : (b : ℕ → ℕ → Bool) (i : ℕ) (l : List ℕ) → All (λ j. b i j ≡ true) l → inserted b i l ≡ i ∷ l
+unfolding inserted
+inserted-first b i [] a = refl
+inserted-first b i (j ∷ l) a = rw (a .0, inserted) refl
+
+inserted-past : (b : ℕ → ℕ → Bool) (i j : ℕ) (l : List ℕ) → b i j ≡ false → inserted b i (j ∷ l) ≡ j ∷ inserted b i l
+unfolding inserted
+inserted-past b i j l e = rw (e, inserted) refl
+
+pub without-sorted : (b : ℕ → ℕ → Bool) (k : ℕ) (l : List ℕ) → Sorted b l → Sorted b (without k l)
+unfolding without
+without-sorted b k [] s = tt
+without-sorted b k (j ∷ l) s = by-cases (ℕ-discrete j k)
+    (λ e. rw (without-it k j l e) (without-sorted b k l (s .1)))
+    (λ d. rw (without-other k j l d) (without-all _ _ k (λ i h n. h) l (s .0), without-sorted b k l (s .1)))
+
+module _ {n : ℕ} {b : ℕ → ℕ → Bool} (o : Total n b) (k : ℕ) where
+  without-inserted : (i : ℕ) (l : List ℕ) → i < n → i ≢ k → All (λ j. j < n) l → Sorted b l → without k (inserted b i l) ≡ inserted b i (without k l)
+  unfolding inserted without
+  without-inserted i [] li d a s = without-other k i [] d
+  without-inserted i (j ∷ l) li d a s = go (without-inserted i l li d (a .1) (s .1)) (b i j) refl
+    where
+      go : without k (inserted b i l) ≡ inserted b i (without k l) → (x : Bool) → b i j ≡ x
+          → without k (elim x [ true ↦ i ∷ j ∷ l | false ↦ j ∷ inserted b i l ]) ≡ inserted b i (without k (j ∷ l))
+      go r true e =
+          let after = all-map₂ (λ m. m < n) (λ m. b j m ≡ true) (λ m. b i m ≡ true) (λ m h u. o .trans i j m li (a .0) h e u) l (a .1) (s .0) in
+          without-other k i (j ∷ l) d ∙ sym (inserted-first b i (without k (j ∷ l)) (without-all _ _ k (λ m h n. h) (j ∷ l) (e, after)))
+      go r false e = by-cases (ℕ-discrete j k)
+          (λ f. without-it k j (inserted b i l) f ∙ r ∙ ap (inserted b i) (sym (without-it k j l f)))
+          (λ f. without-other k j (inserted b i l) f ∙ ap (λ t. j ∷ t) r ∙ sym (inserted-past b i j (without k l) e) ∙ ap (inserted b i) (sym (without-other k j l f)))
+
+  module _ (lk : k < n) where
+    -- those that k stands before are others
+    apart : (j : ℕ) → b k j ≡ true → j ≢ k
+    apart j u e = tf u (rw e (o .irrefl k lk))
+
+    without-first : (l : List ℕ) → All (λ j. b k j ≡ true) l → without k (k ∷ l) ≡ l
+    without-first l a = without-it k k l refl ∙ without-none k l (all-map₂ _ _ _ (λ j u v. apart j v) l a a)
+
+    -- a sorted list has k at one place alone
+    pub without-at : (l : List ℕ) → Sorted b l → (q d : ℕ) → q < length l → getD l q d ≡ k → without k l ≡ take q l ++ drop (suc q) l
+    without-at [] s q d h e = absurd (omega arith)
+    without-at (j ∷ l) s zero d h e = rw e (without-first l (rw e at (s .0)))
+    without-at (j ∷ l) s (suc q) d h e =
+        let u : b j k ≡ true = rw (← e) (all-at (λ i. b j i ≡ true) l d (s .0) q (omega arith)) in
+        without-other k j l (λ f. apart k (rw f at u) refl) ∙ ap (λ r. j ∷ r) (without-at l (s .1) q d (omega arith) e)
+
+    pub put-back : (l : List ℕ) → All (λ j. j < n) l → Sorted b l → (All (λ j. j ≢ k) l → ⊥) → inserted b k (without k l) ≡ l
+    put-back [] a s h = absurd (h tt)
+    put-back (j ∷ l) a s h = by-cases (ℕ-discrete j k)
+        (λ e. let later = rw e at (s .0) in rw e (ap (inserted b k) (without-first l later) ∙ inserted-first b k l later))
+        (λ d. let none : b k j ≡ true → All (λ i. i ≢ k) l = λ u. all-map₂ _ _ _ (λ i v w. apart i (o .trans k j i lk (a .0) v u w)) l (a .1) (s .0) in
+        ap (inserted b k) (without-other k j l d) ∙ inserted-past b k j (without k l) (is-false (λ u. h (d, none u)))
+        ∙ ap (λ t. j ∷ t) (put-back l (a .1) (s .1) (λ v. h (d, v))))
+
+pub without-alike : (n : ℕ) (b b′ : ℕ → ℕ → Bool) → Total n b → Total n b′ → (k : ℕ) → ((i j : ℕ) → i < n → j < n → i ≢ k → j ≢ k → b i j ≡ b′ i j)
+    → (m : ℕ) → m ≤ n → without k (ordered m b) ≡ without k (ordered m b′)
+unfolding ordered
+without-alike n b b′ o o′ k s zero h = refl
+without-alike n b b′ o o′ k s (suc m) h =
+    let r = without-alike n b b′ o o′ k s m (omega arith) in
+    by-cases (ℕ-discrete m k)
+    (λ e. rw e (without-own b k (ordered k b)) ∙ r ∙ sym (rw e (without-own b′ k (ordered k b′))))
+    (λ d. without-inserted o k m (ordered m b) (omega arith) d (inside b) (ordered-sorted n b o m (omega arith)) ∙ ap (inserted b m) r
+    ∙ inserted-same b b′ m (without k (ordered m b′)) (without-all _ _ k (λ j u v. s m j (omega arith) u d v) (ordered m b′) (inside b′))
+    ∙ sym (without-inserted o′ k m (ordered m b′) (omega arith) d (inside b′) (ordered-sorted n b′ o′ m (omega arith))))
+  where
+    inside : (c : ℕ → ℕ → Bool) → All (λ j. j < n) (ordered m c)
+    inside c = ordered-all (λ j. j < n) c m (λ j u. omega arith)

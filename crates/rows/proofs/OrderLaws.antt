@@ -2,18 +2,21 @@
 use Prim.Native.Nat.{ℕ, zero, suc, _+_, _-_, _≤_, _<_}
 use native.Mathlib.Omega.{arith}
 use native.Mathlib.Numerals.{add-one}
-use native.Mathlib.Decide.{ℕ-discrete}
-use mathlib.Core.Path.{_≡_, refl, sym, ap, _∙_}
-use mathlib.Core.Logic.{by-cases}
+use native.Mathlib.Decide.{ℕ-discrete, decLt}
+use mathlib.Core.Path.{_≡_, refl, sym, ap, ap₂, _∙_}
+use mathlib.Core.Logic.{_≢_, by-cases}
 use mathlib.Core.Bool.{Bool, true, false}
 use mathlib.Core.List.{List, [], _∷_, _++_, append-assoc}
 use lib.ListN.{length, length-append, length-replicate, getD, set, take, drop, replicate, drop-of-length-le, List·getD-append}
-use lib.Seq.{take-all, take-suc, drop-cons, split-at, set-at, take-at, drop-append-add, length-take-le, getD-take}
-use Rattle.label.specs.Tests.{inserted, ordered}
-use Rattle.label.proofs.Facts.{all-at, ordered-all, ordered-length}
+use lib.Seq.{take-all, take-suc, drop-cons, split-at, set-at, take-at, drop-at, take-append-le, drop-append-le, drop-append-add, length-take-le, getD-take}
+use lib.Dec.{eqb}
+use borrow.Author.Tests.{eqb-true, eqb-false}
+use Rattle.label.specs.Tests.{firstFrom, inserted, ordered, All}
+use Rattle.label.specs.Labels.{labelBefore}
+use Rattle.label.proofs.Facts.{First, first, all-at, each-all, ordered-all, ordered-each, inserted-length, ordered-length, without, without-all}
 use Rattle.label.proofs.RowLaws.{ringless}
-use Rattle.label.proofs.Total.{Total, total, one-way, other-way, Sorted, ordered-sorted}
-use Rattle.rows.specs.Held.{held, standsIn, Orderly}
+use Rattle.label.proofs.Total.{Total, total, one-way, other-way, Sorted, ordered-sorted, without-sorted, without-at, without-alike, put-back}
+use Rattle.rows.specs.Held.{held, standsIn, Orderly, OrderedBefore}
 
 -- LISTS
 
@@ -75,46 +78,69 @@ module _ {A : Type 0} where
     pub shift-ends : (q : ℕ) (x : A) (r : List A) → r ≡ shiftedTo l k q (getD l q d) → q ≤ k → set r q x ≡ shiftedTo l k q x
     shift-ends q x r e v = rw e (put-stored (take k l) (drop (k + 1) l) q (getD l q d) x (omega (arith, front)))
 
+-- l without the one at place q
+abbrev pub leftOut : {A : Type 0} → ℕ → List A → List A
+leftOut q l = take q l ++ drop (q + 1) l
+
+module _ {A : Type 0} where
+  leftOut-next : (l : List A) (q : ℕ) (x : A) → leftOut (suc q) (x ∷ l) ≡ x ∷ leftOut q l
+  leftOut-next l q x = let e : suc q + 1 ≡ suc (q + 1) = omega arith in rw e refl
+
+  -- the one behind place p is copied there, and is left out in its place
+  moves : (l : List A) (p : ℕ) (d : A) → suc p < length l → leftOut (suc p) (set l p (getD l (suc p) d)) ≡ leftOut p l
+  moves [] p d h = absurd (omega arith)
+  moves (x ∷ l) zero d h = sym (drop-cons l 0 d (omega arith))
+  moves (x ∷ l) (suc p) d h =
+      leftOut-next (set l p (getD l (suc p) d)) (suc p) x ∙ ap (λ r. x ∷ r) (moves l p d (omega arith)) ∙ sym (leftOut-next l p x)
+
+  pub leftOut-moves : (l : List A) (p : ℕ) (d : A) → p + 1 < length l → leftOut (p + 1) (set l p (getD l (p + 1) d)) ≡ leftOut p l
+  leftOut-moves l p d h = rw (← add-one p) at (moves l p d (omega arith))
+
+  leftOut-front : (l rest : List A) (q : ℕ) → q < length l → leftOut q (l ++ rest) ≡ leftOut q l ++ rest
+  leftOut-front l rest q h = rw (take-append-le q l rest (omega arith), drop-append-le (q + 1) l rest (omega arith), append-assoc) refl
+
+-- the stations s in the first m places of an array
+module _ (m : ℕ) (l s : List ℕ) (e : take m l ≡ s) (long : length s ≡ m) where
+  front-all : (P : ℕ → Type 0) → All P s → (p : ℕ) → p < m → P (getD l p 0)
+  front-all P a p h = rw (← getD-take m l p 0 h, e) (all-at P s 0 a p (omega arith))
+
+  front-sorted : (b : ℕ → ℕ → Bool) → Sorted b s → (p q : ℕ) → p < q → q < m → b (getD l p 0) (getD l q 0) ≡ true
+  front-sorted b a p q h u = rw (← getD-take m l p 0 (omega arith), ← getD-take m l q 0 u, e) (sorted-at b s a p q h (omega arith))
+
 -- each of the first k stations in order, at the front of an array, is one of them
 pub listed-below : (b : ℕ → ℕ → Bool) (k : ℕ) (l : List ℕ) → take k l ≡ ordered k b → (p : ℕ) → p < k → getD l p 0 < k
-listed-below b k l e p h = rw (← getD-take k l p 0 h, e) (all-at (λ i. i < k) (ordered k b) 0 (ordered-all (λ i. i < k) b k (λ i u. u)) p (rw ordered-length h))
+listed-below b k l e = front-all k l (ordered k b) e (ordered-length b k) (λ i. i < k) (ordered-all (λ i. i < k) b k (λ i u. u))
 
 -- A TOTAL ORDER
 
 pub orderly-total : (n : ℕ) (rows : List (List ℕ)) → Orderly n rows → Total n (standsIn n rows)
 orderly-total n rows o = total (ringless (n - 1) (held rows) (o .free) (λ i p li lp. o .valid i (omega (arith, o .low)) p lp)) n (omega (arith, o .low))
 
-module _ {n : ℕ} {b : ℕ → ℕ → Bool} (o : Total n b) where
-  -- the first k stations in order, at the front of an array, and the place of station k among them
-  module _ (k : ℕ) (lk : k < n) (l : List ℕ) (e : take k l ≡ ordered k b) where
-    listed : (p : ℕ) → p < k → getD l p 0 < k
-    listed = listed-below b k l e
+-- one of the n stations, other than k
+abbrev pub Other : ℕ → ℕ → ℕ → Type 0
+Other n k i = (i < n) × (i ≢ k)
 
-    listed-sorted : (p q : ℕ) → p < q → q < k → b (getD l p 0) (getD l q 0) ≡ true
-    listed-sorted p q h u = rw (← getD-take k l p 0 (omega arith), ← getD-take k l q 0 u, e)
-        (sorted-at b (ordered k b) (ordered-sorted n b o k (omega arith)) p q h (rw ordered-length u))
+-- the place of station k among the others in the first m places of an array
+module _ {n : ℕ} {b : ℕ → ℕ → Bool} (o : Total n b) (k : ℕ) (lk : k < n) (m : ℕ) (l : List ℕ)
+    (others : (p : ℕ) → p < m → Other n k (getD l p 0)) where
+  pub put-in : m ≤ length l → (q : ℕ) → q ≤ m → ((p : ℕ) → p < q → b (getD l p 0) k ≡ true) → ((p : ℕ) → q ≤ p → p < m → b k (getD l p 0) ≡ true)
+      → inserted b k (take m l) ≡ putIn q k (take m l)
+  put-in long q h early late = inserted-at b k (take m l) q (omega (arith, length-take-le m l long))
+      (λ p u. rw (getD-take m l p 0 (omega arith)) (one-way o (getD l p 0) k (others p (omega arith) .0) lk (early p u)))
+      (λ u. let v : q < m = omega (arith, length-take-le m l long) in rw (getD-take m l q 0 v) (late q (omega arith) v))
 
-    -- where the one at a place stands before station k, so do all earlier; where it does not, station k stands before it and all later
-    pub before-front : (p : ℕ) {x : Bool} → p < k → x ≡ b (getD l p 0) k → x ≡ true → (q : ℕ) → q < p + 1 → b (getD l q 0) k ≡ true
+  -- they stand there oldest first: where one stands before station k, so do all earlier; where it does not, station k stands before it and all later
+  module _ (sorted : (p q : ℕ) → p < q → q < m → b (getD l p 0) (getD l q 0) ≡ true) where
+    pub before-front : (p : ℕ) {x : Bool} → p < m → x ≡ b (getD l p 0) k → x ≡ true → (q : ℕ) → q < p + 1 → b (getD l q 0) k ≡ true
     before-front p h w x q v = let u = sym w ∙ x in by-cases (ℕ-discrete q p) (λ f. rw f u)
-        (λ f. o .trans (getD l q 0) (getD l p 0) k (omega (arith, listed q (omega arith))) (omega (arith, listed p h)) lk (listed-sorted q p (omega arith) h) u)
+        (λ f. o .trans (getD l q 0) (getD l p 0) k (others q (omega arith) .0) (others p h .0) lk (sorted q p (omega arith) h) u)
 
-    pub before-back : (p : ℕ) {x : Bool} → p < k → x ≡ b (getD l p 0) k → x ≡ false → (q : ℕ) → p ≤ q → q < k → b k (getD l q 0) ≡ true
-    before-back p h u x q v w = by-cases (ℕ-discrete p q) (λ f. rw (← f) at-place)
-        (λ f. o .trans k (getD l p 0) (getD l q 0) lk (omega (arith, listed p h)) (omega (arith, listed q w)) at-place (listed-sorted p q (omega arith) w))
-      where
-        at-place : b k (getD l p 0) ≡ true
-        at-place = other-way o (getD l p 0) k (omega (arith, listed p h)) lk (λ f. omega (arith, listed p h)) (sym u ∙ x)
-
-    pub order-next : (q : ℕ) → q ≤ k → ((p : ℕ) → p < q → b (getD l p 0) k ≡ true) → ((p : ℕ) → q ≤ p → p < k → b k (getD l p 0) ≡ true)
-        → ordered (k + 1) b ≡ putIn q k (take k l)
-    unfolding ordered
-    order-next q h early late = rw (add-one k, ordered, ← e) (inserted-at b k (take k l) q (omega (arith, long))
-        (λ p u. rw (getD-take k l p 0 (omega arith)) (one-way o (getD l p 0) k (omega (arith, listed p (omega arith))) lk (early p u)))
-        (λ u. let v : q < k = omega (arith, long) in rw (getD-take k l q 0 v) (late q (omega arith) v)))
-      where
-        long : length (take k l) ≡ k
-        long = rw e (ordered-length b k)
+    pub before-back : (p : ℕ) {x : Bool} → p < m → x ≡ b (getD l p 0) k → x ≡ false → (q : ℕ) → p ≤ q → q < m → b k (getD l q 0) ≡ true
+    before-back p h u x q v w =
+        let f = others p h in
+        let here = other-way o (getD l p 0) k (f .0) lk (f .1) (sym u ∙ x) in
+        by-cases (ℕ-discrete p q) (λ g. rw (← g) here)
+        (λ g. o .trans k (getD l p 0) (getD l q 0) lk (f .0) (others q w .0) here (sorted p q (omega arith) w))
 
 -- AN ARRAY OF w PLACES
 
@@ -132,9 +158,98 @@ module _ (w : ℕ) (b : ℕ → ℕ → Bool) (k : ℕ) (l : List ℕ) (e : l �
   pub order-long : k ≤ w → length l ≡ w
   order-long h = rw (e, length-append, ordered-length, length-replicate) (omega arith)
 
+  -- what is listed is other than station k, and stands there oldest first
+  pub order-others : (n : ℕ) → k < n → (p : ℕ) → p < k → Other n k (getD l p 0)
+  order-others n h = front-all k l (ordered k b) order-front (ordered-length b k) (Other n k) (ordered-all (Other n k) b k (λ i u. (omega arith, λ f. omega arith)))
+
+  pub order-sorted : {n : ℕ} → Total n b → k < n → (p q : ℕ) → p < q → q < k → b (getD l p 0) (getD l q 0) ≡ true
+  order-sorted {n} o h = front-sorted k l (ordered k b) order-front (ordered-length b k) b (ordered-sorted n b o k (omega arith))
+
   order-rest : k < w → drop (k + 1) l ≡ replicate (w - (k + 1)) 0
   order-rest h = rw (e, replicate-more {A = ℕ} w k 0 h) (ap (λ (i : ℕ). drop (i + 1) (ordered k b ++ 0 ∷ replicate (w - (k + 1)) 0)) (sym (ordered-length b k))
       ∙ drop-append-add (ordered k b) (0 ∷ replicate (w - (k + 1)) 0) 1)
 
-  pub order-turns : (q : ℕ) (r : List ℕ) → r ≡ putIn q k (take k l) ++ drop (k + 1) l → ordered (k + 1) b ≡ putIn q k (take k l) → k < w → r ≡ orderIn w b (k + 1)
-  order-turns q r f g h = f ∙ rw (← g, order-rest h) refl
+  pub order-turns : (q : ℕ) (r : List ℕ) → r ≡ putIn q k (take k l) ++ drop (k + 1) l → inserted b k (take k l) ≡ putIn q k (take k l) → k < w → r ≡ orderIn w b (k + 1)
+  unfolding ordered
+  order-turns q r f g h = f ∙ rw (← g, order-front, order-rest h, add-one k, ordered) refl
+
+-- ONE STATION PUT ELSEWHERE: l lists the stations as they stood before station k got the label that it has in the rows
+
+module _ {n : ℕ} {rows : List (List ℕ)} {k : ℕ} {l : List ℕ} (valid : Orderly n rows) (lk : k < n) (was : OrderedBefore n rows k l) where
+  abbrev before : ℕ → ℕ → Bool
+  before = standsIn n rows
+
+  abbrev before₀ : ℕ → ℕ → Bool
+  before₀ = standsIn n (was .old)
+
+  total-now : Total n before
+  total-now = orderly-total n rows valid
+
+  total-then : Total n before₀
+  total-then = orderly-total n (was .old) (was .orderly)
+
+  alike : (i j : ℕ) → i < n → j < n → i ≢ k → j ≢ k → before₀ i j ≡ before i j
+  alike i j li lj di dj = ap₂ (λ a b. labelBefore (n - 1) a i b j) (was .others i li di) (was .others j lj dj)
+
+  pub listed-long : length l ≡ 32
+  listed-long = order-long 32 before₀ n l (was .listed) (valid .high)
+
+  read : (p : ℕ) → p < n → getD l p 0 ≡ getD (ordered n before₀) p 0
+  read p h = rw (← getD-take n l p 0 h, order-front 32 before₀ n l (was .listed)) refl
+
+  -- its place there
+  module _ (p : ℕ) (e : p ≡ firstFrom n 0 (λ p. eqb (getD l p 0) k)) where
+    place : First n 0 (λ p. eqb (getD l p 0) k) p
+    place = rw e (first n 0 (λ p. eqb (getD l p 0) k))
+
+    pub place-found : p < n
+    place-found = by-cases (decLt p n) (λ h. h)
+        (λ h. absurd (ordered-each (λ j. j ≢ k) before₀ n (each-all (λ j. j ≢ k) (ordered n before₀) 0
+        (λ q u. rw (← read q (omega (arith, ordered-length before₀ n))) (eqb-false _ k (place .earlier q (omega arith) (omega (arith, ordered-length before₀ n)))))) k lk refl))
+
+    -- the others stand in the old order as in the new one, which is theirs with k put in
+    abbrev others : List ℕ
+    others = without k (ordered n before)
+
+    left-out : leftOut p l ≡ others ++ replicate (32 - n) 0
+    left-out =
+        let h : p < length (ordered n before₀) = omega (arith, place-found, ordered-length before₀ n) in
+        let here = sym (read p place-found) ∙ eqb-true _ k (place .found (omega (arith, place-found))) in
+        let out : without k (ordered n before₀) ≡ leftOut p (ordered n before₀)
+        = rw (add-one p) (without-at total-then k lk (ordered n before₀) (ordered-sorted n before₀ total-then n (omega arith)) p 0 h here) in
+        ap (leftOut p) (was .listed) ∙ leftOut-front (ordered n before₀) (replicate (32 - n) 0) p h
+        ∙ ap (λ r. r ++ replicate (32 - n) 0) (sym out ∙ without-alike n before₀ before total-then total-now k alike n (omega arith))
+
+    back : inserted before k others ≡ ordered n before
+    back = put-back total-now k lk (ordered n before) (ordered-all (λ j. j < n) before n (λ j u. u)) (ordered-sorted n before total-now n (omega arith))
+        (λ a. ordered-each (λ j. j ≢ k) before n a k lk refl)
+
+    -- the array r has k taken out, and place n - 1 is free
+    module _ (r : List ℕ) (long : length r ≡ length l) (out : leftOut (n - 1) r ≡ leftOut p l) where
+      others-long : length others ≡ n - 1
+      others-long = omega (arith, inserted-length before k others, ap length back, ordered-length before n)
+
+      r-long : length (take (n - 1) r) ≡ n - 1
+      r-long = length-take-le (n - 1) r (omega (arith, listed-long, valid .high))
+
+      others-front : take (n - 1) r ≡ others
+      others-front = sym (take-at (take (n - 1) r) (drop (n - 1 + 1) r) (n - 1) r-long) ∙ ap (take (n - 1)) (out ∙ left-out)
+          ∙ take-at others (replicate (32 - n) 0) (n - 1) others-long
+
+      rest : drop (n - 1 + 1) r ≡ replicate (32 - n) 0
+      rest = sym (drop-at (take (n - 1) r) (drop (n - 1 + 1) r) (n - 1) r-long) ∙ ap (drop (n - 1)) (out ∙ left-out)
+          ∙ drop-at others (replicate (32 - n) 0) (n - 1) others-long
+
+      pub others-listed : (q : ℕ) → q < n - 1 → Other n k (getD r q 0)
+      others-listed = front-all (n - 1) r others others-front others-long (Other n k)
+          (without-all (λ j. j < n) (Other n k) k (λ j u d. (u, d)) (ordered n before) (ordered-all (λ j. j < n) before n (λ j u. u)))
+
+      pub others-sorted : (q q′ : ℕ) → q < q′ → q′ < n - 1 → before (getD r q 0) (getD r q′ 0) ≡ true
+      others-sorted = front-sorted (n - 1) r others others-front others-long before
+          (without-sorted before k (ordered n before) (ordered-sorted n before total-now n (omega arith)))
+
+      -- and it is put in at place q, where it stands now
+      pub put-again : (q : ℕ) (r′ : List ℕ) → q ≤ n - 1 → ((p : ℕ) → p < q → before (getD r p 0) k ≡ true)
+          → ((p : ℕ) → q ≤ p → p < n - 1 → before k (getD r p 0) ≡ true)
+          → r′ ≡ putIn q k (take (n - 1) r) ++ drop (n - 1 + 1) r → r′ ≡ orderIn 32 before n
+      put-again q r′ h early late e = e ∙ rw (← put-in total-now k lk (n - 1) r others-listed (omega (arith, listed-long, valid .high)) q h early late, rest, others-front, back) refl

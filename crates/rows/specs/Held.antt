@@ -1,11 +1,12 @@
 -- The labels of n stations, held in an array of rows; contracts of the searches cite this.
 use Prim.Native.Nat.{ℕ, _-_, _≤_, _<_}
 use mathlib.Core.Path.{_≡_}
+use mathlib.Core.Logic.{_≢_}
 use mathlib.Core.Bool.{Bool, true, not, _&&_, cond}
-use mathlib.Core.List.{List, []}
-use lib.ListN.{getD}
+use mathlib.Core.List.{List, [], _++_}
+use lib.ListN.{getD, replicate}
 use lib.Dec.{eqb}
-use Rattle.label.specs.Tests.{every, newest}
+use Rattle.label.specs.Tests.{every, newest, ordered}
 use Rattle.label.specs.Labels.{Label, agrees, labelBefore, newLabel}
 use Rattle.label.specs.Rows.{digit, row, Valid, noRing}
 
@@ -22,6 +23,13 @@ pub record Orderly (n : ℕ) (rows : List (List ℕ)) : Type 0 where
   pub high : n ≤ 32
   pub valid : (i : ℕ) → i < n → Valid (n - 1) (held rows i)
   pub free : noRing (n - 1) (held rows) ≡ true
+
+-- `order` lists the n stations, oldest first, and 0s past them, as they stood before station k got the label that it has in the rows
+pub record OrderedBefore (n : ℕ) (rows : List (List ℕ)) (k : ℕ) (order : List ℕ) : Type 0 where
+  pub old : List (List ℕ)
+  pub orderly : Orderly n old
+  pub others : (i : ℕ) → i < n → i ≢ k → held old i ≡ held rows i
+  pub listed : order ≡ ordered n (standsIn n old) ++ replicate (32 - n) 0
 
 -- the pending label that a snap for a label leaves at place k, where `own` stands: the newest station keeps its own
 unfoldable pub pendingIn : ℕ → List (List ℕ) → ℕ → List ℕ → List ℕ

@@ -1,11 +1,13 @@
 // The newest station and the scan order (document 01, "The digits and the labels", "The steps").
 ghost use mathlib.Core.Path.{_≡_};
+ghost use mathlib.Core.Logic.{_≢_};
 ghost use mathlib.Core.Bool.{true};
 ghost use mathlib.Core.List.{_∷_, _++_};
 ghost use Prim.Native.Nat.{ℕ, _+_, _-_, _≤_, _<_};
 ghost use lib.ListN.{length, getD, take, drop, replicate};
-ghost use Rattle.label.specs.Tests.{newest, ordered};
-ghost use Rattle.rows.specs.Held.{standsIn, Orderly};
+ghost use lib.Dec.{eqb};
+ghost use Rattle.label.specs.Tests.{firstFrom, newest, ordered};
+ghost use Rattle.rows.specs.Held.{standsIn, Orderly, OrderedBefore};
 
 // The newest of n stations: the one that all others stand before.
 pub fn newest(rows: &[[u8; 31]; 32], n: usize) -> usize
@@ -23,18 +25,19 @@ pub fn newest(rows: &[[u8; 31]; 32], n: usize) -> usize
     z
 }
 
-// How many of the first k stations, which stand at the front of `order`, oldest first, stand before station k: by binary search.
-fn position(rows: &[[u8; 31]; 32], n: usize, order: &[usize; 32], k: usize) -> usize
+// How many of the stations in the first m places of `order`, which stand there oldest first, stand before station k: by binary search.
+fn position(rows: &[[u8; 31]; 32], n: usize, order: &[usize], m: usize, k: usize) -> usize
     requires { ⌜ Orderly n (now rows) ⌝ }
-    requires { ⌜ k < n ⌝ }
-    requires { ⌜ take k (now order) ≡ ordered k (standsIn n (now rows)) ⌝ }
-    ensures { λ r. ⌜ r ≤ k ⌝ }
+    requires { ⌜ (k < n) × (m ≤ length (now order)) ⌝ }
+    requires { ⌜ ((p : ℕ) → p < m → (getD (now order) p 0 < n) × (getD (now order) p 0 ≢ k)) ⌝ }
+    requires { ⌜ ((p q : ℕ) → p < q → q < m → standsIn n (now rows) (getD (now order) p 0) (getD (now order) q 0) ≡ true) ⌝ }
+    ensures { λ r. ⌜ r ≤ m ⌝ }
     ensures { λ r. ⌜ ((p : ℕ) → p < r → standsIn n (now (rows .entry)) (getD (now (order .entry)) p 0) k ≡ true) ⌝ }
-    ensures { λ r. ⌜ ((p : ℕ) → r ≤ p → p < k → standsIn n (now (rows .entry)) k (getD (now (order .entry)) p 0) ≡ true) ⌝ }
+    ensures { λ r. ⌜ ((p : ℕ) → r ≤ p → p < m → standsIn n (now (rows .entry)) k (getD (now (order .entry)) p 0) ≡ true) ⌝ }
 {
     let row = rows[k];
     let mut low: usize = 0;
-    let mut high = k;
+    let mut high = m;
     while low < high {
         let middle = (low + high) / 2;
         let i = order[middle];
@@ -68,9 +71,50 @@ pub fn order(rows: &[[u8; 31]; 32], n: usize) -> [usize; 32]
     let mut r = [0usize; 32];
     let mut k: usize = 0;
     while k < n {
-        let q = position(rows, n, &r, k);
+        let q = position(rows, n, &r, k, k);
         insert_at(&mut r, k, q, k);
         k += 1;
     }
     r
+}
+
+// The first of n places of `order` that holds station k; n if none does.
+fn place(order: &[usize], n: usize, k: usize) -> usize
+    requires { ⌜ n ≤ length (now order) ⌝ }
+    ensures { λ r. ⌜ r ≡ firstFrom n 0 (λ p. eqb (getD (now (order .entry)) p 0) k) ⌝ }
+{
+    let mut p: usize = 0;
+    while p < n {
+        if order[p] == k {
+            return p;
+        }
+        p += 1;
+    }
+    p
+}
+
+// The one at place q of `order` is taken out, and those behind it move up as far as place m, which is left free.
+fn remove_at(order: &mut [usize], m: usize, q: usize)
+    requires { ⌜ (q ≤ m) × (m < length (now order)) ⌝ }
+    ensures { λ _. ⌜ take m (now (order .exit)) ++ drop (m + 1) (now (order .exit)) ≡ take q (now (order .entry)) ++ drop (q + 1) (now (order .entry)) ⌝ }
+{
+    let mut p = q;
+    while p < m {
+        order[p] = order[p + 1];
+        p += 1;
+    }
+}
+
+// Brings the order up to date after station k alone got another label: it is taken out, and put in where it stands now.
+pub fn reorder(rows: &[[u8; 31]; 32], n: usize, order: &mut [usize], k: usize)
+    requires { ⌜ Orderly n (now rows) ⌝ }
+    requires { ⌜ k < n ⌝ }
+    requires { ⌜ OrderedBefore n (now rows) k (now order) ⌝ }
+    ensures { λ _. ⌜ now (order .exit) ≡ ordered n (standsIn n (now (rows .entry))) ++ replicate (32 - n) 0 ⌝ }
+{
+    let m = n - 1;
+    let p = place(order, n, k);
+    remove_at(order, m, p);
+    let q = position(rows, n, order, m, k);
+    insert_at(order, m, q, k);
 }

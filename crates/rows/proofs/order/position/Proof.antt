@@ -4,19 +4,18 @@ use mathlib.Core.Bool.{true}
 use native.Mathlib.Omega.{arith}
 use lib.ListN.{getD}
 use Rattle.rows.specs.Held.{standsIn}
-use Rattle.rows.proofs.OrderLaws.{orderly-total}
-use Rattle.rows.proofs.OrderLaws.{listed-below, before-front, before-back}
+use Rattle.rows.proofs.OrderLaws.{orderly-total, before-front, before-back}
 use borrow.Author.Needs.{needs}
 use Rattle.rows.proofs.order.position.Statement.{statement}
 use Rattle.rows.proofs.order.position.Tie as tie
 
 abbrev Inv-loop : tie.InvT-loop
-Inv-loop rows n order k row low₀ high₀ low high =
-    (low ≤ high) × (high ≤ k) × ((p : ℕ) → p < low → standsIn n rows (getD order p 0) k ≡ true)
-    × ((p : ℕ) → high ≤ p → p < k → standsIn n rows k (getD order p 0) ≡ true)
+Inv-loop rows n order m k row low₀ high₀ low high =
+    (low ≤ high) × (high ≤ m) × ((p : ℕ) → p < low → standsIn n rows (getD order p 0) k ≡ true)
+    × ((p : ℕ) → high ≤ p → p < m → standsIn n rows k (getD order p 0) ≡ true)
 
 abbrev μ-loop : tie.MeasureT-loop
-μ-loop rows n order k row low₀ high₀ low high = high - low
+μ-loop rows n order m k row low₀ high₀ low high = high - low
 
 mul-row : tie.Need-mul-row Inv-loop μ-loop
 mul-row c = search needs
@@ -33,11 +32,12 @@ add-middle c = search needs
 mul-i : tie.Need-mul-i Inv-loop μ-loop
 mul-i c = search needs
 
-element-copy-out-i : tie.Need-element-copy-out-i Inv-loop μ-loop
-element-copy-out-i c = search needs
+shared-slice-read-i : tie.Need-shared-slice-read-i Inv-loop μ-loop
+shared-slice-read-i c = search needs
 
-listed : (c : tie.In-loop Inv-loop μ-loop) → getD (c .before .before .before .args .order .now) ((c .before .loop .low + c .before .loop .high) / 2) 0 < c .before .before .before .args .k
-listed c = listed-below _ _ _ (c .before .before .before .pre .1 .1) _ (omega arith)
+listed : (c : tie.In-loop Inv-loop μ-loop)
+    → getD (c .before .before .before .before .args .order .now) ((c .before .loop .low + c .before .loop .high) / 2) 0 < c .before .before .before .before .args .n
+listed c = c .before .before .before .before .pre .1 .1 .0 ((c .before .loop .low + c .before .loop .high) / 2) (omega arith) .0
 
 mul-label-before : tie.Need-mul-label-before Inv-loop μ-loop
 mul-label-before c = let h = listed (c .before) in omega arith
@@ -50,7 +50,7 @@ sub-label-before c = search needs
 
 label-before-requires : tie.Need-label-before-requires Inv-loop μ-loop
 label-before-requires c κs =
-    let valid = c .before .before .before .before .before .pre .0 .valid in
+    let valid = c .before .before .before .before .before .before .pre .0 .valid in
     let h = listed (c .before .before) in
     (search needs, (valid _ (omega arith), valid _ (omega arith)))
 
@@ -62,10 +62,10 @@ loop-less c = search needs
 
 loop-again : tie.Need-loop-again Inv-loop μ-loop
 loop-again c =
-    let start = c .before .before .before .before .before .before .before in (
+    let start = c .before .before .before .before .before .before .before .before in (
       omega arith,
       search needs,
-      before-front (orderly-total _ _ (start .pre .0)) (start .args .k) (start .pre .1 .0) _ (start .pre .1 .1) _ (omega arith) (c .before .label-before .ensures) (c .if1 .taken),
+      before-front (orderly-total _ _ (start .pre .0)) _ (start .pre .1 .0 .0) _ (start .args .order .now) (start .pre .1 .1 .0) (start .pre .1 .1 .1) _ (omega arith) (c .before .label-before .ensures) (c .if1 .taken),
       c .before .before .before .before .before .loop .inv .3,
     )
 
@@ -74,11 +74,11 @@ loop-less-2 c = search needs
 
 loop-again-2 : tie.Need-loop-again-2 Inv-loop μ-loop
 loop-again-2 c =
-    let start = c .before .before .before .before .before .before .before in (
+    let start = c .before .before .before .before .before .before .before .before in (
       omega arith,
       omega arith,
       c .before .before .before .before .before .loop .inv .2,
-      before-back (orderly-total _ _ (start .pre .0)) (start .args .k) (start .pre .1 .0) _ (start .pre .1 .1) _ (omega arith) (c .before .label-before .ensures) (c .if1 .left),
+      before-back (orderly-total _ _ (start .pre .0)) _ (start .pre .1 .0 .0) _ (start .args .order .now) (start .pre .1 .1 .0) (start .pre .1 .1 .1) _ (omega arith) (c .before .label-before .ensures) (c .if1 .left),
     )
 
 returns : tie.Need-returns Inv-loop μ-loop
@@ -97,7 +97,7 @@ position-spec =
     loop-holds
     add-middle
     mul-i
-    element-copy-out-i
+    shared-slice-read-i
     mul-label-before
     element-copy-out-label-before
     sub-label-before

@@ -1,0 +1,69 @@
+use Prim.Native.Nat.{ℕ, _-_, _≤_}
+use mathlib.Core.Path.{_≡_, refl, ap, _∙_}
+use native.Mathlib.Omega.{arith}
+use lib.ListN.{length}
+use Rattle.rows.proofs.OrderLaws.{leftOut, leftOut-moves}
+use borrow.Author.Needs.{needs}
+use Rattle.rows.proofs.order.remove_at.Statement.{statement}
+use Rattle.rows.proofs.order.remove_at.Tie as tie
+
+abbrev Inv-loop : tie.InvT-loop
+Inv-loop order₀ m q p₀ order p = (p ≤ m) × (length order ≡ length order₀) × (leftOut p order ≡ leftOut q order₀)
+
+abbrev μ-loop : tie.MeasureT-loop
+μ-loop order₀ m q p₀ order p = m - p
+
+loop-holds : tie.Need-loop-holds Inv-loop μ-loop
+loop-holds c = (search needs, refl, refl)
+
+add-order : tie.Need-add-order Inv-loop μ-loop
+add-order c = search needs
+
+mul-order : tie.Need-mul-order Inv-loop μ-loop
+mul-order c = search needs
+
+slice-read-order : tie.Need-slice-read-order Inv-loop μ-loop
+slice-read-order c = search needs
+
+mul-order-2 : tie.Need-mul-order-2 Inv-loop μ-loop
+mul-order-2 c = search needs
+
+slice-write-order : tie.Need-slice-write-order Inv-loop μ-loop
+slice-write-order c = search needs
+
+add-p : tie.Need-add-p Inv-loop μ-loop
+add-p c = search needs
+
+loop-less : tie.Need-loop-less Inv-loop μ-loop
+loop-less c = search needs
+
+loop-again : tie.Need-loop-again Inv-loop μ-loop
+loop-again c =
+    let at = c .before .before .loop in
+    (search needs, search needs, leftOut-moves (at .order) (at .p) 0 (omega arith) ∙ at .inv .2)
+
+same-length : tie.Need-same-length Inv-loop μ-loop
+same-length c = search needs
+
+returns : tie.Need-returns Inv-loop μ-loop
+returns c =
+    let e : c .before .before .args .m ≡ c .before .loop .p = omega arith in
+    ap (λ (p : ℕ). leftOut p (c .before .loop .order)) e ∙ c .before .loop .inv .2
+
+pub remove-at-spec : {M : Type 1} → statement M
+remove-at-spec =
+    tie.close
+    (tie.spec
+    Inv-loop
+    μ-loop
+    loop-holds
+    add-order
+    mul-order
+    slice-read-order
+    mul-order-2
+    slice-write-order
+    add-p
+    loop-less
+    loop-again
+    same-length
+    returns)
