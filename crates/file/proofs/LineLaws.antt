@@ -8,7 +8,8 @@ use mathlib.Core.List as Lists
 use mathlib.Core.List.{[]}
 use lib.ListN.{length, getD, take}
 use borrow.Author.Tests.{eq-eqb, ne-eqb}
-use Rattle.rows.specs.Held.{Orderly}
+use Rattle.label.specs.Rows.{digit}
+use Rattle.rows.specs.Held.{Orderly, OrderedBefore}
 use Rattle.simulation.specs.Calls as Calls
 use Rattle.simulation.specs.Calls.{Call, judge, numberOf}
 use Rattle.table.specs.WellFormed.{wellFormed}
@@ -46,9 +47,12 @@ module _ {p : Parts} {order : Lists.List ℕ} (f : Runnable p order) where
     ok : wellFormed (assembled p) ≡ true
     ok = reached-passes (assembled p) (f .reached)
 
+    pub line-place : k < p .count
+    line-place = inside p (f .sized) ok line code station job 928 k e ph q w j
+
     pub line-ready : (room : ℕ) → room ≡ 928 → Ready p k job w order room
     line-ready room x = let a = asked p (f .sized) ok line code station job 928 k e ph q w j in record {
-      inside = inside p (f .sized) ok line code station job 928 k e ph q w j;
+      inside = line-place;
       sized = f .sized;
       passed = ok;
       jobFits = a .0;
@@ -69,6 +73,15 @@ module _ {p : Parts} {order : Lists.List ℕ} (f : Runnable p order) where
 
       pub line-orderly : Orderly (p′ .count) (p′ .labels)
       line-orderly = parts-orderly p′ (g .sized) (reached-passes (assembled p′) line-reached)
+
+      -- all labels but one are those before
+      pub line-before : OrderedBefore (p′ .count) (p′ .labels) k order
+      line-before = rw n (record {
+        old = p .labels;
+        orderly = parts-orderly p (f .sized) ok;
+        others = λ i _ d. ap digit (sym (g .others i d));
+        listed = f .isOrder;
+      })
 
       pub line-kept : isUpdate w ≡ false → order ≡ orderOf (p′ .count) (p′ .labels)
       line-kept x = f .isOrder ∙ rw (n, g .labels (no-update w x)) refl

@@ -2,12 +2,12 @@
 ghost use mathlib.Core.Path.{_≡_};
 ghost use mathlib.Core.Bool.{false};
 ghost use mathlib.Core.List.{[]};
-ghost use Prim.Native.Nat.{_+_, _*_, _≤_};
+ghost use Prim.Native.Nat.{_+_, _*_, _≤_, _<_};
 ghost use lib.ListN.{length, take, drop};
 ghost use Rattle.moves.specs.Moves.{refusalNumber, moveOf, called};
 ghost use Rattle.moves.specs.declared.Refusal.the-variants.{Accepted};
 ghost use Rattle.step.specs.Contracts.{over};
-ghost use Rattle.rows.specs.Held.{Orderly};
+ghost use Rattle.rows.specs.Held.{Orderly, OrderedBefore};
 ghost use Rattle.parts.specs.Parts.{parts, assembled, orderOf};
 ghost use Rattle.schedule.specs.Sessions.{session};
 ghost use Rattle.file.specs.Files.{cut, pieces, printed, headerPrinted, runLines};
@@ -78,17 +78,17 @@ fn is_update(m: Move) -> bool
     }
 }
 
-// The scan order after a move: it is another if the move is an update.
-fn refresh(updated: bool, labels: &[[u8; 31]; 32], n: usize, order: &mut [usize; 32])
+// Brings the scan order up to date after a move of the station at a place: it is another if the move is an update.
+fn refresh(updated: bool, labels: &[[u8; 31]; 32], n: usize, order: &mut [usize; 32], place: usize)
     requires { ⌜ Orderly n (now labels) ⌝ }
+    requires { ⌜ place < n ⌝ }
+    requires { ⌜ OrderedBefore n (now labels) place (now order) ⌝ }
     requires { ⌜ (updated ≡ false → now order ≡ orderOf n (now labels)) ⌝ }
     ensures { λ _. ⌜ now (order .exit) ≡ orderOf n (now (labels .entry)) ⌝ }
 {
-    if !updated {
-        return;
+    if updated {
+        rows::order::reorder(labels, n, order, place);
     }
-    let next = rows::order::order(labels, n);
-    *order = next;
 }
 
 // Serves the step line that follows `lines` others: prints its report or its refusal to the front of `out`, and hands back its bytes.
@@ -132,7 +132,7 @@ fn serve_line(
         phases,
         out,
     );
-    refresh(is_update(m), labels, n, order);
+    refresh(is_update(m), labels, n, order, place);
     let refusal = reply.refusal;
     if refusal.number() == 0 {
         return reply.written;

@@ -1,12 +1,12 @@
 -- A table taken apart: an array of numbers for each field of its records, so that it can be lent without being copied.
-use Prim.Native.Nat.{ℕ, _-_, _*_, _≤_, _<_}
+use Prim.Native.Nat.{ℕ, suc, _-_, _*_, _≤_, _<_}
 use mathlib.Core.Path.{_≡_}
 use mathlib.Core.Logic.{_≢_}
 use mathlib.Core.List as Lists
 use mathlib.Core.List.{[], _++_}
 use mathlib.Core.Bool.{true, cond}
 use lib.ListN.{length, getD, take, replicate}
-use lib.Dec.{eqb}
+use lib.Dec.{eqb, ltb}
 use Rattle.label.specs.Tests.{tabulate, ordered}
 use Rattle.rows.specs.Held.{standsIn}
 use Rattle.simulation.specs.Calls as Calls
@@ -64,6 +64,14 @@ stationAt p i = record {
 
 unfoldable pub assembled : Parts → Table
 assembled p = record { count = p .count; stations = tabulate 32 0 (stationAt p) }
+
+-- the parts of the fresh table: digits 1, no jobs, the result 1 to n, idle
+abbrev pub freshRow : ℕ → Lists.List ℕ
+freshRow n = tabulate 32 0 (λ p. cond (ltb p n) (suc p) 0)
+
+abbrev pub freshParts : ℕ → Parts
+freshParts n = parts n
+  (replicate 32 (replicate 31 1)) (replicate 32 0) (replicate 32 (replicate 31 1)) (replicate 32 0) (replicate 32 (freshRow n)) (replicate 32 (replicate 32 0)) (replicate 32 0)
 
 -- each array has a place for each station
 pub record Sized (p : Parts) : Type 0 where

@@ -8,7 +8,7 @@ ghost use Rattle.label.specs.Tests.{tabulate};
 ghost use Rattle.table.specs.Results.{entry, blank};
 ghost use Rattle.moves.specs.Moves.{moveOf};
 ghost use Rattle.moves.specs.declared.Refusal.the-variants.{Accepted};
-ghost use Rattle.parts.specs.Parts.{parts, phaseOf, Ready, Carries};
+ghost use Rattle.parts.specs.Parts.{parts, phaseOf, freshRow, Ready, Carries};
 use moves::Move;
 use moves::Refusal;
 use step::Reply;
@@ -49,6 +49,19 @@ pub fn phase_of(b: u8) -> Phase
         return Phase::End(Operation::Label);
     }
     Phase::End(Operation::Scan)
+}
+
+// The stations of a fresh scan result: 1 to n, and 0s past them.
+pub fn fresh_row(n: usize) -> [u8; 32]
+    ensures { λ r. ⌜ r ≡ freshRow n ⌝ }
+{
+    let mut r = [0u8; 32];
+    let mut p: usize = 0;
+    while p < 32 && p < n {
+        r[p] = (p + 1) as u8;
+        p += 1;
+    }
+    r
 }
 
 // The stations, from 1, of the first n places of an order; 0s past them.

@@ -1,16 +1,15 @@
-use borrow.Author.Tests.{not-true}
 use borrow.Author.Needs.{needs}
 use Rattle.file.proofs.refresh.Statement.{statement}
 use Rattle.file.proofs.refresh.Tie as tie
 
-returns : tie.Need-returns
-returns c = c .before .pre .1 (not-true _ (c .if1 .taken))
+reorder-requires : tie.Need-reorder-requires
+reorder-requires c κs = search needs
 
-order-requires : tie.Need-order-requires
-order-requires c κs = search needs
+returns : tie.Need-returns
+returns c = search needs
 
 returns-2 : tie.Need-returns-2
-returns-2 c = search needs
+returns-2 c = c .before .pre .1 .1 .1 (c .if1 .left)
 
 pub refresh-spec : {M : Type 1} → statement M
-refresh-spec = tie.close (tie.spec returns order-requires returns-2)
+refresh-spec = tie.close (tie.spec reorder-requires returns returns-2)
