@@ -26,12 +26,12 @@ use Rattle.moves.specs.declared.Refusal.{Refusal}
 use Rattle.moves.specs.declared.Refusal.the-variants.{Accepted, StationCount, UnknownStep, JobOutOfRange}
 use Rattle.parts.specs.Parts.{Parts, assembled}
 use Rattle.schedule.specs.Lines.{lineRead}
-use Rattle.schedule.specs.Sessions.{session, closed, byHeader, headerOf, Served, refused, nextLine, stepLine}
-use Rattle.file.specs.Files.{cut, pieces, printed, runLines}
+use Rattle.schedule.specs.Sessions.{session, closed, byHeader, headerOf, Served, isFinal, refused, nextLine, stepLine}
+use Rattle.file.specs.Files.{cut, pieces, printed, headerPrinted, runLines}
 use Rattle.file.specs.Contracts.{Prints, Runs}
 use Rattle.schedule.proofs.SessionLaws.{serve-next, next-within}
 use Rattle.schedule.specs.declared.Line.{Line}
-use Rattle.file.proofs.FileTheorem.{Numbered, next-numbered}
+use Rattle.file.proofs.FileTheorem.{Numbered, next-numbered, Opened, opened}
 use Rattle.schedule.specs.declared.Line.the-variants.{Step, Refused}
 use Rattle.schedule.specs.declared.Session.{Session}
 use Rattle.file.specs.declared.Progress.{Progress}
@@ -277,23 +277,10 @@ printed-inside n bytes buffer buffer′ p = omega (arith, p .0, ap length (p .1)
 pub runs-inside : {o : Served} {t : Table} {r : Progress} {buffer buffer′ : Lists.List ℕ} → Runs o t r buffer buffer′ → r .written ≤ length buffer′
 runs-inside {o} {t} {r} {buffer} {buffer′} f = printed-inside (r .written) (o .bytes) buffer buffer′ (f .written, f .report)
 
--- a header leaves a table that is reached, accepted or not, and counts one line at most
-by-header : (w : Line) → Reached (byHeader w .table) × (byHeader w .lines ≤ 1)
-by-header (Refused r) = (reached-fresh 2 (omega arith) (omega arith), omega arith)
-by-header (Step n code job) = go (eqb code 0) (within 2 32 n) refl (eqb job 0)
+-- an accepted header prints nothing, and opens a session on the fresh table of its count
+pub header-accepted : (s : Session) (l : Lists.List ℕ) → s ≡ headerOf l → length (headerPrinted s) ≡ 0 → Opened s
+header-accepted s l e h = subst Opened (sym e) (opened l (rw e at (go (eqb (refusalNumber (s .refusal)) 0) refl h)))
   where
-    made : Bool → Bool → Bool → Session
-    made a b d = cond (not a) (closed UnknownStep) (cond (not b) (closed StationCount) (cond (not d) (closed JobOutOfRange) (session 1 Accepted (freshTable n))))
-
-    none : Reached (freshTable 2)
-    none = reached-fresh 2 (omega arith) (omega arith)
-
-    go : (a b : Bool) → within 2 32 n ≡ b → (d : Bool) → Reached (made a b d .table) × (made a b d .lines ≤ 1)
-    go false b q d = (none, omega arith)
-    go true false q d = (none, omega arith)
-    go true true q false = (none, omega arith)
-    go true true q true = let v = within-true 2 32 n q in (reached-fresh n (v .0) (v .1), omega arith)
-
-pub header-reached : (s : Session) (l : Lists.List ℕ) → s ≡ headerOf l → Reached (s .table) × (s .lines ≤ 1000001)
-unfolding headerOf
-header-reached s l e = let h = by-header (lineRead l) in rw e (h .0, omega (arith, h .1))
+    go : (b : Bool) → eqb (refusalNumber (s .refusal)) 0 ≡ b → length (cond b [] (reportLine 1 (refusalNumber (s .refusal)) 0 0 0)) ≡ 0 → isFinal s ≡ false
+    go true q z = ap not q
+    go false q z = absurd (omega (arith, z, length-report-line 1 (refusalNumber (s .refusal)) 0 0 0))

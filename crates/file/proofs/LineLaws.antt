@@ -6,7 +6,7 @@ use mathlib.Core.Logic.{_≢_}
 use mathlib.Core.Bool.{Bool, true, false, true≢false}
 use mathlib.Core.List as Lists
 use mathlib.Core.List.{[]}
-use lib.ListN.{length, getD, take}
+use lib.ListN.{length, getD, replicate}
 use borrow.Author.Tests.{eq-eqb, ne-eqb}
 use Rattle.label.specs.Rows.{digit}
 use Rattle.rows.specs.Held.{Orderly, OrderedBefore}
@@ -14,11 +14,12 @@ use Rattle.simulation.specs.Calls as Calls
 use Rattle.simulation.specs.Calls.{Call, judge, numberOf}
 use Rattle.table.specs.WellFormed.{wellFormed}
 use Rattle.transition.specs.Steps.{stepOf}
-use Rattle.transition.proofs.Reachable.{Reached, reached-passes, stepped-reached}
+use Rattle.transition.proofs.Reachable.{Reached, reached-passes, stepped-reached, reached-fresh}
 use Rattle.moves.specs.Moves.{refusalNumber, called, reportSize, placeOf}
 use Rattle.step.specs.Contracts.{recordAfter, due, over, Steps}
-use Rattle.parts.specs.Parts.{Parts, phaseOf, assembled, orderOf, Ready, Carries}
+use Rattle.parts.specs.Parts.{Parts, parts, phaseOf, freshRow, freshParts, assembled, orderOf, Ready, Carries}
 use Rattle.parts.proofs.PartLaws.{counted, parts-orderly, inside, asked, served}
+use Rattle.parts.proofs.Fresh.{fresh-parts, fresh-sized}
 use Rattle.file.specs.Files.{printed}
 use Rattle.file.specs.Contracts.{isUpdate, Runnable, Prints}
 use Rattle.table.specs.declared.Phase.{Phase}
@@ -102,3 +103,15 @@ module _ {p : Parts} {order : Lists.List ℕ} (f : Runnable p order) where
           let short : printed line (refusalNumber (r .refusal)) [] ≡ printed line (stepOf (assembled p) c .refusal) (stepOf (assembled p) c .bytes) =
           ap (λ (z : ℕ). printed line z []) (steps .refusal) ∙ rw (ne-eqb _ 0 y) refl in
           record { table = steps .table; written = a ∙ ap length short; report = b ∙ (λ i. over (short i) (same i)) }
+
+-- the parts of the fresh table are such parts
+module _ (n : ℕ) (low : 2 ≤ n) (high : n ≤ 32) where
+  fresh-reached : Reached (assembled (freshParts n))
+  fresh-reached = subst Reached (sym (fresh-parts n)) (reached-fresh n low high)
+
+  pub fresh-orderly : Orderly n (freshParts n .labels)
+  fresh-orderly = parts-orderly (freshParts n) (fresh-sized n) (reached-passes (assembled (freshParts n)) fresh-reached)
+
+  pub fresh-runnable : {row order : Lists.List ℕ} → row ≡ freshRow n → order ≡ orderOf n (freshParts n .labels)
+      → Runnable (parts n (freshParts n .labels) (freshParts n .jobs) (freshParts n .pendingLabels) (freshParts n .pendingJobs) (replicate 32 row) (freshParts n .resultJobs) (freshParts n .phases)) order
+  fresh-runnable e o = rw e (record { sized = fresh-sized n; reached = fresh-reached; isOrder = o })

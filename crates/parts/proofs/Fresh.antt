@@ -40,7 +40,7 @@ fresh-parts n = ap (λ (s : Lists.List Station). record { count = n; stations = 
       «pending_label» = repeated 32 (replicate 31 1) [] q l i;
       «pending_job» = repeated 32 0 0 q l i;
       «scan_result» = (ap (λ (r : Lists.List ℕ). entries r (getD (replicate 32 (replicate 32 0)) q [])) (repeated 32 (freshRow n) [] q l)
-        ∙ ap (entries (freshRow n)) (repeated 32 (replicate 32 0) [] q l) ∙ fresh-entries n) i;
+          ∙ ap (entries (freshRow n)) (repeated 32 (replicate 32 0) [] q l) ∙ fresh-entries n) i;
       phase = phaseOf (repeated 32 0 0 q l i);
     }
 

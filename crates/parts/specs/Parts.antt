@@ -71,7 +71,7 @@ freshRow n = tabulate 32 0 (λ p. cond (ltb p n) (suc p) 0)
 
 abbrev pub freshParts : ℕ → Parts
 freshParts n = parts n
-  (replicate 32 (replicate 31 1)) (replicate 32 0) (replicate 32 (replicate 31 1)) (replicate 32 0) (replicate 32 (freshRow n)) (replicate 32 (replicate 32 0)) (replicate 32 0)
+    (replicate 32 (replicate 31 1)) (replicate 32 0) (replicate 32 (replicate 31 1)) (replicate 32 0) (replicate 32 (freshRow n)) (replicate 32 (replicate 32 0)) (replicate 32 0)
 
 -- each array has a place for each station
 pub record Sized (p : Parts) : Type 0 where

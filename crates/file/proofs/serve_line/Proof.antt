@@ -37,7 +37,7 @@ refresh-requires : tie.Need-refresh-requires
 refresh-requires c κs =
     let s = c .before .before .before .before .before .before .before .before .before .before .before .before .before .before .before .before .before .before .before .before in
     let k = c .before .before .before .before .before .before .before .before .before .before .before .before .before .before .before .before .before .before .place-of in
-    (line-orderly (s .pre .0) (s .args .lines + 1) (s .args .code) (s .args .station) (s .args .job) (k .result) (k .ensures) _ (c .before .before .before .before .before .before .before .before .before .before .before .before .before .before .before .before .phase-of .ensures) _ (c .before .before .before .before .before .before .before .before .before .before .before .before .before .before .before .judge .ensures) refl (c .before .before .before .before .before .carry-out .ensures), (line-place (s .pre .0) (s .args .lines + 1) (s .args .code) (s .args .station) (s .args .job) (k .result) (k .ensures) _ (c .before .before .before .before .before .before .before .before .before .before .before .before .before .before .before .before .phase-of .ensures) _ (c .before .before .before .before .before .before .before .before .before .before .before .before .before .before .before .judge .ensures) , (line-before (s .pre .0) (s .args .lines + 1) (s .args .code) (s .args .station) (s .args .job) (k .result) (k .ensures) _ (c .before .before .before .before .before .before .before .before .before .before .before .before .before .before .before .before .phase-of .ensures) _ (c .before .before .before .before .before .before .before .before .before .before .before .before .before .before .before .judge .ensures) refl (c .before .before .before .before .before .carry-out .ensures), λ x. line-kept (s .pre .0) (s .args .lines + 1) (s .args .code) (s .args .station) (s .args .job) (k .result) (k .ensures) _ (c .before .before .before .before .before .before .before .before .before .before .before .before .before .before .before .before .phase-of .ensures) _ (c .before .before .before .before .before .before .before .before .before .before .before .before .before .before .before .judge .ensures) refl (c .before .before .before .before .before .carry-out .ensures) (sym (c .before .before .is-update .ensures) ∙ x))))
+    (line-orderly (s .pre .0) (s .args .lines + 1) (s .args .code) (s .args .station) (s .args .job) (k .result) (k .ensures) _ (c .before .before .before .before .before .before .before .before .before .before .before .before .before .before .before .before .phase-of .ensures) _ (c .before .before .before .before .before .before .before .before .before .before .before .before .before .before .before .judge .ensures) refl (c .before .before .before .before .before .carry-out .ensures), (line-place (s .pre .0) (s .args .lines + 1) (s .args .code) (s .args .station) (s .args .job) (k .result) (k .ensures) _ (c .before .before .before .before .before .before .before .before .before .before .before .before .before .before .before .before .phase-of .ensures) _ (c .before .before .before .before .before .before .before .before .before .before .before .before .before .before .before .judge .ensures), (line-before (s .pre .0) (s .args .lines + 1) (s .args .code) (s .args .station) (s .args .job) (k .result) (k .ensures) _ (c .before .before .before .before .before .before .before .before .before .before .before .before .before .before .before .before .phase-of .ensures) _ (c .before .before .before .before .before .before .before .before .before .before .before .before .before .before .before .judge .ensures) refl (c .before .before .before .before .before .carry-out .ensures), λ x. line-kept (s .pre .0) (s .args .lines + 1) (s .args .code) (s .args .station) (s .args .job) (k .result) (k .ensures) _ (c .before .before .before .before .before .before .before .before .before .before .before .before .before .before .before .before .phase-of .ensures) _ (c .before .before .before .before .before .before .before .before .before .before .before .before .before .before .before .judge .ensures) refl (c .before .before .before .before .before .carry-out .ensures) (sym (c .before .before .is-update .ensures) ∙ x))))
 
 number-requires : tie.Need-number-requires
 number-requires c κs = search needs
@@ -48,9 +48,10 @@ same-length c = search needs
 returns : tie.Need-returns
 returns c =
     let s = c .before .before .before .before .before .before .before .before .before .before .before .before .before .before .before .before .before .before .before .before .before .before .before in
-    let k = c .before .before .before .before .before .before .before .before .before .before .before .before .before .before .before .before .before .before .before .before .before .place-of in
-    (line-accepted (s .pre .0) (s .args .lines + 1) (s .args .code) (s .args .station) (s .args .job) (k .result) (k .ensures) _ (c .before .before .before .before .before .before .before .before .before .before .before .before .before .before .before .before .before .before .before .phase-of .ensures) _ (c .before .before .before .before .before .before .before .before .before .before .before .before .before .before .before .before .before .before .judge .ensures) refl (c .before .before .before .before .before .before .before .before .carry-out .ensures) (sym (c .before .number .ensures) ∙ c .if1 .taken),
-    line-reordered (s .pre .0) (s .args .lines + 1) (s .args .code) (s .args .station) (s .args .job) (k .result) (k .ensures) _ (c .before .before .before .before .before .before .before .before .before .before .before .before .before .before .before .before .before .before .before .phase-of .ensures) _ (c .before .before .before .before .before .before .before .before .before .before .before .before .before .before .before .before .before .before .judge .ensures) refl (c .before .before .before .before .before .before .before .before .carry-out .ensures) (c .before .before .refresh .ensures))
+    let k = c .before .before .before .before .before .before .before .before .before .before .before .before .before .before .before .before .before .before .before .before .before .place-of in (
+      line-accepted (s .pre .0) (s .args .lines + 1) (s .args .code) (s .args .station) (s .args .job) (k .result) (k .ensures) _ (c .before .before .before .before .before .before .before .before .before .before .before .before .before .before .before .before .before .before .before .phase-of .ensures) _ (c .before .before .before .before .before .before .before .before .before .before .before .before .before .before .before .before .before .before .judge .ensures) refl (c .before .before .before .before .before .before .before .before .carry-out .ensures) (sym (c .before .number .ensures) ∙ c .if1 .taken),
+      line-reordered (s .pre .0) (s .args .lines + 1) (s .args .code) (s .args .station) (s .args .job) (k .result) (k .ensures) _ (c .before .before .before .before .before .before .before .before .before .before .before .before .before .before .before .before .before .before .before .phase-of .ensures) _ (c .before .before .before .before .before .before .before .before .before .before .before .before .before .before .before .before .before .before .judge .ensures) refl (c .before .before .before .before .before .before .before .before .carry-out .ensures) (c .before .before .refresh .ensures),
+    )
 
 print-refusal-requires : tie.Need-print-refusal-requires
 print-refusal-requires c κs = omega (arith, c .before .before .before .before .before .before .before .before .before .carry-out .kept .1 .1 .1 .1 .1 .1 .1 .1 .1 .1 .1 .1 .1 .0, c .before .before .before .before .before .before .before .before .before .before .before .before .before .before .before .before .before .before .before .before .before .before .before .before .pre .1)
@@ -61,9 +62,10 @@ same-length-2 c = search needs
 returns-2 : tie.Need-returns-2
 returns-2 c =
     let s = c .before .before .before .before .before .before .before .before .before .before .before .before .before .before .before .before .before .before .before .before .before .before .before .before .before .before .before in
-    let k = c .before .before .before .before .before .before .before .before .before .before .before .before .before .before .before .before .before .before .before .before .before .before .before .before .before .place-of in
-    (line-refused (s .pre .0) (s .args .lines + 1) (s .args .code) (s .args .station) (s .args .job) (k .result) (k .ensures) _ (c .before .before .before .before .before .before .before .before .before .before .before .before .before .before .before .before .before .before .before .before .before .before .before .phase-of .ensures) _ (c .before .before .before .before .before .before .before .before .before .before .before .before .before .before .before .before .before .before .before .before .before .before .judge .ensures) refl (c .before .before .before .before .before .before .before .before .before .before .before .before .carry-out .ensures) (λ z. c .before .before .before .before .if1 .left (c .before .before .before .before .before .number .ensures ∙ z)) (c .before .before .print-refusal .ensures .0) (c .before .before .print-refusal .ensures .1),
-    line-reordered (s .pre .0) (s .args .lines + 1) (s .args .code) (s .args .station) (s .args .job) (k .result) (k .ensures) _ (c .before .before .before .before .before .before .before .before .before .before .before .before .before .before .before .before .before .before .before .before .before .before .before .phase-of .ensures) _ (c .before .before .before .before .before .before .before .before .before .before .before .before .before .before .before .before .before .before .before .before .before .before .judge .ensures) refl (c .before .before .before .before .before .before .before .before .before .before .before .before .carry-out .ensures) (c .before .before .before .before .before .before .refresh .ensures))
+    let k = c .before .before .before .before .before .before .before .before .before .before .before .before .before .before .before .before .before .before .before .before .before .before .before .before .before .place-of in (
+      line-refused (s .pre .0) (s .args .lines + 1) (s .args .code) (s .args .station) (s .args .job) (k .result) (k .ensures) _ (c .before .before .before .before .before .before .before .before .before .before .before .before .before .before .before .before .before .before .before .before .before .before .before .phase-of .ensures) _ (c .before .before .before .before .before .before .before .before .before .before .before .before .before .before .before .before .before .before .before .before .before .before .judge .ensures) refl (c .before .before .before .before .before .before .before .before .before .before .before .before .carry-out .ensures) (λ z. c .before .before .before .before .if1 .left (c .before .before .before .before .before .number .ensures ∙ z)) (c .before .before .print-refusal .ensures .0) (c .before .before .print-refusal .ensures .1),
+      line-reordered (s .pre .0) (s .args .lines + 1) (s .args .code) (s .args .station) (s .args .job) (k .result) (k .ensures) _ (c .before .before .before .before .before .before .before .before .before .before .before .before .before .before .before .before .before .before .before .before .before .before .before .phase-of .ensures) _ (c .before .before .before .before .before .before .before .before .before .before .before .before .before .before .before .before .before .before .before .before .before .before .judge .ensures) refl (c .before .before .before .before .before .before .before .before .before .before .before .before .carry-out .ensures) (c .before .before .before .before .before .before .refresh .ensures),
+    )
 
 pub serve-line-spec : {M : Type 1} → statement M
 serve-line-spec =

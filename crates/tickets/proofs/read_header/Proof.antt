@@ -1,7 +1,7 @@
-use mathlib.Core.Path.{sym}
+use mathlib.Core.Path.{sym, _∙_}
 use lib.Seq.{length-take-le}
 use Rattle.file.specs.Files.{headerPrinted}
-use Rattle.file.proofs.ChunkLaws.{prints-inside, header-reached}
+use Rattle.file.proofs.ChunkLaws.{printed-inside, header-accepted}
 use borrow.Author.Needs.{needs}
 use Rattle.tickets.proofs.read_header.Statement.{statement}
 use Rattle.tickets.proofs.read_header.Tie as tie
@@ -28,19 +28,19 @@ report-header-requires : tie.Need-report-header-requires
 report-header-requires c κs = search needs
 
 array-share-prefix-out : tie.Need-array-share-prefix-out
-array-share-prefix-out c = prints-inside _ (headerPrinted (c .before .before .before .«open» .result)) _ _ (c .before .report-header .ensures)
+array-share-prefix-out c = printed-inside _ (headerPrinted (c .before .before .before .before .«open» .result)) _ _ (c .before .before .report-header .ensures)
 
 slice-aggregate-write-all : tie.Need-slice-aggregate-write-all
-slice-aggregate-write-all c = sym (length-take-le _ _ (prints-inside _ (headerPrinted (c .before .before .before .before .«open» .result)) _ _ (c .before .before .report-header .ensures)))
+slice-aggregate-write-all c = sym (length-take-le _ _ (printed-inside _ (headerPrinted (c .before .before .before .before .before .«open» .result)) _ _ (c .before .before .before .report-header .ensures)))
 
 write-all-requires : tie.Need-write-all-requires
 write-all-requires c κs = search needs
 
 returns : tie.Need-returns
-returns c = header-reached _ _ (c .before .before .before .before .before .before .«open» .ensures)
+returns c = search needs
 
 returns-2 : tie.Need-returns-2
-returns-2 c = header-reached _ _ (c .before .before .before .before .before .before .«open» .ensures)
+returns-2 c = λ z. let o = header-accepted _ _ (c .before .before .before .before .before .«open» .ensures) (sym (c .before .before .before .report-header .ensures .0) ∙ c .before .if1 .left) in (o .low, o .high)
 
 pub read-header-spec : {M : Type 1} → statement M
 read-header-spec =

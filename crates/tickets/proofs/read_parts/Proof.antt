@@ -1,0 +1,44 @@
+use borrow.Author.Needs.{needs}
+use mathlib.Core.Path.{_≡_, refl}
+use mathlib.Core.Bool.{Bool, true, false, cond}
+use Prim.Native.Nat.{ℕ, _-_, _≤_, _<_}
+use native.Mathlib.Omega.{arith}
+use Rattle.parts.specs.Parts.{parts}
+use Rattle.file.specs.Contracts.{Runnable}
+use Rattle.tickets.proofs.read_parts.Statement.{statement}
+use Rattle.tickets.proofs.read_parts.Tie as tie
+
+-- what is left of the lines that a file can have, as long as there is more to read
+abbrev left : Bool → ℕ → ℕ
+left more lines = cond more (1000002 - lines) 0
+
+fewer : (a b : ℕ) (m m′ : Bool) → m ≡ true → a ≤ 1000001 → (m′ ≡ true → (a < b) × (b ≤ 1000001)) → left m′ b < left m a
+fewer a b m true e h f = rw e (omega (arith, f refl))
+fewer a b m false e h f = rw e (omega arith)
+
+abbrev Inv-loop : tie.InvT-loop
+Inv-loop n order₀ labels₀ jobs₀ pending-labels₀ pending-jobs₀ result-stations₀ result-jobs₀ phases₀ input₀ out₀ lines₀ more₀ order labels jobs pending-labels pending-jobs result-stations result-jobs phases input out lines more =
+    Runnable (parts n labels jobs pending-labels pending-jobs result-stations result-jobs phases) order × (more ≡ true → lines ≤ 1000001)
+
+abbrev μ-loop : tie.MeasureT-loop
+μ-loop n order₀ labels₀ jobs₀ pending-labels₀ pending-jobs₀ result-stations₀ result-jobs₀ phases₀ input₀ out₀ lines₀ more₀ order labels jobs pending-labels pending-jobs result-stations result-jobs phases input out lines more =
+    left more lines
+
+loop-holds : tie.Need-loop-holds Inv-loop μ-loop
+loop-holds c = (c .pre, λ e. omega arith)
+
+read-part-requires : tie.Need-read-part-requires Inv-loop μ-loop
+read-part-requires c κs = (c .before .before .before .before .before .before .before .before .before .before .before .loop .inv .0, (c .before .before .before .before .before .before .before .before .before .before .before .loop .inv .1 (c .before .before .before .before .before .before .before .before .before .before .loop-test .taken), (search needs, search needs)))
+
+loop-less : tie.Need-loop-less Inv-loop μ-loop
+loop-less c = fewer _ _ _ _ (c .before .before .before .before .before .before .before .before .before .before .before .loop-test .taken) (c .before .before .before .before .before .before .before .before .before .before .before .before .loop .inv .1 (c .before .before .before .before .before .before .before .before .before .before .before .loop-test .taken)) (c .read-part .ensures .1)
+
+loop-again : tie.Need-loop-again Inv-loop μ-loop
+loop-again c = (c .read-part .ensures .0, λ e. c .read-part .ensures .1 e .1)
+
+returns : tie.Need-returns Inv-loop μ-loop
+returns c = search needs
+
+pub read-parts-spec : {M : Type 1} → statement M
+read-parts-spec =
+    tie.close (tie.spec Inv-loop μ-loop loop-holds read-part-requires loop-less loop-again returns)
