@@ -27,7 +27,7 @@ use Rattle.moves.specs.declared.Refusal.the-variants.{Accepted, StationCount, U
 use Rattle.parts.specs.Parts.{Parts, assembled}
 use Rattle.schedule.specs.Lines.{lineRead}
 use Rattle.schedule.specs.Sessions.{session, closed, byHeader, headerOf, Served, isFinal, refused, nextLine, stepLine}
-use Rattle.file.specs.Files.{cut, pieces, printed, headerPrinted, runLines}
+use Rattle.file.specs.Files.{cut, pieces, printed, headerPrinted, runLines, fileReport}
 use Rattle.file.specs.Contracts.{Prints, Runs}
 use Rattle.schedule.proofs.SessionLaws.{serve-next, next-within}
 use Rattle.schedule.specs.declared.Line.{Line}
@@ -284,3 +284,41 @@ header-accepted s l e h = subst Opened (sym e) (opened l (rw e at (go (eqb (refu
     go : (b : Bool) → eqb (refusalNumber (s .refusal)) 0 ≡ b → length (cond b [] (reportLine 1 (refusalNumber (s .refusal)) 0 0 0)) ≡ 0 → isFinal s ≡ false
     go true q z = ap not q
     go false q z = absurd (omega (arith, z, length-report-line 1 (refusalNumber (s .refusal)) 0 0 0))
+
+-- A WHOLE FILE
+
+-- a header that is refused ends it
+pub file-refused : (bs : Lists.List ℕ) (s : Session) (n : ℕ) (buffer buffer′ : Lists.List ℕ) → s ≡ headerOf (take 18 bs) → n ≢ 0 → Printed n (headerPrinted s) buffer buffer′ → Printed n (fileReport bs) buffer buffer′
+unfolding fileReport
+file-refused bs s n buffer buffer′ e d f = rw (← e, final-run s (cut (pieces (drop 18 bs)) (drop 18 bs)) final, append-nil) f
+  where
+    final : refusalNumber (s .refusal) ≢ 0
+    final z = d (f .0 ∙ rw (eq-eqb _ 0 z) refl)
+
+-- what follows the header
+rest-after : (bs : Lists.List ℕ) → drop (length (take 18 bs)) bs ≡ drop 18 bs
+rest-after bs = go (leb 18 (length bs)) refl
+  where
+    go : (b : Bool) → leb 18 (length bs) ≡ b → drop (length (take 18 bs)) bs ≡ drop 18 bs
+    go true e = rw (length-take-le 18 bs (leb-true 18 (length bs) e)) refl
+    go false e = let h = leb-false 18 (length bs) e in
+        ap (λ (k : ℕ). drop k bs) (ap length (take-all 18 bs (omega arith))) ∙ drop-of-length-le bs {i = length bs} (omega arith) ∙ sym (drop-of-length-le bs {i = 18} (omega arith))
+
+pub header-within : (bs l : Lists.List ℕ) → l ≡ take 18 bs → length l ≤ length bs
+header-within bs l e = omega (arith, ap length e, length-take 18 bs)
+
+pub rest-room : (bs : Lists.List ℕ) (k room : ℕ) {rest : Lists.List ℕ} → rest ≡ drop k bs → 928 * pieces bs + 928 ≤ room → 928 * pieces rest ≤ room
+rest-room bs k room e h = omega (arith, ap length e ∙ length-drop k bs)
+
+-- the lines after a header that is accepted
+pub file-served : (bs l rest : Lists.List ℕ) (s : Session) (n m : ℕ) (buffer buffer′ buffer″ : Lists.List ℕ) → l ≡ take 18 bs → rest ≡ drop (length l) bs → s ≡ headerOf l → n ≡ 0
+    → Printed n (headerPrinted s) buffer buffer′ → Printed m (runLines (session 1 Accepted (freshTable (s .table .count))) (cut (pieces rest) rest) .bytes) buffer′ buffer″
+    → Printed m (fileReport bs) buffer buffer″
+unfolding fileReport
+file-served bs l rest s n m buffer buffer′ buffer″ p q e z f g =
+    let o = header-accepted s l e (sym (f .0) ∙ z) in
+    let none : headerPrinted s ≡ [] = rw (o .made) refl in
+    let same : buffer′ ≡ buffer = f .1 ∙ rw none refl in
+    let made : headerOf (take 18 bs) ≡ session 1 Accepted (freshTable (s .table .count)) = sym (e ∙ ap headerOf p) ∙ o .made in
+    let left : rest ≡ drop 18 bs = q ∙ ap (λ (x : Lists.List ℕ). drop (length x) bs) p ∙ rest-after bs in
+    rw (made, ← left) (rw same at g)

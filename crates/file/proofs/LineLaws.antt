@@ -12,6 +12,7 @@ use Rattle.label.specs.Rows.{digit}
 use Rattle.rows.specs.Held.{Orderly, OrderedBefore}
 use Rattle.simulation.specs.Calls as Calls
 use Rattle.simulation.specs.Calls.{Call, judge, numberOf}
+use Rattle.table.specs.Tables.{freshTable}
 use Rattle.table.specs.WellFormed.{wellFormed}
 use Rattle.transition.specs.Steps.{stepOf}
 use Rattle.transition.proofs.Reachable.{Reached, reached-passes, stepped-reached, reached-fresh}
@@ -115,3 +116,7 @@ module _ (n : ℕ) (low : 2 ≤ n) (high : n ≤ 32) where
   pub fresh-runnable : {row order : Lists.List ℕ} → row ≡ freshRow n → order ≡ orderOf n (freshParts n .labels)
       → Runnable (parts n (freshParts n .labels) (freshParts n .jobs) (freshParts n .pendingLabels) (freshParts n .pendingJobs) (replicate 32 row) (freshParts n .resultJobs) (freshParts n .phases)) order
   fresh-runnable e o = rw e (record { sized = fresh-sized n; reached = fresh-reached; isOrder = o })
+
+  pub fresh-assembled : {row : Lists.List ℕ} → row ≡ freshRow n
+      → assembled (parts n (freshParts n .labels) (freshParts n .jobs) (freshParts n .pendingLabels) (freshParts n .pendingJobs) (replicate 32 row) (freshParts n .resultJobs) (freshParts n .phases)) ≡ freshTable n
+  fresh-assembled e = rw e (fresh-parts n)

@@ -8,9 +8,10 @@ ghost use Rattle.moves.specs.Moves.{refusalNumber, moveOf, called};
 ghost use Rattle.moves.specs.declared.Refusal.the-variants.{Accepted};
 ghost use Rattle.step.specs.Contracts.{over};
 ghost use Rattle.rows.specs.Held.{Orderly, OrderedBefore};
+ghost use Rattle.table.specs.Tables.{freshTable};
 ghost use Rattle.parts.specs.Parts.{parts, assembled, orderOf};
 ghost use Rattle.schedule.specs.Sessions.{session};
-ghost use Rattle.file.specs.Files.{cut, pieces, printed, headerPrinted, runLines};
+ghost use Rattle.file.specs.Files.{cut, pieces, printed, headerPrinted, runLines, fileReport};
 ghost use Rattle.file.specs.Contracts.{isUpdate, Runnable, Prints, Runs};
 use moves::Move;
 use moves::Refusal;
@@ -50,6 +51,14 @@ fn line_at(chunk: &[u8], at: usize) -> &[u8]
     } else {
         &chunk[at..]
     }
+}
+
+// What stands from a place on.
+fn from(file: &[u8], at: usize) -> &[u8]
+    requires { ⌜ at ≤ length (now file) ⌝ }
+    ensures { λ r. ⌜ now r ≡ drop at (now (file .entry)) ⌝ }
+{
+    &file[at..]
 }
 
 // Writes what the header prints, and hands back its bytes.
@@ -202,4 +211,52 @@ pub fn report_lines(
         refusal: Refusal::Accepted,
         written,
     }
+}
+
+// Serves the lines of a file after an accepted header, from the fresh table of n stations; hands back the bytes that they print.
+fn report_rest(n: usize, rest: &[u8], out: &mut [u8]) -> usize
+    requires { ⌜ (2 ≤ n) × (n ≤ 32) ⌝ }
+    requires { ⌜ 928 * pieces (now rest) ≤ length (now out) ⌝ }
+    ensures { λ r. ⌜ r ≡ length (runLines (session 1 Accepted (freshTable n)) (cut (pieces (now (rest .entry))) (now (rest .entry))) .bytes) ⌝ }
+    ensures { λ _. ⌜ now (out .exit) ≡ over (runLines (session 1 Accepted (freshTable n)) (cut (pieces (now (rest .entry))) (now (rest .entry))) .bytes) (now (out .entry)) ⌝ }
+{
+    let mut labels = [[1u8; 31]; 32];
+    let mut order = rows::order::order(&labels, n);
+    let mut jobs = [0u32; 32];
+    let mut pending_labels = [[1u8; 31]; 32];
+    let mut pending_jobs = [0u32; 32];
+    let mut result_stations = [parts::fresh_row(n); 32];
+    let mut result_jobs = [[0u32; 32]; 32];
+    let mut phases = [0u8; 32];
+    let r = report_lines(
+        1,
+        n,
+        &mut order,
+        &mut labels,
+        &mut jobs,
+        &mut pending_labels,
+        &mut pending_jobs,
+        &mut result_stations,
+        &mut result_jobs,
+        &mut phases,
+        rest,
+        out,
+    );
+    r.written
+}
+
+// Writes the report of a whole file, and hands back its bytes.
+pub fn report(file: &[u8], out: &mut [u8]) -> usize
+    requires { ⌜ 928 * pieces (now file) + 928 ≤ length (now out) ⌝ }
+    ensures { λ r. ⌜ r ≡ length (fileReport (now (file .entry))) ⌝ }
+    ensures { λ _. ⌜ now (out .exit) ≡ over (fileReport (now (file .entry))) (now (out .entry)) ⌝ }
+{
+    let header = line_at(file, 0);
+    let s = schedule::open(header);
+    let k = report_header(s, out);
+    if k != 0 {
+        return k;
+    }
+    let t = s.table;
+    report_rest(t.count, from(file, header.len()), out)
 }
