@@ -4,7 +4,7 @@ use mathlib.Core.Path.{_≡_}
 use mathlib.Core.Logic.{_≢_}
 use mathlib.Core.List as Lists
 use mathlib.Core.List.{[], _++_}
-use mathlib.Core.Bool.{true, cond}
+use mathlib.Core.Bool.{Bool, true, false, cond}
 use lib.ListN.{length, getD, take, replicate}
 use lib.Dec.{eqb, ltb}
 use Rattle.label.specs.Tests.{tabulate, ordered}
@@ -91,13 +91,23 @@ Phased p = (i : ℕ) → i < 32 → getD (p .phases) i 0 ≤ 5
 abbrev pub orderOf : ℕ → Lists.List (Lists.List ℕ) → Lists.List ℕ
 orderOf n labels = ordered n (standsIn n labels) ++ replicate (32 - n) 0
 
--- what the move w of the station at place k asks for: a well-formed table; the job, the scan order and the room that it uses
+abbrev pub isSnap : Calls.Move → Bool
+isSnap (Calls.Move.refused r) = false
+isSnap Calls.Move.beginsLabel = false
+isSnap Calls.Move.beginsScan = false
+isSnap Calls.Move.snapsLabel = true
+isSnap Calls.Move.snapsScan = true
+isSnap Calls.Move.updates = false
+isSnap Calls.Move.endsLabel = false
+isSnap Calls.Move.endsScan = false
+
+-- what the move w of the station at place k asks for: a well-formed table; the job, the room and, for a snap, the scan order
 pub record Ready (p : Parts) (k job : ℕ) (w : Calls.Move) (order : Lists.List ℕ) (room : ℕ) : Type 0 where
   pub inside : k < p .count
   pub sized : Sized p
   pub passed : wellFormed (assembled p) ≡ true
   pub jobFits : w ≡ Calls.Move.beginsLabel → job ≤ 4294967295
-  pub isOrder : w ≡ Calls.Move.snapsScan → order ≡ orderOf (p .count) (p .labels)
+  pub isOrder : isSnap w ≡ true → order ≡ orderOf (p .count) (p .labels)
   pub hasRoom : w ≡ Calls.Move.endsScan → p .count * 29 ≤ room
 
 -- the move w of the station at place k, carried out on the parts p: the parts, the reply and the report buffer left, all of it; and which labels stay

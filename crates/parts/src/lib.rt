@@ -157,7 +157,8 @@ pub fn carry_out(
         }
         Move::SnapLabel => {
             let own = pending_labels[place];
-            pending_labels[place] = rows::choice::pending(labels, n, place, own);
+            let newest = order[n - 1];
+            pending_labels[place] = rows::choice::pending_by(labels, n, newest, place, own);
             phases[place] = UPDATE;
             accepted(0)
         }

@@ -11,11 +11,11 @@ use lib.ListN.{length, length-append, length-replicate, getD, set, take, drop, r
 use lib.Seq.{take-all, take-suc, drop-cons, split-at, set-at, take-at, drop-at, take-append-le, drop-append-le, drop-append-add, length-take-le, getD-take}
 use lib.Dec.{eqb}
 use borrow.Author.Tests.{eqb-true, eqb-false}
-use Rattle.label.specs.Tests.{firstFrom, inserted, ordered, All}
+use Rattle.label.specs.Tests.{firstFrom, inserted, newest, ordered, All}
 use Rattle.label.specs.Labels.{labelBefore}
 use Rattle.label.proofs.Facts.{First, first, all-at, each-all, ordered-all, ordered-each, inserted-length, ordered-length, without, without-all}
 use Rattle.label.proofs.RowLaws.{ringless}
-use Rattle.label.proofs.Total.{Total, total, one-way, other-way, Sorted, ordered-sorted, without-sorted, without-at, without-alike, put-back}
+use Rattle.label.proofs.Total.{Total, total, newest-only, one-way, other-way, Sorted, ordered-sorted, without-sorted, without-at, without-alike, put-back}
 use Rattle.rows.specs.Held.{held, standsIn, Orderly, OrderedBefore}
 
 -- LISTS
@@ -253,3 +253,18 @@ module _ {n : ℕ} {rows : List (List ℕ)} {k : ℕ} {l : List ℕ} (valid : Or
           → ((p : ℕ) → q ≤ p → p < n - 1 → before k (getD r p 0) ≡ true)
           → r′ ≡ putIn q k (take (n - 1) r) ++ drop (n - 1 + 1) r → r′ ≡ orderIn 32 before n
       put-again q r′ h early late e = e ∙ rw (← put-in total-now k lk (n - 1) r others-listed (omega (arith, listed-long, valid .high)) q h early late, rest, others-front, back) refl
+
+-- THE NEWEST
+
+-- the station listed last is the newest
+pub last-newest : (n : ℕ) (b : ℕ → ℕ → Bool) (l : List ℕ) → Total n b → 1 ≤ n → take n l ≡ ordered n b → getD l (n - 1) 0 ≡ newest n b
+last-newest n b l o h e =
+    let list = ordered n b in
+    let long = ordered-length b n in
+    let z = getD list (n - 1) 0 in
+    let low : (p : ℕ) → p < n → getD list p 0 < n = λ p u. all-at (λ i. i < n) list 0 (ordered-all (λ i. i < n) b n (λ i v. v)) p (omega arith) in
+    let none : (p : ℕ) → p < length list → b z (getD list p 0) ≡ false = λ p u. by-cases (ℕ-discrete p (n - 1))
+    (λ q. rw q (o .irrefl z (low (n - 1) (omega arith))))
+    (λ d. one-way o (getD list p 0) z (low p (omega arith)) (low (n - 1) (omega arith)) (sorted-at b list (ordered-sorted n b o n (omega arith)) p (n - 1) (omega arith) (omega arith))) in
+    sym (getD-take n l (n - 1) 0 (omega arith)) ∙ ap (λ (x : List ℕ). getD x (n - 1) 0) e
+    ∙ newest-only n b o z (low (n - 1) (omega arith)) (ordered-each (λ j. b z j ≡ false) b n (each-all _ list 0 none))

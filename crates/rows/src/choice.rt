@@ -5,10 +5,10 @@ ghost use mathlib.Core.Bool.{not, _&&_, cond};
 ghost use Prim.Native.Nat.{ℕ, suc, _-_, _≤_, _<_};
 ghost use lib.ListN.{getD};
 ghost use lib.Dec.{eqb, leb, ltb};
-ghost use Rattle.label.specs.Tests.{count, firstFrom, tabulate};
+ghost use Rattle.label.specs.Tests.{count, firstFrom, newest, tabulate};
 ghost use Rattle.label.specs.Labels.{firstDifference, newLabel};
 ghost use Rattle.label.specs.Rows.{digit, row};
-ghost use Rattle.rows.specs.Held.{held, Orderly, pendingIn};
+ghost use Rattle.rows.specs.Held.{held, Orderly, pendingIn, standsIn};
 use super::order::newest;
 
 // How many leading digits each of the n stations shares with the label `top`.
@@ -77,15 +77,24 @@ fn new_label(rows: &[[u8; 31]; 32], n: usize, z: usize, k: usize) -> [u8; 31]
     label::next_label(top, p)
 }
 
-// The pending label that a snap for a label leaves at place k: the newest station keeps its own.
+// The pending label that a snap for a label leaves at place k, where station z is the newest: that station keeps its own.
+pub fn pending_by(rows: &[[u8; 31]; 32], n: usize, z: usize, k: usize, own: [u8; 31]) -> [u8; 31]
+    requires { ⌜ Orderly n (now rows) ⌝ }
+    requires { ⌜ z ≡ newest n (standsIn n (now rows)) ⌝ }
+    requires { ⌜ k < n ⌝ }
+    ensures { λ r. ⌜ r ≡ pendingIn n (now (rows .entry)) k own ⌝ }
+{
+    if k == z {
+        return own;
+    }
+    new_label(rows, n, z, k)
+}
+
+// The same, where the newest station is to be found.
 pub fn pending(rows: &[[u8; 31]; 32], n: usize, k: usize, own: [u8; 31]) -> [u8; 31]
     requires { ⌜ Orderly n (now rows) ⌝ }
     requires { ⌜ k < n ⌝ }
     ensures { λ r. ⌜ r ≡ pendingIn n (now (rows .entry)) k own ⌝ }
 {
-    let z = newest(rows, n);
-    if k == z {
-        return own;
-    }
-    new_label(rows, n, z, k)
+    pending_by(rows, n, newest(rows, n), k, own)
 }

@@ -1,13 +1,19 @@
-use mathlib.Core.Path.{refl, ap}
-use Rattle.simulation.specs.Calls as Calls
-use Rattle.rows.proofs.OrderLaws.{listed-below, order-front}
-use Rattle.moves.specs.Moves.{moveOf, recordMoved}
-use Rattle.step.specs.Contracts.{recordAfter}
-use Rattle.parts.proofs.PartLaws.{counted, parts-orderly, carries-refused, carries-begin-label, carries-phase, carries-snap-label, carries-snap-scan, carries-update, carries-end-scan}
 use native.Mathlib.Omega.{arith}
+use mathlib.Core.Path.{refl, ap}
+use mathlib.Core.Bool.{Bool}
+use Rattle.simulation.specs.Calls as Calls
+use Rattle.rows.proofs.OrderLaws.{listed-below, order-front, orderly-total, last-newest}
+use Rattle.moves.specs.Moves.{moveOf, recordMoved}
+use Rattle.moves.specs.declared.Move.{Move}
+use Rattle.step.specs.Contracts.{recordAfter}
+use Rattle.parts.specs.Parts.{isSnap}
+use Rattle.parts.proofs.PartLaws.{counted, parts-orderly, carries-refused, carries-begin-label, carries-phase, carries-snap-label, carries-snap-scan, carries-update, carries-end-scan}
 use borrow.Author.Needs.{needs}
 use Rattle.parts.proofs.carry_out.Statement.{statement}
 use Rattle.parts.proofs.carry_out.Tie as tie
+
+abbrev snap : Move → Bool
+snap m = isSnap (moveOf m)
 
 enum-known-m : tie.Need-enum-known-m
 enum-known-m c = search needs
@@ -19,13 +25,13 @@ cast-pending-jobs : tie.Need-cast-pending-jobs
 cast-pending-jobs c = omega (arith, c .before .before .before .pre .jobFits (ap moveOf (c .enum-told .given .1)))
 
 mul-pending-jobs : tie.Need-mul-pending-jobs
-mul-pending-jobs c = omega (arith, c .before .before .before .pre .inside, counted _ (c .before .before .before .pre .passed) .1)
+mul-pending-jobs c = omega (arith, c .before .before .before .pre .inside, counted _ (c .before .before .before .pre .passed))
 
 element-write-pending-jobs : tie.Need-element-write-pending-jobs
-element-write-pending-jobs c = omega (arith, c .before .before .before .pre .inside, counted _ (c .before .before .before .pre .passed) .1)
+element-write-pending-jobs c = omega (arith, c .before .before .before .pre .inside, counted _ (c .before .before .before .pre .passed))
 
 element-write-phases : tie.Need-element-write-phases
-element-write-phases c = omega (arith, c .before .before .before .pre .inside, counted _ (c .before .before .before .pre .passed) .1)
+element-write-phases c = omega (arith, c .before .before .before .pre .inside, counted _ (c .before .before .before .pre .passed))
 
 accepted-requires : tie.Need-accepted-requires
 accepted-requires c κs = search needs
@@ -34,7 +40,7 @@ enum-told-2 : tie.Need-enum-told-2
 enum-told-2 c = search needs
 
 element-write-phases-2 : tie.Need-element-write-phases-2
-element-write-phases-2 c = omega (arith, c .before .before .before .pre .inside, counted _ (c .before .before .before .pre .passed) .1)
+element-write-phases-2 c = omega (arith, c .before .before .before .pre .inside, counted _ (c .before .before .before .pre .passed))
 
 accepted-requires-2 : tie.Need-accepted-requires-2
 accepted-requires-2 c κs = search needs
@@ -43,22 +49,31 @@ enum-told-3 : tie.Need-enum-told-3
 enum-told-3 c = search needs
 
 mul-own : tie.Need-mul-own
-mul-own c = omega (arith, c .before .before .before .pre .inside, counted _ (c .before .before .before .pre .passed) .1)
+mul-own c = omega (arith, c .before .before .before .pre .inside, counted _ (c .before .before .before .pre .passed))
 
 element-copy-out-own : tie.Need-element-copy-out-own
-element-copy-out-own c = omega (arith, c .before .before .before .pre .inside, counted _ (c .before .before .before .pre .passed) .1)
+element-copy-out-own c = omega (arith, c .before .before .before .pre .inside, counted _ (c .before .before .before .pre .passed))
 
-pending-requires : tie.Need-pending-requires
-pending-requires c κs = let s = c .before .before .before .before .before in (parts-orderly _ (s .pre .sized) (s .pre .passed), s .pre .inside)
+sub-newest : tie.Need-sub-newest
+sub-newest c = omega (arith, c .before .before .before .before .pre .inside, counted _ (c .before .before .before .before .pre .passed))
 
-mul-t27 : tie.Need-mul-t27
-mul-t27 c = omega (arith, c .before .before .before .before .before .before .pre .inside, counted _ (c .before .before .before .before .before .before .pre .passed) .1)
+mul-newest : tie.Need-mul-newest
+mul-newest c = omega (arith, c .before .before .before .before .pre .inside, counted _ (c .before .before .before .before .pre .passed))
+
+element-copy-out-newest : tie.Need-element-copy-out-newest
+element-copy-out-newest c = omega (arith, c .before .before .before .before .pre .inside, counted _ (c .before .before .before .before .pre .passed))
+
+pending-by-requires : tie.Need-pending-by-requires
+pending-by-requires c κs = let s = c .before .before .before .before .before .before in let o = parts-orderly _ (s .pre .sized) (s .pre .passed) in (o, (last-newest _ _ _ (orderly-total _ _ o) (omega (arith, o .low)) (order-front 32 _ _ _ (s .pre .isOrder (ap snap (c .before .before .before .enum-told3 .given .1)))), s .pre .inside))
+
+mul-t35 : tie.Need-mul-t35
+mul-t35 c = omega (arith, c .before .before .before .before .before .before .before .pre .inside, counted _ (c .before .before .before .before .before .before .before .pre .passed))
 
 element-set-from-pending-labels : tie.Need-element-set-from-pending-labels
-element-set-from-pending-labels c = omega (arith, c .before .before .before .before .before .before .pre .inside, counted _ (c .before .before .before .before .before .before .pre .passed) .1)
+element-set-from-pending-labels c = omega (arith, c .before .before .before .before .before .before .before .pre .inside, counted _ (c .before .before .before .before .before .before .before .pre .passed))
 
 element-write-phases-3 : tie.Need-element-write-phases-3
-element-write-phases-3 c = omega (arith, c .before .before .before .before .before .before .pre .inside, counted _ (c .before .before .before .before .before .before .pre .passed) .1)
+element-write-phases-3 c = omega (arith, c .before .before .before .before .before .before .before .pre .inside, counted _ (c .before .before .before .before .before .before .before .pre .passed))
 
 accepted-requires-3 : tie.Need-accepted-requires-3
 accepted-requires-3 c κs = search needs
@@ -67,25 +82,25 @@ enum-told-4 : tie.Need-enum-told-4
 enum-told-4 c = search needs
 
 ordered-stations-requires : tie.Need-ordered-stations-requires
-ordered-stations-requires c κs = let s = c .before .before .before in (counted _ (s .pre .passed) .1, λ q l. omega (arith, counted _ (s .pre .passed) .1, listed-below _ _ _ (order-front 32 _ _ _ (s .pre .isOrder (ap moveOf (c .enum-told4 .given .1)))) q l))
+ordered-stations-requires c κs = let s = c .before .before .before in (counted _ (s .pre .passed) .1, λ q l. omega (arith, counted _ (s .pre .passed) .1, listed-below _ _ _ (order-front 32 _ _ _ (s .pre .isOrder (ap snap (c .enum-told4 .given .1)))) q l))
 
-mul-t37 : tie.Need-mul-t37
-mul-t37 c = omega (arith, c .before .before .before .before .pre .inside, counted _ (c .before .before .before .before .pre .passed) .1)
+mul-t42 : tie.Need-mul-t42
+mul-t42 c = omega (arith, c .before .before .before .before .pre .inside, counted _ (c .before .before .before .before .pre .passed))
 
 element-set-from-result-stations : tie.Need-element-set-from-result-stations
-element-set-from-result-stations c = omega (arith, c .before .before .before .before .pre .inside, counted _ (c .before .before .before .before .pre .passed) .1)
+element-set-from-result-stations c = omega (arith, c .before .before .before .before .pre .inside, counted _ (c .before .before .before .before .pre .passed))
 
 ordered-jobs-requires : tie.Need-ordered-jobs-requires
-ordered-jobs-requires c κs = let s = c .before .before .before .before .before in (counted _ (s .pre .passed) .1, λ q l. omega (arith, counted _ (s .pre .passed) .1, listed-below _ _ _ (order-front 32 _ _ _ (s .pre .isOrder (ap moveOf (c .before .before .enum-told4 .given .1)))) q l))
+ordered-jobs-requires c κs = let s = c .before .before .before .before .before in (counted _ (s .pre .passed) .1, λ q l. omega (arith, counted _ (s .pre .passed) .1, listed-below _ _ _ (order-front 32 _ _ _ (s .pre .isOrder (ap snap (c .before .before .enum-told4 .given .1)))) q l))
 
-mul-t37-2 : tie.Need-mul-t37-2
-mul-t37-2 c = omega (arith, c .before .before .before .before .before .before .pre .inside, counted _ (c .before .before .before .before .before .before .pre .passed) .1)
+mul-t42-2 : tie.Need-mul-t42-2
+mul-t42-2 c = omega (arith, c .before .before .before .before .before .before .pre .inside, counted _ (c .before .before .before .before .before .before .pre .passed))
 
 element-set-from-result-jobs : tie.Need-element-set-from-result-jobs
-element-set-from-result-jobs c = omega (arith, c .before .before .before .before .before .before .pre .inside, counted _ (c .before .before .before .before .before .before .pre .passed) .1)
+element-set-from-result-jobs c = omega (arith, c .before .before .before .before .before .before .pre .inside, counted _ (c .before .before .before .before .before .before .pre .passed))
 
 element-write-phases-4 : tie.Need-element-write-phases-4
-element-write-phases-4 c = omega (arith, c .before .before .before .before .before .before .pre .inside, counted _ (c .before .before .before .before .before .before .pre .passed) .1)
+element-write-phases-4 c = omega (arith, c .before .before .before .before .before .before .pre .inside, counted _ (c .before .before .before .before .before .before .pre .passed))
 
 accepted-requires-4 : tie.Need-accepted-requires-4
 accepted-requires-4 c κs = search needs
@@ -94,31 +109,31 @@ enum-told-5 : tie.Need-enum-told-5
 enum-told-5 c = search needs
 
 mul-labels : tie.Need-mul-labels
-mul-labels c = omega (arith, c .before .before .before .pre .inside, counted _ (c .before .before .before .pre .passed) .1)
+mul-labels c = omega (arith, c .before .before .before .pre .inside, counted _ (c .before .before .before .pre .passed))
 
 element-copy-out-labels : tie.Need-element-copy-out-labels
-element-copy-out-labels c = omega (arith, c .before .before .before .pre .inside, counted _ (c .before .before .before .pre .passed) .1)
+element-copy-out-labels c = omega (arith, c .before .before .before .pre .inside, counted _ (c .before .before .before .pre .passed))
 
-mul-t50 : tie.Need-mul-t50
-mul-t50 c = omega (arith, c .before .before .before .before .pre .inside, counted _ (c .before .before .before .before .pre .passed) .1)
+mul-t55 : tie.Need-mul-t55
+mul-t55 c = omega (arith, c .before .before .before .before .pre .inside, counted _ (c .before .before .before .before .pre .passed))
 
 element-set-from-labels : tie.Need-element-set-from-labels
-element-set-from-labels c = omega (arith, c .before .before .before .before .pre .inside, counted _ (c .before .before .before .before .pre .passed) .1)
+element-set-from-labels c = omega (arith, c .before .before .before .before .pre .inside, counted _ (c .before .before .before .before .pre .passed))
 
 mul-jobs : tie.Need-mul-jobs
-mul-jobs c = omega (arith, c .before .before .before .before .pre .inside, counted _ (c .before .before .before .before .pre .passed) .1)
+mul-jobs c = omega (arith, c .before .before .before .before .pre .inside, counted _ (c .before .before .before .before .pre .passed))
 
 element-copy-out-jobs : tie.Need-element-copy-out-jobs
-element-copy-out-jobs c = omega (arith, c .before .before .before .before .pre .inside, counted _ (c .before .before .before .before .pre .passed) .1)
+element-copy-out-jobs c = omega (arith, c .before .before .before .before .pre .inside, counted _ (c .before .before .before .before .pre .passed))
 
 mul-jobs-2 : tie.Need-mul-jobs-2
-mul-jobs-2 c = omega (arith, c .before .before .before .before .before .pre .inside, counted _ (c .before .before .before .before .before .pre .passed) .1)
+mul-jobs-2 c = omega (arith, c .before .before .before .before .before .pre .inside, counted _ (c .before .before .before .before .before .pre .passed))
 
 element-write-jobs : tie.Need-element-write-jobs
-element-write-jobs c = omega (arith, c .before .before .before .before .before .pre .inside, counted _ (c .before .before .before .before .before .pre .passed) .1)
+element-write-jobs c = omega (arith, c .before .before .before .before .before .pre .inside, counted _ (c .before .before .before .before .before .pre .passed))
 
 element-write-phases-5 : tie.Need-element-write-phases-5
-element-write-phases-5 c = omega (arith, c .before .before .before .before .before .pre .inside, counted _ (c .before .before .before .before .before .pre .passed) .1)
+element-write-phases-5 c = omega (arith, c .before .before .before .before .before .pre .inside, counted _ (c .before .before .before .before .before .pre .passed))
 
 accepted-requires-5 : tie.Need-accepted-requires-5
 accepted-requires-5 c κs = search needs
@@ -127,7 +142,7 @@ enum-told-6 : tie.Need-enum-told-6
 enum-told-6 c = search needs
 
 element-write-phases-6 : tie.Need-element-write-phases-6
-element-write-phases-6 c = omega (arith, c .before .before .before .pre .inside, counted _ (c .before .before .before .pre .passed) .1)
+element-write-phases-6 c = omega (arith, c .before .before .before .pre .inside, counted _ (c .before .before .before .pre .passed))
 
 accepted-requires-6 : tie.Need-accepted-requires-6
 accepted-requires-6 c κs = search needs
@@ -136,16 +151,16 @@ enum-told-7 : tie.Need-enum-told-7
 enum-told-7 c = search needs
 
 mul-entries-of : tie.Need-mul-entries-of
-mul-entries-of c = omega (arith, c .before .before .before .pre .inside, counted _ (c .before .before .before .pre .passed) .1)
+mul-entries-of c = omega (arith, c .before .before .before .pre .inside, counted _ (c .before .before .before .pre .passed))
 
 element-copy-out-entries-of : tie.Need-element-copy-out-entries-of
-element-copy-out-entries-of c = omega (arith, c .before .before .before .pre .inside, counted _ (c .before .before .before .pre .passed) .1)
+element-copy-out-entries-of c = omega (arith, c .before .before .before .pre .inside, counted _ (c .before .before .before .pre .passed))
 
 mul-entries-of-2 : tie.Need-mul-entries-of-2
-mul-entries-of-2 c = omega (arith, c .before .before .before .before .pre .inside, counted _ (c .before .before .before .before .pre .passed) .1)
+mul-entries-of-2 c = omega (arith, c .before .before .before .before .pre .inside, counted _ (c .before .before .before .before .pre .passed))
 
 element-copy-out-entries-of-2 : tie.Need-element-copy-out-entries-of-2
-element-copy-out-entries-of-2 c = omega (arith, c .before .before .before .before .pre .inside, counted _ (c .before .before .before .before .pre .passed) .1)
+element-copy-out-entries-of-2 c = omega (arith, c .before .before .before .before .pre .inside, counted _ (c .before .before .before .before .pre .passed))
 
 entries-of-requires : tie.Need-entries-of-requires
 entries-of-requires c κs = counted _ (c .before .before .before .before .before .pre .passed) .1
@@ -154,10 +169,10 @@ write-result-requires : tie.Need-write-result-requires
 write-result-requires c κs = let s = c .before .before .before .before .before .before .before in (counted _ (s .pre .passed) .1, s .pre .hasRoom (ap moveOf (c .before .before .before .before .enum-told7 .given .1)))
 
 element-write-phases-7 : tie.Need-element-write-phases-7
-element-write-phases-7 c = omega (arith, c .before .before .before .before .before .before .before .before .before .before .pre .inside, counted _ (c .before .before .before .before .before .before .before .before .before .before .pre .passed) .1)
+element-write-phases-7 c = omega (arith, c .before .before .before .before .before .before .before .before .before .before .pre .inside, counted _ (c .before .before .before .before .before .before .before .before .before .before .pre .passed))
 
 mul-accepted : tie.Need-mul-accepted
-mul-accepted c = omega (arith, c .before .before .before .before .before .before .before .before .before .before .pre .inside, counted _ (c .before .before .before .before .before .before .before .before .before .before .pre .passed) .1)
+mul-accepted c = omega (arith, c .before .before .before .before .before .before .before .before .before .before .pre .inside, counted _ (c .before .before .before .before .before .before .before .before .before .before .pre .passed))
 
 accepted-requires-7 : tie.Need-accepted-requires-7
 accepted-requires-7 c κs = search needs
@@ -172,10 +187,10 @@ returns-3 : tie.Need-returns-3
 returns-3 c = let s = c .before .before .before .before in rw (c .before .enum-told2 .given .1) (carries-phase _ (s .pre .sized) (s .pre .passed) (s .args .place) (s .args .job) (s .args .line) (s .pre .inside) _ _ (c .accepted2 .ensures) Calls.Move.beginsScan 2 (omega arith) (unfold recordAfter recordMoved in refl) refl refl)
 
 returns-4 : tie.Need-returns-4
-returns-4 c = let s = c .before .before .before .before .before .before .before in rw (c .before .before .before .before .enum-told3 .given .1) (carries-snap-label _ (s .pre .sized) (s .pre .passed) (s .args .place) (s .args .job) (s .args .line) (s .pre .inside) _ _ (c .accepted3 .ensures) _ (c .before .pending .ensures))
+returns-4 c = let s = c .before .before .before .before .before .before .before .before in rw (c .before .before .before .before .before .enum-told3 .given .1) (carries-snap-label _ (s .pre .sized) (s .pre .passed) (s .args .place) (s .args .job) (s .args .line) (s .pre .inside) _ _ (c .accepted3 .ensures) _ (c .before .pending-by .ensures))
 
 returns-5 : tie.Need-returns-5
-returns-5 c = let s = c .before .before .before .before .before .before .before in rw (c .before .before .before .before .enum-told4 .given .1) (carries-snap-scan _ (s .pre .sized) (s .pre .passed) (s .args .place) (s .args .job) (s .args .line) (s .pre .inside) _ _ (c .accepted4 .ensures) _ _ _ (s .pre .isOrder (ap moveOf (c .before .before .before .before .enum-told4 .given .1))) (c .before .before .before .ordered-stations .ensures) (c .before .ordered-jobs .ensures))
+returns-5 c = let s = c .before .before .before .before .before .before .before in rw (c .before .before .before .before .enum-told4 .given .1) (carries-snap-scan _ (s .pre .sized) (s .pre .passed) (s .args .place) (s .args .job) (s .args .line) (s .pre .inside) _ _ (c .accepted4 .ensures) _ _ _ (s .pre .isOrder (ap snap (c .before .before .before .before .enum-told4 .given .1))) (c .before .before .before .ordered-stations .ensures) (c .before .ordered-jobs .ensures))
 
 returns-6 : tie.Need-returns-6
 returns-6 c = let s = c .before .before .before .before .before .before in rw (c .before .before .before .enum-told5 .given .1) (carries-update _ (s .pre .sized) (s .pre .passed) (s .args .place) (s .args .job) (s .args .line) (s .pre .inside) _ _ (c .accepted5 .ensures))
@@ -206,24 +221,27 @@ carry-out-spec =
     enum-told-3
     mul-own
     element-copy-out-own
-    pending-requires
-    mul-t27
+    sub-newest
+    mul-newest
+    element-copy-out-newest
+    pending-by-requires
+    mul-t35
     element-set-from-pending-labels
     element-write-phases-3
     accepted-requires-3
     enum-told-4
     ordered-stations-requires
-    mul-t37
+    mul-t42
     element-set-from-result-stations
     ordered-jobs-requires
-    mul-t37-2
+    mul-t42-2
     element-set-from-result-jobs
     element-write-phases-4
     accepted-requires-4
     enum-told-5
     mul-labels
     element-copy-out-labels
-    mul-t50
+    mul-t55
     element-set-from-labels
     mul-jobs
     element-copy-out-jobs
