@@ -4,7 +4,7 @@ ghost use mathlib.Core.Path.{_≡_};
 ghost use Prim.Native.Nat.{_≤_};
 ghost use lib.ListN.{length};
 
-// A command: its letter, and its numbers. The letter of a bad line is 0.
+// A command: its letter, and its numbers. The letter of a bad line is 0, and that of a title #.
 pub struct Command {
     pub letter: u8,
     pub a: u64,
@@ -13,32 +13,31 @@ pub struct Command {
     pub d: u64,
 }
 
-// What a malformed column is read as. Every bound is at most this.
+// What a malformed column is read as; no bound is above it.
 const BAD: u64 = 18446744073709551615;
 
-// The bounds that the numbers of a command stay below.
-fn bounds(letter: u8) -> Command {
+fn below(n: Command, a: u64, b: u64, c: u64, d: u64) -> bool {
+    (n.a < a) & (n.b < b) & (n.c < c) & (n.d < d)
+}
+
+// Whether the numbers of a command are below the bounds that its letter sets.
+fn fits(n: Command) -> bool {
+    let letter = n.letter;
     match letter {
-        b'f' => Command { letter, a: BAD, b: 1, c: 1, d: 1 },
-        b's' => Command { letter, a: BAD, b: BAD, c: BAD, d: 930 },
-        b'n' => Command { letter, a: 6, b: BAD, c: BAD, d: 930 },
-        b'm' => Command { letter, a: BAD, b: BAD, c: 1, d: 1 },
-        b'l' => Command { letter, a: 33, b: 1, c: 1, d: 1 },
-        b'd' | b'p' => Command { letter, a: 33, b: 32, c: 256, d: 1 },
-        b'e' => Command { letter, a: 33, b: 33, c: 256, d: 4294967296 },
-        b'j' | b'w' => Command { letter, a: 33, b: 1, c: 1, d: 4294967296 },
-        b'h' => Command { letter, a: 33, b: 1, c: 6, d: 1 },
-        _ => Command { letter, a: 0, b: 0, c: 0, d: 0 },
+        b'f' => below(n, BAD, 1, 1, 1),
+        b's' => below(n, BAD, BAD, BAD, 930),
+        b'n' => below(n, 6, BAD, BAD, 930),
+        b'l' => below(n, 32, 1, 1, 1),
+        b'd' | b'p' => below(n, 32, 31, 256, 1),
+        b'e' => below(n, 32, 32, 256, 4294967296),
+        b'j' | b'w' => below(n, 32, 1, 1, 4294967296),
+        b'c' => below(n, 32, 32, 1, 1),
+        _ => false,
     }
 }
 
-fn fits(c: Command) -> bool {
-    let l = bounds(c.letter);
-    (c.a < l.a) & (c.b < l.b) & (c.c < l.c) & (c.d < l.d)
-}
-
 // The number in the column that starts at a place.
-fn number(line: &[u8], at: usize) -> u64
+fn column_at(line: &[u8], at: usize) -> u64
     requires { ⌜ length (now line) ≡ 49 ⌝ }
     requires { ⌜ at ≤ 37 ⌝ }
 {
@@ -48,32 +47,42 @@ fn number(line: &[u8], at: usize) -> u64
     v
 }
 
-// The first byte of a line, 0 if there is none.
-fn first(line: &[u8]) -> u8 {
-    if line.len() == 0 { 0 } else { line[0] }
+fn plain(letter: u8) -> Command {
+    Command {
+        letter,
+        a: 0,
+        b: 0,
+        c: 0,
+        d: 0,
+    }
 }
 
-fn title(line: &[u8]) {
-    crate::text(b"\n");
+// Shows a title.
+fn title(line: &[u8]) -> Command {
     crate::text(line);
     crate::text(b"\n");
+    plain(b'#')
 }
 
-// A command without numbers.
-fn plain(letter: u8) -> Command {
-    Command { letter, a: 0, b: 0, c: 0, d: 0 }
-}
-
-// Reads a command, and shows a title.
-pub fn read(line: &[u8]) -> Command {
-    let letter = first(line);
-    if letter == b'#' {
-        title(line);
-        return plain(letter);
-    }
+// Reads a command.
+fn read_columns(letter: u8, line: &[u8]) -> Command {
     if line.len() != 49 {
         return plain(0);
     }
-    let c = Command { letter, a: number(line, 1), b: number(line, 13), c: number(line, 25), d: number(line, 37) };
-    if fits(c) { c } else { plain(0) }
+    let n = Command {
+        letter,
+        a: column_at(line, 1),
+        b: column_at(line, 13),
+        c: column_at(line, 25),
+        d: column_at(line, 37),
+    };
+    if fits(n) { n } else { plain(0) }
+}
+
+// Reads a line that starts with this byte, 10 if it is empty.
+pub fn read(letter: u8, line: &[u8]) -> Command {
+    match letter {
+        b'#' | 10 => title(line),
+        _ => read_columns(letter, line),
+    }
 }

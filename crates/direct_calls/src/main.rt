@@ -1,21 +1,20 @@
-// Direct calls of the steps, as a command file on standard input asks for them. The file is run twice: its step calls take a table by value, and then
-// a table that its owner lends. What a call shows is the buffer that it lent, its refusal number and its bytes of report; the file `stdout` beside
-// this folder has what document 01 asks.
+// Direct calls of the steps, as the command file on standard input asks for them. The file is run twice: its calls get their tables by value, and then
+// from an owner that lends them. A call shows the buffer that it lent, its refusal number and its bytes of report. The file `stdout` beside this
+// folder has what document 01 asks.
 //
-// A line is a title, which starts with #, or a letter and four columns of 12 bytes, with 0 for what the letter does not use. Stations, positions and
-// places count from 1.
+// A line that starts with # or is empty is shown as it is. Any other is a command: a letter and four columns of 12 bytes, with 0 in those that it
+// does not use. Places and positions count from 0. A bad line ends the run.
 //
-//     f n                          a fresh table of n stations
-//     s code station job room      a step call that lends so many bytes, each a dot
-//     n code station job room      the same by the name of the step, with the job of a begin and the room of an end only
-//     m station job                the step calls 1, 3, 4 and 5: the station takes a label for the job
-//     l station                    shows the first two digits of the label
-//     d station position digit     changes a digit of the label
-//     p station position digit     changes a digit of the pending label
-//     e station place of job       changes an entry of the scan result
-//     j station 0 0 job            changes the job
-//     w station 0 0 job            changes the pending job
-//     h station 0 phase            changes the phase: 0 idle, 1 and 2 due to snap for a label and for a scan, 3 to update, 4 and 5 to end them
+//     f n                        makes a fresh table of n stations
+//     s code station job room    makes a step call that lends so many bytes, each a dot
+//     n code station job room    makes the call that has the step's name; only a begin takes the job, and only an end the room
+//     l place                    shows the first two digits of the label
+//     d place position digit     changes a digit of the label
+//     p place position digit     changes a digit of the pending label
+//     e place entry station job  changes an entry of the scan result
+//     j place 0 0 job            changes the job
+//     w place 0 0 job            changes the pending job
+//     c place other              changes the record to the one at another place
 mod commands;
 mod edits;
 
@@ -23,6 +22,7 @@ use commands::Command;
 use libc::STDIN_FILENO;
 use libc::STDOUT_FILENO;
 use step::Outcome;
+use step::Reply;
 use table::Table;
 ghost use Prim.Native.Nat.{_≤_};
 ghost use lib.ListN.{length};
@@ -31,57 +31,49 @@ pub fn text(bytes: &[u8]) {
     io::write_all(STDOUT_FILENO, bytes);
 }
 
-pub fn number(v: u64) {
+// A number, and a byte before it.
+pub fn number(before: u8, v: u64) {
+    text(&[before]);
     io::print_decimal(STDOUT_FILENO, v);
 }
 
-// A blank, and two numbers with a text between them.
-pub fn pair(a: u64, between: &[u8], b: u64) {
-    text(b" ");
-    number(a);
-    text(between);
-    number(b);
-}
-
-// A step call on a lent table; the other forms are 0, by value, and 1 to 5, by the name of that step.
+// A form of the step calls: on a lent table. 1 to 5 are the calls with the names of these steps, and 0 is the call by value.
 const LENT: u64 = 6;
 
-// A step call in one of its forms.
-fn stepped(t: Table, form: u64, code: u64, station: u64, job: u64, report: &mut [u8]) -> Outcome {
+// Makes a step call in one of its forms.
+fn stepped(t: Table, form: u64, c: Command, report: &mut [u8]) -> Outcome {
     match form {
-        1 => step::begin_label(t, station, job),
-        2 => step::begin_scan(t, station),
-        3 => step::snap(t, station),
-        4 => step::update(t, station),
-        5 => step::end(t, station, report),
-        LENT => board::step_owned(t, code, station, job, report),
-        _ => step::step(t, code, station, job, report),
+        1 => step::begin_label(t, c.b, c.c),
+        2 => step::begin_scan(t, c.b),
+        3 => step::snap(t, c.b),
+        4 => step::update(t, c.b),
+        5 => step::end(t, c.b, report),
+        LENT => board::step_owned(t, c.a, c.b, c.c, report),
+        _ => step::step(t, c.a, c.b, c.c, report),
     }
 }
 
-// Makes a step call, and shows its buffer and its reply.
-fn shown(t: Table, form: u64, code: u64, station: u64, job: u64, report: &mut [u8]) -> Table {
-    let o = stepped(t, form, code, station, job, report);
-    text(report);
-    let r = o.reply;
+// Shows the buffer that a call has lent, and its reply.
+fn show(report: &[u8], r: Reply) {
     let refusal = r.refusal;
-    pair(refusal.number(), b"/", r.written as u64);
+    text(report);
+    number(b' ', refusal.number());
+    number(b'/', r.written as u64);
+}
+
+// Makes a step call, and shows its buffer and its reply.
+fn shown(t: Table, form: u64, c: Command, report: &mut [u8]) -> Table {
+    let o = stepped(t, form, c, report);
+    let r = o.reply;
+    show(report, r);
     o.table
 }
 
-// A step call that lends so many bytes, of 929 at most.
-fn call(t: Table, form: u64, code: u64, station: u64, job: u64, room: u64) -> Table {
+// Lends a buffer for a step call. A command has room for 929 bytes at most (`bounds`).
+fn call(t: Table, form: u64, c: Command) -> Table {
     let mut buffer = [b'.'; 929];
-    let n = (room % 930) as usize;
-    shown(t, form, code, station, job, &mut buffer[..n])
-}
-
-// A station takes a label for a job, without another step between.
-fn take_label(t: Table, form: u64, station: u64, job: u64) -> Table {
-    let begun = call(t, form, 1, station, job, 0);
-    let snapped = call(begun, form, 3, station, 0, 0);
-    let updated = call(snapped, form, 4, station, 0, 0);
-    call(updated, form, 5, station, 0, 0)
+    let n = (c.d % 930) as usize;
+    shown(t, form, c, &mut buffer[..n])
 }
 
 // Obeys a command.
@@ -90,9 +82,8 @@ fn obey(t: Table, form: u64, c: Command) -> Table {
     match letter {
         b'#' => t,
         b'f' => Table::fresh(c.a as usize),
-        b's' => call(t, form, c.a, c.b, c.c, c.d),
-        b'n' => call(t, c.a, c.a, c.b, c.c, c.d),
-        b'm' => take_label(t, form, c.a, c.b),
+        b's' => call(t, form, c),
+        b'n' => call(t, c.a, c),
         _ => edits::edited(t, c),
     }
 }
@@ -105,7 +96,7 @@ fn run(form: u64, file: &[u8])
     let mut at = 0;
     while at < file.len() {
         let end = bytes::scan::find(file, at, file.len(), 10);
-        let c = commands::read(&file[at..end]);
+        let c = commands::read(file[at], &file[at..end]);
         if c.letter == 0 {
             text(b"\nbad command\n");
             return;
@@ -119,6 +110,5 @@ fn main() {
     let mut buffer = io::large_buffer();
     let n = io::read_full(STDIN_FILENO, &mut buffer);
     run(0, &buffer[..n]);
-    text(b"\n\non a lent table\n");
     run(LENT, &buffer[..n]);
 }

@@ -1,6 +1,6 @@
-use borrow.Author.Needs.{needs}
 use Prim.Native.Nat.{_-_}
 use lib.ListN.{length}
+use borrow.Author.Needs.{needs}
 use Rattle.direct_calls.proofs.run.Statement.{statement}
 use Rattle.direct_calls.proofs.run.Tie as tie
 
@@ -18,6 +18,9 @@ loop-holds c = search needs
 
 find-requires : tie.Need-find-requires Inv-loop μ-loop
 find-requires c κs = search needs
+
+shared-slice-read-read : tie.Need-shared-slice-read-read Inv-loop μ-loop
+shared-slice-read-read c = search needs
 
 sub-read : tie.Need-sub-read Inv-loop μ-loop
 sub-read c = search needs
@@ -64,6 +67,7 @@ run-spec =
     fresh-requires
     loop-holds
     find-requires
+    shared-slice-read-read
     sub-read
     part-read-start
     part-read-end
