@@ -3,14 +3,14 @@ use Prim.Native.Nat.{_*_, _-_, _≤_}
 use native.Mathlib.Omega.{arith}
 use Rattle.step.proofs.Reachable.{Reached}
 use Rattle.schedule.proofs.ChunkLaws.{serves-inside}
-use Rattle.limits.proofs.long_files.serve.Statement.{statement}
-use Rattle.limits.proofs.long_files.serve.Tie as tie
+use Rattle.limits.proofs.serve.Statement.{statement}
+use Rattle.limits.proofs.serve.Tie as tie
 
 abbrev Inv-loop : tie.InvT-loop
-Inv-loop four out₀ times now₀ bytes₀ k₀ out now bytes k = (k ≤ times) × ((bytes ≤ k * 7424) × Reached (now .table))
+Inv-loop part out₀ times now₀ bytes₀ last₀ k₀ out now bytes last k = (k ≤ times) × ((bytes ≤ k * 7424) × ((last ≤ 7424) × Reached (now .table)))
 
 abbrev μ-loop : tie.MeasureT-loop
-μ-loop four out₀ times now₀ bytes₀ k₀ out now bytes k = times - k
+μ-loop part out₀ times now₀ bytes₀ last₀ k₀ out now bytes last k = times - k
 
 loop-holds : tie.Need-loop-holds Inv-loop μ-loop
 loop-holds c = search needs
@@ -28,7 +28,7 @@ loop-less : tie.Need-loop-less Inv-loop μ-loop
 loop-less c = search needs
 
 loop-again : tie.Need-loop-again Inv-loop μ-loop
-loop-again c = (omega arith, (omega (arith, serves-inside (c .before .before .report-lines .ensures .0), c .before .before .report-lines .kept .1 .1 .0), c .before .before .report-lines .ensures .1))
+loop-again c = let h = serves-inside (c .before .before .report-lines .ensures .0) in (omega arith, (omega (arith, h, c .before .before .report-lines .kept .1 .1 .0), (omega (arith, h, c .before .before .report-lines .kept .1 .1 .0), c .before .before .report-lines .ensures .1)))
 
 returns : tie.Need-returns Inv-loop μ-loop
 returns c = search needs

@@ -3,8 +3,8 @@ use lib.Seq.{length-take-le}
 use Rattle.schedule.specs.Files.{headerPrinted}
 use Rattle.schedule.proofs.ChunkLaws.{prints-inside, header-reached}
 use borrow.Author.Needs.{needs}
-use Rattle.limits.proofs.print.header.Statement.{statement}
-use Rattle.limits.proofs.print.header.Tie as tie
+use Rattle.limits.proofs.opened.Statement.{statement}
+use Rattle.limits.proofs.opened.Tie as tie
 
 open-requires : tie.Need-open-requires
 open-requires c κs = search needs
@@ -27,8 +27,8 @@ text-requires c κs = search needs
 returns : tie.Need-returns
 returns c = header-reached _ _ (c .before .before .before .before .before .«open» .ensures) .0
 
-pub header-spec : {M : Type 1} → statement M
-header-spec =
+pub opened-spec : {M : Type 1} → statement M
+opened-spec =
     tie.close
     (tie.spec
     open-requires
