@@ -1,14 +1,114 @@
-// Direct calls of the steps: limits, order of refusals, ill-formed tables, and the samples of document 01. A reply is printed as its refusal number
-// and its bytes of report. The file `stdout` beside this folder has what document 01 asks.
-mod calls;
-mod ill_formed;
-mod limits;
-mod print;
-mod samples;
-mod tables;
+// Direct calls of the steps, as the command file on standard input asks for them. The file is run twice: its calls get their tables by value, and then
+// from an owner that lends them. A call shows the buffer that it lent, its refusal number and its bytes of report. The file `stdout` beside this
+// folder has what document 01 asks.
+//
+// A line that starts with # or is empty is shown as it is. Any other is a command: a letter and four columns of 12 bytes, with 0 in those that it
+// does not use. Places and positions count from 0. A bad line ends the run.
+//
+//     f n                        makes a fresh table of n stations
+//     s code station job room    makes a step call that lends so many bytes, each a dot
+//     n code station job room    makes the call that has the step's name; only a begin takes the job, and only an end the room
+//     l place                    shows the first two digits of the label
+//     d place position digit     changes a digit of the label
+//     p place position digit     changes a digit of the pending label
+//     e place entry station job  changes an entry of the scan result
+//     j place 0 0 job            changes the job
+//     w place 0 0 job            changes the pending job
+//     c place other              changes the record to the one at another place
+mod commands;
+mod edits;
+
+use commands::Command;
+use libc::STDIN_FILENO;
+use libc::STDOUT_FILENO;
+use step::Outcome;
+use step::Reply;
+use table::Table;
+ghost use Prim.Native.Nat.{_≤_};
+ghost use lib.ListN.{length};
+
+pub fn text(bytes: &[u8]) {
+    io::write_all(STDOUT_FILENO, bytes);
+}
+
+// A number, and a byte before it.
+pub fn number(before: u8, v: u64) {
+    text(&[before]);
+    io::print_decimal(STDOUT_FILENO, v);
+}
+
+// A form of the step calls: on a lent table. 1 to 5 are the calls with the names of these steps, and 0 is the call by value.
+const LENT: u64 = 6;
+
+// Makes a step call in one of its forms.
+fn stepped(t: Table, form: u64, c: Command, report: &mut [u8]) -> Outcome {
+    match form {
+        1 => step::begin_label(t, c.b, c.c),
+        2 => step::begin_scan(t, c.b),
+        3 => step::snap(t, c.b),
+        4 => step::update(t, c.b),
+        5 => step::end(t, c.b, report),
+        LENT => board::step_owned(t, c.a, c.b, c.c, report),
+        _ => step::step(t, c.a, c.b, c.c, report),
+    }
+}
+
+// Shows the buffer that a call has lent, and its reply.
+fn show(report: &[u8], r: Reply) {
+    let refusal = r.refusal;
+    text(report);
+    number(b' ', refusal.number());
+    number(b'/', r.written as u64);
+}
+
+// Makes a step call, and shows its buffer and its reply.
+fn shown(t: Table, form: u64, c: Command, report: &mut [u8]) -> Table {
+    let o = stepped(t, form, c, report);
+    let r = o.reply;
+    show(report, r);
+    o.table
+}
+
+// Lends a buffer for a step call. A command has room for 929 bytes at most (`bounds`).
+fn call(t: Table, form: u64, c: Command) -> Table {
+    let mut buffer = [b'.'; 929];
+    let n = (c.d % 930) as usize;
+    shown(t, form, c, &mut buffer[..n])
+}
+
+// Obeys a command.
+fn obey(t: Table, form: u64, c: Command) -> Table {
+    let letter = c.letter;
+    match letter {
+        b'#' => t,
+        b'f' => Table::fresh(c.a as usize),
+        b's' => call(t, form, c),
+        b'n' => call(t, c.a, c),
+        _ => edits::edited(t, c),
+    }
+}
+
+// Obeys the lines of a file, up to a bad one.
+fn run(form: u64, file: &[u8])
+    requires { ⌜ length (now file) ≤ 65536 ⌝ }
+{
+    let mut t = Table::fresh(2);
+    let mut at = 0;
+    while at < file.len() {
+        let end = bytes::scan::find(file, at, file.len(), 10);
+        let c = commands::read(file[at], &file[at..end]);
+        if c.letter == 0 {
+            text(b"\nbad command\n");
+            return;
+        }
+        t = obey(t, form, c);
+        at = end + 1;
+    }
+}
 
 fn main() {
-    limits::all();
-    ill_formed::all();
-    samples::all();
+    let mut buffer = io::large_buffer();
+    let n = io::read_full(STDIN_FILENO, &mut buffer);
+    run(0, &buffer[..n]);
+    run(LENT, &buffer[..n]);
 }
