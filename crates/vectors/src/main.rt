@@ -29,15 +29,23 @@ fn read_named(i: usize, buffer: &mut [u8]) -> usize
     n
 }
 
-// Writes the report of the file that an argument names, and hands back its bytes. 65,536 bytes have at most 3,641 lines, each of which may report 928
-// bytes.
+// Writes the report of a file, and hands back its bytes. 65,536 bytes have at most 3,641 lines, each of which may report 928 bytes.
+fn report(file: &[u8], out: &mut [u8]) -> usize
+    requires { ⌜ length (now file) ≤ 65536 ⌝ }
+    requires { ⌜ 3379776 ≤ length (now out) ⌝ }
+    ensures { λ r. ⌜ Counts r (now (out .exit)) ⌝ }
+{
+    file::report(file, out)
+}
+
+// Writes the report of the file that an argument names, and hands back its bytes.
 fn report_named(i: usize, out: &mut [u8]) -> usize
     requires { ⌜ 3379776 ≤ length (now out) ⌝ }
     ensures { λ r. ⌜ Counts r (now (out .exit)) ⌝ }
 {
     let mut file = io::large_buffer();
     let n = read_named(i, &mut file);
-    file::report(&file[..n], out)
+    report(&file[..n], out)
 }
 
 // Whether the file that an argument names has these bytes.
