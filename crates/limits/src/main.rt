@@ -1,24 +1,17 @@
-// Schedule files with the most lines that a file can have, as standard input describes them. The file `stdout` beside this folder has what document
-// 01 asks.
+// Schedule files with the most lines that a file can have, as standard input describes them. The file `stdout` has what document 01 asks.
 //
-// A line of one letter is a command, on the lines between it and the last command:
-//
-//     #  shows them
-//     h  opens a session by them, its header, and shows the report
-//     p  serves them as a part of the file, and shows how many bytes it reports, and the report
-//     r  serves them as 249,999 parts, and shows how many bytes these report, and the report of the last
-//     t  serves the letter alone, which is no line
-ghost use Prim.Native.Nat.{_*_, _≤_};
+// Each file has two stations. Its description is a `#` with a title; four lines, which the file has 249,999 times; and the lines behind them. For each
+// are shown the title, how many bytes the repeated lines report, the report of the last four, and the report of the lines behind.
+ghost use Prim.Native.Nat.{_≤_};
 ghost use lib.ListN.{length};
-ghost use Rattle.io.specs.Counts.{Counts};
-ghost use Rattle.step.proofs.Reachable.{Reached};
+ghost use Rattle.parts.specs.Parts.{parts};
+ghost use Rattle.file.specs.Contracts.{Runnable};
 use libc::STDIN_FILENO;
 use libc::STDOUT_FILENO;
-use schedule::Session;
 
-// The session after some parts, the bytes that they have reported, and those of the last.
+// How many lines are counted after the repeated ones, the bytes that these report, and those of the last four.
 struct Total {
-    session: Session,
+    lines: u32,
     bytes: u64,
     last: usize,
 }
@@ -27,106 +20,168 @@ fn text(bytes: &[u8]) {
     io::write_all(STDOUT_FILENO, bytes);
 }
 
-// Opens a session, and shows the report of its header.
-fn opened(header: &[u8]) -> Session
-    ensures { λ r. ⌜ Reached (r .table) ⌝ }
-{
-    let s = schedule::open(header);
-    let mut out = [0u8; 29];
-    let k = schedule::chunk::report_header(s, &mut out);
-    text(&out[..k]);
-    s
-}
-
-// Serves a part of at most 8 lines so many times.
-fn serve(s: Session, part: &[u8], out: &mut [u8; 7424], times: u32) -> Total
-    requires { ⌜ Reached (s .table) ⌝ }
+// Serves a part of the file 249,999 times.
+fn repeat(
+    order: &mut [usize; 32],
+    labels: &mut [[u8; 31]; 32],
+    jobs: &mut [u32; 32],
+    pending_labels: &mut [[u8; 31]; 32],
+    pending_jobs: &mut [u32; 32],
+    result_stations: &mut [[u8; 32]; 32],
+    result_jobs: &mut [[u32; 32]; 32],
+    phases: &mut [u8; 32],
+    part: &[u8],
+    out: &mut [u8],
+) -> Total
+    requires { ⌜ Runnable (parts 2 (now labels) (now jobs) (now «pending_labels») (now «pending_jobs») (now «result_stations») (now «result_jobs») (now phases)) (now order) ⌝ }
     requires { ⌜ length (now part) ≤ 144 ⌝ }
-    ensures { λ r. ⌜ Reached (r .session .table) ⌝ }
-    ensures { λ r. ⌜ r .last ≤ 7424 ⌝ }
+    requires { ⌜ 7424 ≤ length (now out) ⌝ }
+    requires { ⌜ length (now out) ≤ 7424 ⌝ }
+    ensures { λ _. ⌜ Runnable (parts 2 (now (labels .exit)) (now (jobs .exit)) (now («pending_labels» .exit)) (now («pending_jobs» .exit)) (now («result_stations» .exit)) (now («result_jobs» .exit)) (now (phases .exit))) (now (order .exit)) ⌝ }
+    ensures { λ r. ⌜ r .last ≤ length (now (out .exit)) ⌝ }
 {
-    let mut now = s;
+    let mut lines: u32 = 1;
     let mut bytes: u64 = 0;
     let mut last: usize = 0;
     let mut k: u32 = 0;
-    while k < times {
-        let r = schedule::chunk::report_lines(now, part, out);
-        let reply = r.reply;
-        now = r.session;
-        last = reply.written;
+    while k < 249999 {
+        let r = file::report_lines(
+            lines,
+            2,
+            order,
+            labels,
+            jobs,
+            pending_labels,
+            pending_jobs,
+            result_stations,
+            result_jobs,
+            phases,
+            part,
+            out,
+        );
+        lines = r.lines;
+        last = r.written;
         bytes += last as u64;
         k += 1;
     }
-    Total {
-        session: now,
-        bytes,
-        last,
-    }
+    Total { lines, bytes, last }
 }
 
-fn show(bytes: u64, last: usize, out: &[u8])
-    requires { ⌜ last ≤ length (now out) ⌝ }
+// Serves the repeated lines and those behind them, and shows what they report.
+fn serve(
+    order: &mut [usize; 32],
+    labels: &mut [[u8; 31]; 32],
+    jobs: &mut [u32; 32],
+    pending_labels: &mut [[u8; 31]; 32],
+    pending_jobs: &mut [u32; 32],
+    result_stations: &mut [[u8; 32]; 32],
+    result_jobs: &mut [[u32; 32]; 32],
+    phases: &mut [u8; 32],
+    part: &[u8],
+    tail: &[u8],
+    out: &mut [u8],
+)
+    requires { ⌜ Runnable (parts 2 (now labels) (now jobs) (now «pending_labels») (now «pending_jobs») (now «result_stations») (now «result_jobs») (now phases)) (now order) ⌝ }
+    requires { ⌜ length (now part) ≤ 144 ⌝ }
+    requires { ⌜ length (now tail) ≤ 144 ⌝ }
+    requires { ⌜ 7424 ≤ length (now out) ⌝ }
+    requires { ⌜ length (now out) ≤ 7424 ⌝ }
 {
-    io::print_decimal(STDOUT_FILENO, bytes);
+    let t = repeat(
+        order,
+        labels,
+        jobs,
+        pending_labels,
+        pending_jobs,
+        result_stations,
+        result_jobs,
+        phases,
+        part,
+        out,
+    );
+    let last = t.last;
+    io::print_decimal(STDOUT_FILENO, t.bytes);
     text(b"\n");
     text(&out[..last]);
+    let r = file::report_lines(
+        t.lines,
+        2,
+        order,
+        labels,
+        jobs,
+        pending_labels,
+        pending_jobs,
+        result_stations,
+        result_jobs,
+        phases,
+        tail,
+        out,
+    );
+    let written = r.written;
+    text(&out[..written]);
 }
 
-// Serves a part so many times, and shows what it reports.
-fn shown(s: Session, part: &[u8], out: &mut [u8; 7424], times: u32) -> Session
-    requires { ⌜ Reached (s .table) ⌝ }
-    ensures { λ r. ⌜ Reached (r .table) ⌝ }
+// The file with these lines, from the fresh table.
+fn show(part: &[u8], tail: &[u8])
+    requires { ⌜ length (now part) ≤ 144 ⌝ }
 {
-    if 144 < part.len() {
-        text(b"bad part\n");
-        return s;
+    if 144 < tail.len() {
+        text(b"too long\n");
+        return;
     }
-    let t = serve(s, part, out, times);
-    show(t.bytes, t.last, out);
-    t.session
+    let mut labels = [[1u8; 31]; 32];
+    let mut order = rows::order::order(&labels, 2);
+    let mut jobs = [0u32; 32];
+    let mut pending_labels = [[1u8; 31]; 32];
+    let mut pending_jobs = [0u32; 32];
+    let mut result_stations = [parts::fresh_row(2); 32];
+    let mut result_jobs = [[0u32; 32]; 32];
+    let mut phases = [0u8; 32];
+    let mut out = [0u8; 7424];
+    serve(
+        &mut order,
+        &mut labels,
+        &mut jobs,
+        &mut pending_labels,
+        &mut pending_jobs,
+        &mut result_stations,
+        &mut result_jobs,
+        &mut phases,
+        part,
+        tail,
+        &mut out,
+    );
 }
 
-fn obey(s: Session, letter: u8, part: &[u8], out: &mut [u8; 7424]) -> Session
-    requires { ⌜ Reached (s .table) ⌝ }
-    ensures { λ r. ⌜ Reached (r .table) ⌝ }
-{
-    match letter {
-        b'#' => {
-            text(part);
-            s
-        }
-        b'h' => opened(part),
-        b'p' => shown(s, part, out, 1),
-        b'r' => shown(s, part, out, 249999),
-        b't' => shown(s, &[letter], out, 1),
-        _ => {
-            text(b"bad command\n");
-            s
-        }
+// A description, behind its `#`.
+fn describe(file: &[u8]) {
+    let end = bytes::scan::find(file, 0, file.len(), 10);
+    text(&file[..end]);
+    text(b"\n");
+    let rest = &file[end..];
+    if rest.len() < 73 {
+        text(b"too short\n");
+        return;
     }
+    show(&rest[1..73], &rest[73..]);
 }
 
-fn run(file: &[u8], out: &mut [u8; 7424])
+// The descriptions one after the other.
+fn run(file: &[u8])
     requires { ⌜ length (now file) ≤ 65536 ⌝ }
 {
-    let mut s = schedule::open(file);
-    let mut from = 0;
     let mut at = 0;
     while at < file.len() {
-        let end = bytes::scan::find(file, at, file.len(), 10);
-        if end != at + 1 {
-            at = end + 1;
-            continue;
+        let end = bytes::scan::find(file, at, file.len(), b'#');
+        if at < end {
+            describe(&file[at..end]);
         }
-        s = obey(s, file[at], &file[from..at], out);
         at = end + 1;
-        from = at;
     }
 }
 
 fn main() {
     let mut buffer = io::large_buffer();
     let n = io::read_full(STDIN_FILENO, &mut buffer);
-    let mut out = [0u8; 7424];
-    run(&buffer[..n], &mut out);
+    run(&buffer[..n]);
 }

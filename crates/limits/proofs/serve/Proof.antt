@@ -1,48 +1,64 @@
-use borrow.Author.Needs.{needs}
-use Prim.Native.Nat.{_*_, _-_, _≤_}
 use native.Mathlib.Omega.{arith}
-use Rattle.step.proofs.Reachable.{Reached}
-use Rattle.schedule.proofs.ChunkLaws.{serves-inside}
+use mathlib.Core.Path.{sym}
+use lib.Seq.{length-take-le}
+use Rattle.file.proofs.ChunkLaws.{runs-inside}
+use borrow.Author.Needs.{needs}
 use Rattle.limits.proofs.serve.Statement.{statement}
 use Rattle.limits.proofs.serve.Tie as tie
 
-abbrev Inv-loop : tie.InvT-loop
-Inv-loop part out₀ times now₀ bytes₀ last₀ k₀ out now bytes last k = (k ≤ times) × ((bytes ≤ k * 7424) × ((last ≤ 7424) × Reached (now .table)))
+repeat-requires : tie.Need-repeat-requires
+repeat-requires c κs = (c .before .before .before .before .before .before .before .before .before .before .before .before .pre .0, (c .before .before .before .before .before .before .before .before .before .before .before .before .pre .1 .0, c .before .before .before .before .before .before .before .before .before .before .before .before .pre .1 .1 .1))
 
-abbrev μ-loop : tie.MeasureT-loop
-μ-loop part out₀ times now₀ bytes₀ last₀ k₀ out now bytes last k = times - k
+print-decimal-requires : tie.Need-print-decimal-requires
+print-decimal-requires c κs = search needs
 
-loop-holds : tie.Need-loop-holds Inv-loop μ-loop
-loop-holds c = search needs
+slice-aggregate-text : tie.Need-slice-aggregate-text
+slice-aggregate-text c = search needs
 
-report-lines-requires : tie.Need-report-lines-requires Inv-loop μ-loop
-report-lines-requires c κs = search needs
+text-requires : tie.Need-text-requires
+text-requires c κs = search needs
 
-add-bytes : tie.Need-add-bytes Inv-loop μ-loop
-add-bytes c = omega (arith, serves-inside (c .before .before .report-lines .ensures .0), c .before .before .report-lines .kept .1 .1 .0)
+slice-reshare-prefix-text : tie.Need-slice-reshare-prefix-text
+slice-reshare-prefix-text c = search needs
 
-add-k : tie.Need-add-k Inv-loop μ-loop
-add-k c = search needs
+slice-aggregate-text-2 : tie.Need-slice-aggregate-text-2
+slice-aggregate-text-2 c = sym (length-take-le _ _ (c .before .before .before .before .before .before .repeat .ensures .1))
 
-loop-less : tie.Need-loop-less Inv-loop μ-loop
-loop-less c = search needs
+text-requires-2 : tie.Need-text-requires-2
+text-requires-2 c κs = search needs
 
-loop-again : tie.Need-loop-again Inv-loop μ-loop
-loop-again c = let h = serves-inside (c .before .before .report-lines .ensures .0) in (omega arith, (omega (arith, h, c .before .before .report-lines .kept .1 .1 .0), (omega (arith, h, c .before .before .report-lines .kept .1 .1 .0), c .before .before .report-lines .ensures .1)))
+report-lines-requires : tie.Need-report-lines-requires
+report-lines-requires c κs = (c .before .before .before .before .before .before .before .before .before .before .before .before .before .before .before .before .repeat .ensures .0, omega (arith, c .before .before .before .before .before .before .before .before .before .before .before .before .before .before .before .before .before .before .before .before .before .before .before .before .before .before .before .before .before .pre .1 .1 .0, c .before .before .before .before .before .before .before .before .before .before .before .before .before .before .before .before .before .before .before .before .before .before .before .before .before .before .before .before .before .pre .1 .1 .1 .0, c .before .before .before .before .before .before .before .before .before .before .before .before .before .before .before .before .repeat .kept .1 .1 .1 .1 .1 .1 .1 .1 .1 .0))
 
-returns : tie.Need-returns Inv-loop μ-loop
+slice-reshare-prefix-text-2 : tie.Need-slice-reshare-prefix-text-2
+slice-reshare-prefix-text-2 c = runs-inside (c .before .before .report-lines .ensures .0)
+
+slice-aggregate-text-3 : tie.Need-slice-aggregate-text-3
+slice-aggregate-text-3 c = sym (length-take-le _ _ (runs-inside (c .before .before .before .report-lines .ensures .0)))
+
+text-requires-3 : tie.Need-text-requires-3
+text-requires-3 c κs = search needs
+
+same-length : tie.Need-same-length
+same-length c = search needs
+
+returns : tie.Need-returns
 returns c = search needs
 
 pub serve-spec : {M : Type 1} → statement M
 serve-spec =
     tie.close
     (tie.spec
-    Inv-loop
-    μ-loop
-    loop-holds
+    repeat-requires
+    print-decimal-requires
+    slice-aggregate-text
+    text-requires
+    slice-reshare-prefix-text
+    slice-aggregate-text-2
+    text-requires-2
     report-lines-requires
-    add-bytes
-    add-k
-    loop-less
-    loop-again
+    slice-reshare-prefix-text-2
+    slice-aggregate-text-3
+    text-requires-3
+    same-length
     returns)
