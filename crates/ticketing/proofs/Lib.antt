@@ -1,2 +1,4 @@
 pub mod Flags
 pub mod Sound
+pub mod ApartLaws
+pub mod TurnLaws

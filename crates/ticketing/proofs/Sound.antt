@@ -96,11 +96,11 @@ module _ (n : ℕ) (s : Station) where
 
 -- a result by its stations and jobs
 module _ (stations jobs : Lists.List ℕ) where
-  entry-at : (p : ℕ) → p < 32 → getD (entries stations jobs) p blank ≡ entry (getD stations p 0) (getD jobs p 0)
+  pub entry-at : (p : ℕ) → p < 32 → getD (entries stations jobs) p blank ≡ entry (getD stations p 0) (getD jobs p 0)
   unfolding entries
   entry-at p h = getD-tabulate 32 0 p (λ q. entry (getD stations q 0) (getD jobs q 0)) blank h ∙ ap (λ q. entry (getD stations q 0) (getD jobs q 0)) (zero-add p)
 
-  entries-long : length (entries stations jobs) ≡ 32
+  pub entries-long : length (entries stations jobs) ≡ 32
   unfolding entries
   entries-long = length-tabulate 32 0 _
 
