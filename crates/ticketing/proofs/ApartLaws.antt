@@ -1,5 +1,5 @@
 -- Taking a table apart and making it again: each undoes the other.
-use Prim.Native.Nat.{ℕ, suc, _+_, _-_, _≤_, _<_}
+use Prim.Native.Nat.{ℕ, suc, _≤_, _<_}
 use native.Mathlib.Decide.{ℕ-discrete, decLt}
 use native.Mathlib.Nat.{zero-add}
 use native.Mathlib.Omega.{arith}
@@ -7,15 +7,15 @@ use mathlib.Core.Path.{_≡_, refl, sym, ap, ap₂, subst, _∙_}
 use mathlib.Core.Logic.{_≢_, by-cases}
 use mathlib.Core.Bool.{Bool, true, false, cond}
 use mathlib.Core.List as Lists
-use mathlib.Core.List.{[], _++_, map}
-use lib.ListN.{length, getD, set, replicate, length-set, length-map, length-append, length-replicate, getD-replicate, List·getD-eq-default}
+use mathlib.Core.List.{[]}
+use lib.ListN.{length, getD, replicate, length-set, length-map, length-append, length-replicate, getD-replicate, List·getD-eq-default}
 use lib.Seq.{ext-getD, set-out, getD-set-same, getD-set-other}
-use lib.Dec.{eqb, leb, ltb}
+use lib.Dec.{eqb, ltb}
 use borrow.Author.Tests.{eqb-true, leb-true, le-leb}
-use Rattle.label.specs.Tests.{every, tabulate, ordered}
+use Rattle.label.specs.Tests.{every, tabulate}
 use Rattle.label.proofs.Facts.{every-all, every-at, length-tabulate, getD-tabulate, tabulate-same, replicate-tabulate, ordered-length}
 use Rattle.table.specs.Results.{entry, blank, stored, freshEntry}
-use Rattle.table.specs.Tables.{freshStation, freshTable, at, store, stands, scanOf}
+use Rattle.table.specs.Tables.{freshStation, freshTable, at, store, scanOf}
 use Rattle.table.specs.WellFormed.{wellFormed}
 use Rattle.table.proofs.Orders.{passed}
 use Rattle.simulation.specs.Calls.{Call, Move, place}
@@ -27,9 +27,9 @@ use Rattle.table.specs.declared.Phase.the-variants.{Idle, Snap, Update, End}
 use Rattle.table.specs.declared.Operation.the-variants.{Label, Scan}
 use Rattle.table.specs.declared.Station.{Station}
 use Rattle.table.specs.declared.Table.{Table}
-use Rattle.parts.specs.Parts.{Parts, parts, phaseOf, entries, stationAt, assembled, Sized, Phased}
+use Rattle.parts.specs.Parts.{Parts, parts, phaseOf, entries, stationAt, assembled, Phased}
 use Rattle.parts.proofs.PartLaws.{at-part}
-use Rattle.ticketing.specs.Apart.{phaseNumber, recordOf, freshStations, apart, known}
+use Rattle.ticketing.specs.Apart.{phaseNumber, freshStations, apart, known}
 use Rattle.ticketing.specs.Contracts.{Whole, freshParts}
 use Rattle.ticketing.proofs.Sound.{entry-at, entries-long}
 

@@ -2,3 +2,4 @@ pub mod Flags
 pub mod Sound
 pub mod ApartLaws
 pub mod TurnLaws
+pub mod Exported

@@ -24,7 +24,7 @@ use Rattle.moves.proofs.Move.{the-type}
 use Rattle.step.specs.Contracts.{over}
 use Rattle.parts.specs.Parts.{Parts, assembled, Phased}
 use Rattle.ticketing.specs.Apart.{apart, known, sound}
-use Rattle.ticketing.specs.Contracts.{Whole, freshParts, Starts, Turn, turnOf, Turns, Serves}
+use Rattle.ticketing.specs.Contracts.{Whole, freshParts, Starts, turnOf, Turns, Serves}
 use Rattle.ticketing.proofs.ApartLaws.{apart-assembled, phased}
 use Rattle.table.specs.declared.Table.{Table}
 use Rattle.moves.specs.declared.Move.{Move}

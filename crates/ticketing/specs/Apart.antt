@@ -12,7 +12,6 @@ use Rattle.table.specs.WellFormed.{wellFormed}
 use Rattle.parts.specs.Parts.{Parts, parts, phaseOf, entries, assembled}
 use Rattle.table.specs.declared.Phase.{Phase}
 use Rattle.table.specs.declared.Phase.the-variants.{Idle, Snap, Update, End}
-use Rattle.table.specs.declared.Operation.{Operation}
 use Rattle.table.specs.declared.Operation.the-variants.{Label, Scan}
 use Rattle.table.specs.declared.Station.{Station}
 use Rattle.table.specs.declared.Table.{Table}

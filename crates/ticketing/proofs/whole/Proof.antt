@@ -1,8 +1,7 @@
-use Prim.Native.Nat.{ℕ, _<_}
 use native.Mathlib.Omega.{arith}
 use mathlib.Core.Path.{_≡_}
 use mathlib.Core.List.{[]}
-use lib.ListN.{length, getD}
+use lib.ListN.{length}
 use Rattle.table.proofs.Owned.{each-holds}
 use borrow.Author.Needs.{needs}
 use Rattle.ticketing.proofs.whole.Statement.{statement}

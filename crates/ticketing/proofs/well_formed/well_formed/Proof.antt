@@ -1,4 +1,3 @@
-use native.Mathlib.Omega.{arith}
 use lib.Dec.{leb}
 use borrow.Author.Tests.{lt-leb}
 use Rattle.label.proofs.Facts.{left-no, right-no}
