@@ -35,8 +35,10 @@ pub record OrderedBefore (n : ℕ) (rows : List (List ℕ)) (k : ℕ) (order : L
 unfoldable pub pendingIn : ℕ → List (List ℕ) → ℕ → List ℕ → List ℕ
 pendingIn n rows k own = let z = newest n (standsIn n rows) in cond (eqb k z) own (row 31 (newLabel (n - 1) 1 (held rows) z k))
 
--- of n labels, no three of which label i is the first agree before some position and have the digits 3, 4, 5 there
-unfoldable pub noRingAt : ℕ → (ℕ → Label) → ℕ → Bool
-noRingAt n t i =
-    every (n - 1) (λ p. every n (λ j. every n (λ k.
-    not (agrees p (t i) (t j) && agrees p (t j) (t k) && eqb (t i p) 3 && eqb (t j p) 4 && eqb (t k p) 5))))
+-- one of n labels agrees with label i before position p and has the digit d there
+abbrev pub partsWith : ℕ → (ℕ → Label) → ℕ → ℕ → ℕ → Bool
+partsWith n t i p d = not (every n (λ j. not (eqb (t j p) d && agrees p (t i) (t j))))
+
+-- label i has no 3 at position p with which a 4 and a 5 close a ring
+abbrev pub noRingAt : ℕ → (ℕ → Label) → ℕ → ℕ → Bool
+noRingAt n t p i = not (eqb (t i p) 3 && partsWith n t i p 4 && partsWith n t i p 5)

@@ -12,7 +12,7 @@ ghost use Rattle.rows.specs.Held.{held, Orderly, pendingIn, standsIn};
 use super::order::newest;
 
 // How many leading digits each of the n stations shares with the label `top`.
-pub fn shared_prefixes(rows: &[[u8; 31]; 32], n: usize, top: [u8; 31]) -> [usize; 32]
+fn shared_prefixes(rows: &[[u8; 31]; 32], n: usize, top: [u8; 31]) -> [usize; 32]
     requires { ⌜ (1 ≤ n) × (n ≤ 32) ⌝ }
     ensures { λ r. ⌜ r ≡ tabulate 32 0 (λ j. cond (ltb j n) (firstDifference (n - 1) (held (now (rows .entry)) j) (digit top)) 0) ⌝ }
 {

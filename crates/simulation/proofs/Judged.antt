@@ -72,9 +72,9 @@ verdict n ph c Move.updates e = own (accepted-own n ph c Move.updates e tt)
 verdict n ph c Move.endsLabel e = own (accepted-own n ph c Move.endsLabel e tt)
 verdict n ph c Move.endsScan e = own (accepted-own n ph c Move.endsScan e tt)
 
--- what holds of every refusal but 13 and of every accepted move holds of what a call amounts to; a scan ends only where its lines have room
-module _ (P : Move → Type 0) (no : (r : ℕ) → r ≢ 13 → P (Move.refused r)) where
-  all-unless : (b : Bool) (r : ℕ) (m : Move) → r ≢ 13 → P m → P (unless b r m)
+-- what holds of the refusals up to 11 and of every accepted move holds of what a call amounts to; a scan ends only where its lines have room
+module _ (P : Move → Type 0) (no : (r : ℕ) → r ≤ 11 → P (Move.refused r)) where
+  all-unless : (b : Bool) (r : ℕ) (m : Move) → r ≤ 11 → P m → P (unless b r m)
   all-unless true r m p q = q
   all-unless false r m p q = no r p
 
@@ -129,7 +129,7 @@ module _ (P : Move → Type 0) (no : (r : ℕ) → r ≢ 13 → P (Move.refused 
 
 -- no refusal is 13
 pub not-judged : (n : ℕ) (ph : Phase) (c : Call) → numberOf (judge n ph c) ≢ 13
-not-judged n ph c = all-judged (λ m. numberOf m ≢ 13) (λ r h. h) n ph c (omega arith) (omega arith) (omega arith) (omega arith) (omega arith) (omega arith) (λ e. omega arith)
+not-judged n ph c = all-judged (λ m. numberOf m ≢ 13) (λ r h. omega arith) n ph c (omega arith) (omega arith) (omega arith) (omega arith) (omega arith) (omega arith) (λ e. omega arith)
 
 -- a call that ends a scan has room for n report lines
 abbrev pub Roomy : ℕ → ℕ → Move → Type 0

@@ -12,22 +12,25 @@ use Rattle.rows.proofs.ring.no_ring.Statement.{statement}
 use Rattle.rows.proofs.ring.no_ring.Tie as tie
 
 abbrev Inv-loop : tie.InvT-loop
-Inv-loop rows n i₀ i = (i ≤ n) × (every i (noRingAt n (held rows)) ≡ true)
+Inv-loop rows n p₀ p = (p ≤ n - 1) × (every p (λ q. every n (noRingAt n (held rows) q)) ≡ true)
 
 abbrev μ-loop : tie.MeasureT-loop
-μ-loop rows n i₀ i = n - i
+μ-loop rows n p₀ p = n - 1 - p
 
 loop-holds : tie.Need-loop-holds Inv-loop μ-loop
 loop-holds c = (search needs, every-none _)
+
+sub-loop : tie.Need-sub-loop Inv-loop μ-loop
+sub-loop c = search needs
 
 no-ring-at-requires : tie.Need-no-ring-at-requires Inv-loop μ-loop
 no-ring-at-requires c κs = search needs
 
 returns : tie.Need-returns Inv-loop μ-loop
-returns c = sym (no-ring-each _ _ (search needs) ∙ every-no _ _ (c .before .before .before .loop .i) (search needs) (was-false (c .before .no-ring-at .ensures) (c .if1 .taken)))
+returns c = sym (no-ring-each _ _ (search needs) ∙ every-no _ _ (c .before .before .before .loop .p) (search needs) (was-false (c .before .no-ring-at .ensures) (c .if1 .taken)))
 
-add-i : tie.Need-add-i Inv-loop μ-loop
-add-i c = search needs
+add-p : tie.Need-add-p Inv-loop μ-loop
+add-p c = search needs
 
 loop-less : tie.Need-loop-less Inv-loop μ-loop
 loop-less c = search needs
@@ -45,9 +48,10 @@ no-ring-spec =
     Inv-loop
     μ-loop
     loop-holds
+    sub-loop
     no-ring-at-requires
     returns
-    add-i
+    add-p
     loop-less
     loop-again
     returns-2)

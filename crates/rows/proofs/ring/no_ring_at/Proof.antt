@@ -1,57 +1,52 @@
-use Prim.Native.Nat.{ℕ, _-_, _<_}
-use mathlib.Core.Path.{_≡_, _∙_}
-use lib.ListN.{getD}
+use Prim.Native.Nat.{_-_, _≤_}
+use native.Mathlib.Omega.{arith}
+use mathlib.Core.Path.{_≡_, sym, ap, _∙_}
+use mathlib.Core.Bool.{true, not}
 use borrow.Author.Needs.{needs}
-use Rattle.label.specs.Labels.{firstDifference}
-use Rattle.label.proofs.Facts.{every-same}
+use Rattle.label.specs.Tests.{every}
+use Rattle.label.proofs.Facts.{every-no}
 use Rattle.rows.specs.Held.{held, noRingAt}
-use Rattle.rows.proofs.Rings.{flags-judge}
-use Rattle.label.proofs.Filled.{filled-in}
+use Rattle.rows.proofs.Checks.{every-none, every-more, every-done}
 use Rattle.rows.proofs.ring.no_ring_at.Statement.{statement}
 use Rattle.rows.proofs.ring.no_ring_at.Tie as tie
 
-mul-l : tie.Need-mul-l
-mul-l c = search needs
+abbrev Inv-loop : tie.InvT-loop
+Inv-loop rows n p i₀ i = (i ≤ n) × (every i (noRingAt n (held rows) p) ≡ true)
 
-element-copy-out-l : tie.Need-element-copy-out-l
-element-copy-out-l c = search needs
+abbrev μ-loop : tie.MeasureT-loop
+μ-loop rows n p i₀ i = n - i
 
-shared-prefixes-requires : tie.Need-shared-prefixes-requires
-shared-prefixes-requires c κs = search needs
+loop-holds : tie.Need-loop-holds Inv-loop μ-loop
+loop-holds c = (search needs, every-none _)
 
-parts-with-requires : tie.Need-parts-with-requires
-parts-with-requires c κs = search needs
+closes-ring-requires : tie.Need-closes-ring-requires Inv-loop μ-loop
+closes-ring-requires c κs = search needs
 
-parts-with-requires-2 : tie.Need-parts-with-requires-2
-parts-with-requires-2 c κs = search needs
+returns : tie.Need-returns Inv-loop μ-loop
+returns c = sym (every-no _ _ (c .before .before .before .loop .i) (search needs) (sym (c .before .closes-ring .ensures) ∙ ap not (c .if1 .taken)))
 
-sub-no-three : tie.Need-sub-no-three
-sub-no-three c = search needs
+add-i : tie.Need-add-i Inv-loop μ-loop
+add-i c = search needs
 
-no-three-requires : tie.Need-no-three-requires
-no-three-requires c κs = search needs
+loop-less : tie.Need-loop-less Inv-loop μ-loop
+loop-less c = search needs
 
-returns : tie.Need-returns
-unfolding noRingAt
-returns c =
-    let a = c .before .before .before .before .before .before .before .args in
-    let rows = a .rows .now in
-    let shared = c .before .before .before .before .before .shared-prefixes in
-    let e : (j : ℕ) → j < a .n → getD (shared .result) j 0 ≡ firstDifference (a .n - 1) (held rows j) (held rows (a .i)) =
-    λ j l. rw (shared .ensures) (filled-in 32 _ 0 0 (a .n) j l (search needs)) in
-    let fours = c .before .before .before .parts-with in
-    let fives = c .before .parts-with2 in
-    c .no-three .ensures ∙ every-same (a .n - 1) _ _ (λ p l. flags-judge (a .n - 1) (a .n) (held rows) (a .i) p l (shared .result) e (fours .result) (fives .result) (fours .ensures p l) (fives .ensures p l))
+loop-again : tie.Need-loop-again Inv-loop μ-loop
+loop-again c = (search needs, every-more _ _ (c .before .before .before .loop .inv .1) (sym (c .before .closes-ring .ensures) ∙ ap not (c .if1 .left)))
+
+returns-2 : tie.Need-returns-2 Inv-loop μ-loop
+returns-2 c = every-done _ (c .before .loop .inv .1) (omega arith)
 
 pub no-ring-at-spec : {M : Type 1} → statement M
 no-ring-at-spec =
     tie.close
     (tie.spec
-    mul-l
-    element-copy-out-l
-    shared-prefixes-requires
-    parts-with-requires
-    parts-with-requires-2
-    sub-no-three
-    no-three-requires
-    returns)
+    Inv-loop
+    μ-loop
+    loop-holds
+    closes-ring-requires
+    returns
+    add-i
+    loop-less
+    loop-again
+    returns-2)

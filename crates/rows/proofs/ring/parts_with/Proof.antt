@@ -1,48 +1,62 @@
-use Prim.Native.Nat.{ℕ, _-_, _≤_, _<_}
-use mathlib.Core.Path.{_≡_, ap, _∙_}
-use mathlib.Core.Bool.{false, not, _&&_}
-use mathlib.Core.Logic.{⊎-elim}
+use Prim.Native.Nat.{_-_, _≤_}
+use mathlib.Core.Path.{_≡_, ap, sym, _∙_}
+use mathlib.Core.Bool.{true, false, not, _&&_}
 use mathlib.Core.List.{[]}
+use mathlib.Core.Logic.{⊎-elim}
 use native.Mathlib.Omega.{arith}
-use lib.ListN.{length, getD, length-set, getD-replicate}
+use lib.ListN.{getD}
 use lib.Dec.{eqb}
 use borrow.Author.Needs.{needs}
+use borrow.Author.Tests.{eq-eqb, ne-eqb}
 use Rattle.label.specs.Tests.{every}
+use Rattle.label.specs.Labels.{agrees}
 use Rattle.rows.specs.Held.{held}
-use Rattle.rows.proofs.Rings.{read-else, flag-other, flag-here}
+use Rattle.label.proofs.Facts.{both, left-no, right-no}
+use Rattle.rows.proofs.Checks.{every-none, every-more, every-done}
+use Rattle.rows.proofs.Rings.{some-here, read-else}
 use Rattle.rows.proofs.ring.parts_with.Statement.{statement}
 use Rattle.rows.proofs.ring.parts_with.Tie as tie
 
 abbrev Inv-loop : tie.InvT-loop
-Inv-loop d rows shared n r₀ j₀ r j = (j ≤ n) × (length r ≡ 31) × ((p : ℕ) → p < n - 1 → getD r p false ≡ not (every j (λ k. not (eqb (getD shared k 0) p && eqb (held rows k p) d))))
+Inv-loop d rows n i p j₀ j = (j ≤ n) × (every j (λ k. not (eqb (held rows k p) d && agrees p (held rows i) (held rows k))) ≡ true)
 
 abbrev μ-loop : tie.MeasureT-loop
-μ-loop d rows shared n r₀ j₀ r j = n - j
+μ-loop d rows n i p j₀ j = n - j
 
 loop-holds : tie.Need-loop-holds Inv-loop μ-loop
-unfolding every
-loop-holds c = (search needs, search needs, λ p l. getD-replicate 31 p false false (omega arith))
+loop-holds c = (search needs, every-none _)
 
-mul-p : tie.Need-mul-p Inv-loop μ-loop
-mul-p c = search needs
+mul-if1 : tie.Need-mul-if1 Inv-loop μ-loop
+mul-if1 c = search needs
 
-element-copy-out-p : tie.Need-element-copy-out-p Inv-loop μ-loop
-element-copy-out-p c = search needs
+index-1-if1 : tie.Need-index-1-if1 Inv-loop μ-loop
+index-1-if1 c = search needs
 
-sub-if1 : tie.Need-sub-if1 Inv-loop μ-loop
-sub-if1 c = search needs
+index-2-if1 : tie.Need-index-2-if1 Inv-loop μ-loop
+index-2-if1 c = search needs
 
-mul-if2 : tie.Need-mul-if2 Inv-loop μ-loop
-mul-if2 c = search needs
+mul-agree : tie.Need-mul-agree Inv-loop μ-loop
+mul-agree c = search needs
 
-index-1-if2 : tie.Need-index-1-if2 Inv-loop μ-loop
-index-1-if2 c = search needs
+element-copy-out-agree : tie.Need-element-copy-out-agree Inv-loop μ-loop
+element-copy-out-agree c = search needs
 
-index-2-if2 : tie.Need-index-2-if2 Inv-loop μ-loop
-index-2-if2 c = search needs
+mul-agree-2 : tie.Need-mul-agree-2 Inv-loop μ-loop
+mul-agree-2 c = search needs
 
-array-write-r : tie.Need-array-write-r Inv-loop μ-loop
-array-write-r c = search needs
+element-copy-out-agree-2 : tie.Need-element-copy-out-agree-2 Inv-loop μ-loop
+element-copy-out-agree-2 c = search needs
+
+agree-requires : tie.Need-agree-requires Inv-loop μ-loop
+agree-requires c κs = search needs
+
+returns : tie.Need-returns Inv-loop μ-loop
+returns c =
+    let b = c .before .before .before .before in
+    let a = b .before .before .before .before .args in
+    let j = b .before .before .before .loop .j in
+    sym (some-here (a .n) (λ k. eqb (held (a .rows .now) k (a .p)) (a .d) && agrees (a .p) (held (a .rows .now) (a .i)) (held (a .rows .now) k)) j (search needs)
+    (both (eq-eqb _ (a .d) (read-else (getD (a .rows .now) j []) (a .p) 0 1 (a .d) (omega arith) (omega arith) (b .if1 .taken))) (sym (c .before .agree .ensures) ∙ c .if2 .taken)))
 
 add-j : tie.Need-add-j Inv-loop μ-loop
 add-j c = search needs
@@ -53,26 +67,17 @@ loop-less c = search needs
 loop-again : tie.Need-loop-again Inv-loop μ-loop
 loop-again c =
     let a = c .before .before .before .before .args in
-    let r = c .before .before .before .loop .r in
     let j = c .before .before .before .loop .j in
-    let l : length r ≡ 31 = c .before .before .before .loop .inv .1 in
-    let old = c .before .before .before .loop .inv .2 in
-    let shares : ℕ → ℕ = λ k. getD (a .shared .now) k 0 in
-    let row = getD (a .rows .now) j [] in
-    ⊎-elim (λ w. (
-      search needs,
-      rw (w .3) (simp length-set l),
-      rw (w .3) (flag-here (a .n - 1) shares (held (a .rows .now)) (a .d) r j old (omega (arith, w .0 .taken))
-          (read-else row (shares j) 0 1 (a .d) (omega arith) (omega arith) (w .2 .taken))),
-    ))
-    (⊎-elim (λ w. (search needs, rw (w .3) l, rw (w .3) (flag-other (a .n - 1) shares (held (a .rows .now)) (a .d) r j old (λ k e. w .2 .left (read-else row (shares j) 1 0 (a .d) (omega arith) (omega arith) e)))))
-    (λ w. (search needs, rw (w .1) l, rw (w .1) (flag-other (a .n - 1) shares (held (a .rows .now)) (a .d) r j old (λ k. absurd (omega (arith, w .0 .left)))))))
-    (c .if1 .came)
+    let here = eqb (held (a .rows .now) j (a .p)) (a .d) in
+    let same = agrees (a .p) (held (a .rows .now) (a .i)) (held (a .rows .now) j) in
+    let none : (here && same) ≡ false =
+    ⊎-elim (λ w. right-no here (sym (w .3 .ensures) ∙ w .4 .left))
+    (λ w. left-no same (ne-eqb _ (a .d) (λ e. w .left (read-else (getD (a .rows .now) j []) (a .p) 1 0 (a .d) (omega arith) (omega arith) e))))
+    (c .if1 .came) in
+    (search needs, every-more _ _ (c .before .before .before .loop .inv .1) (ap not none))
 
-returns : tie.Need-returns Inv-loop μ-loop
-returns c =
-    let a = c .before .before .args in
-    λ p l. c .before .loop .inv .2 p l ∙ ap (λ k. not (every k (λ j. not (eqb (getD (a .shared .now) j 0) p && eqb (held (a .rows .now) j p) (a .d))))) {x = c .before .loop .j} {y = a .n} (omega arith)
+returns-2 : tie.Need-returns-2 Inv-loop μ-loop
+returns-2 c = ap not (every-done _ (c .before .loop .inv .1) (omega arith))
 
 pub parts-with-spec : {M : Type 1} → statement M
 parts-with-spec =
@@ -81,14 +86,16 @@ parts-with-spec =
     Inv-loop
     μ-loop
     loop-holds
-    mul-p
-    element-copy-out-p
-    sub-if1
-    mul-if2
-    index-1-if2
-    index-2-if2
-    array-write-r
+    mul-if1
+    index-1-if1
+    index-2-if1
+    mul-agree
+    element-copy-out-agree
+    mul-agree-2
+    element-copy-out-agree-2
+    agree-requires
+    returns
     add-j
     loop-less
     loop-again
-    returns)
+    returns-2)

@@ -1,0 +1,60 @@
+use mathlib.Core.Path.{ap, sym, _∙_}
+use mathlib.Core.Bool.{not}
+use mathlib.Core.List.{[]}
+use native.Mathlib.Omega.{arith}
+use lib.ListN.{getD}
+use lib.Dec.{eqb}
+use borrow.Author.Tests.{eq-eqb, ne-eqb}
+use Rattle.label.proofs.Facts.{both, left-no, right-no}
+use Rattle.rows.specs.Held.{held, partsWith}
+use Rattle.rows.proofs.Checks.{and-yes}
+use Rattle.rows.proofs.Rings.{read-else}
+use borrow.Author.Needs.{needs}
+use Rattle.rows.proofs.ring.closes_ring.Statement.{statement}
+use Rattle.rows.proofs.ring.closes_ring.Tie as tie
+
+mul-if1 : tie.Need-mul-if1
+mul-if1 c = search needs
+
+index-1-if1 : tie.Need-index-1-if1
+index-1-if1 c = search needs
+
+index-2-if1 : tie.Need-index-2-if1
+index-2-if1 c = search needs
+
+returns : tie.Need-returns
+returns c =
+    let a = c .before .before .args in
+    ap not (sym (left-no _ (left-no _ (ne-eqb _ 3 (λ e. c .if1 .taken (read-else (getD (a .rows .now) (a .i) []) (a .p) 1 0 3 (omega arith) (omega arith) e))))))
+
+parts-with-requires : tie.Need-parts-with-requires
+parts-with-requires c κs = search needs
+
+parts-with-requires-2 : tie.Need-parts-with-requires-2
+parts-with-requires-2 c κs = search needs
+
+returns-2 : tie.Need-returns-2
+returns-2 c =
+    let b = c .before .before .before in
+    let a = b .before .before .args in
+    ap not (and-yes (both (eq-eqb _ 3 (read-else (getD (a .rows .now) (a .i) []) (a .p) 0 1 3 (omega arith) (omega arith) (b .if1 .left)))
+    (sym (c .before .before .parts-with .ensures) ∙ c .before .if2 .taken)) (c .parts-with2 .ensures))
+
+returns-3 : tie.Need-returns-3
+returns-3 c =
+    let a = c .before .before .before .before .args in
+    let t = held (a .rows .now) in
+    ap not (c .if2 .left ∙ sym (left-no (partsWith (a .n) t (a .i) (a .p) 5) (right-no (eqb (t (a .i) (a .p)) 3) (sym (c .before .parts-with .ensures) ∙ c .if2 .left))))
+
+pub closes-ring-spec : {M : Type 1} → statement M
+closes-ring-spec =
+    tie.close
+    (tie.spec
+    mul-if1
+    index-1-if1
+    index-2-if1
+    returns
+    parts-with-requires
+    parts-with-requires-2
+    returns-2
+    returns-3)

@@ -1,0 +1,5 @@
+pub mod Flags
+pub mod Sound
+pub mod ApartLaws
+pub mod TurnLaws
+pub mod Exported

@@ -1,0 +1,109 @@
+-- What an exported call amounts to, from the tests and the step that it is made of.
+use Prim.Native.Nat.{ℕ}
+use native.Mathlib.Omega.{arith}
+use mathlib.Core.Path.{_≡_, refl, sym, ap, _∙_}
+use mathlib.Core.Logic.{_≢_}
+use mathlib.Core.Bool.{Bool, true, false, cond}
+use mathlib.Core.List as Lists
+use mathlib.Core.List.{[], _∷_}
+use lib.ListN.{length}
+use lib.Dec.{eqb}
+use types.Run.{OneOf, miss}
+use denote.Enum.Declared.{tagOf}
+use borrow.Author.Tests.{eqb-false}
+use Rattle.label.specs.Tests.{within}
+use Rattle.label.proofs.Facts.{and-both}
+use Rattle.simulation.specs.Calls as Calls
+use Rattle.simulation.specs.Calls.{Call}
+use Rattle.table.specs.WellFormed.{wellFormed}
+use Rattle.transition.specs.Steps as Steps
+use Rattle.transition.specs.Steps.{carryOut, move, stepOf}
+use Rattle.transition.proofs.View.{step-carries}
+use Rattle.moves.specs.Moves.{refusalNumber, moveOf}
+use Rattle.moves.proofs.Move.{the-type}
+use Rattle.step.specs.Contracts.{over}
+use Rattle.parts.specs.Parts.{Parts, assembled, Phased}
+use Rattle.ticketing.specs.Apart.{apart, known, sound}
+use Rattle.ticketing.specs.Contracts.{Whole, freshParts, Starts, turnOf, Turns, Serves}
+use Rattle.ticketing.proofs.ApartLaws.{apart-assembled, phased}
+use Rattle.table.specs.declared.Table.{Table}
+use Rattle.moves.specs.declared.Move.{Move}
+use Rattle.moves.specs.declared.Move.the-variants.{Refused, BeginLabel, BeginScan, SnapLabel, SnapScan, Update, EndLabel, EndScan}
+use Rattle.step.specs.declared.Reply.{Reply}
+use Rattle.ticketing.specs.declared.Answer.{Answer}
+
+-- a fresh table, made or refused
+pub started : (n : ℕ) (p p′ : Parts) → within 2 32 n ≡ true → p′ ≡ freshParts n → Starts n p p′ 0
+started n p p′ e q = record { refusal = rw e refl; parts = rw e q }
+
+pub not-started : (n : ℕ) (p : Parts) → within 2 32 n ≡ false → Starts n p p 1
+not-started n p e = record { refusal = rw e refl; parts = rw e refl }
+
+-- the moves that ask for no scan order
+pub no-scan : (m : Move) → OneOf (0 ∷ 1 ∷ 2 ∷ 3 ∷ 5 ∷ 6 ∷ 7 ∷ []) (tagOf the-type m) → moveOf m ≢ Calls.Move.snapsScan
+no-scan (Refused x) h e = let z : _≡_ {A = ℕ} 0 1 = cc in omega arith
+no-scan BeginLabel h e = let z : _≡_ {A = ℕ} 0 1 = cc in omega arith
+no-scan BeginScan h e = let z : _≡_ {A = ℕ} 0 1 = cc in omega arith
+no-scan SnapLabel h e = let z : _≡_ {A = ℕ} 0 1 = cc in omega arith
+no-scan SnapScan h e = miss (0 ∷ 1 ∷ 2 ∷ 3 ∷ 5 ∷ 6 ∷ 7 ∷ []) 4 tt h
+no-scan Update h e = let z : _≡_ {A = ℕ} 0 1 = cc in omega arith
+no-scan EndLabel h e = let z : _≡_ {A = ℕ} 0 1 = cc in omega arith
+no-scan EndScan h e = let z : _≡_ {A = ℕ} 0 1 = cc in omega arith
+
+-- a refused call leaves a well-formed table as it is
+carried-kept : (t : Table) (c : Call) (w : Calls.Move) → carryOut t c w .refusal ≢ 0 → carryOut t c w .table ≡ t
+unfolding carryOut
+carried-kept t c (Calls.Move.refused x) h = refl
+carried-kept t c Calls.Move.beginsLabel h = absurd (h refl)
+carried-kept t c Calls.Move.beginsScan h = absurd (h refl)
+carried-kept t c Calls.Move.snapsLabel h = absurd (h refl)
+carried-kept t c Calls.Move.snapsScan h = absurd (h refl)
+carried-kept t c Calls.Move.updates h = absurd (h refl)
+carried-kept t c Calls.Move.endsLabel h = absurd (h refl)
+carried-kept t c Calls.Move.endsScan h = absurd (h refl)
+
+pub refused-kept : (t : Table) (c : Call) → wellFormed t ≡ true → stepOf t c .refusal ≢ 0 → stepOf t c .table ≡ t
+refused-kept t c ok h = let e = step-carries t c ok in ap (λ x. x .table) e ∙ carried-kept t c (move t c) (λ z. h (ap (λ x. x .refusal) e ∙ z))
+
+pub sound-parts : (p : Parts) → sound p ≡ true → Phased p × (wellFormed (assembled p) ≡ true)
+unfolding sound
+sound-parts p e = let b = and-both (known (p .phases)) (wellFormed (assembled p)) e in (phased p (b .0), b .1)
+
+module _ (p : Parts) (c : Call) where
+  pub turn-unsound : sound p ≡ false → turnOf p c ≡ record { parts = p; refusal = 13; bytes = [] }
+  unfolding turnOf
+  turn-unsound e = rw (e, turnOf) refl
+
+  pub turn-sound : sound p ≡ true
+      → turnOf p c ≡ record { parts = cond (eqb (stepOf (assembled p) c .refusal) 0) (apart (stepOf (assembled p) c .table)) p; refusal = stepOf (assembled p) c .refusal; bytes = stepOf (assembled p) c .bytes }
+  unfolding turnOf
+  turn-sound e = rw (e, turnOf) refl
+
+  -- 13
+  pub turned-down : sound p ≡ false → (r : Answer) (buffer : Lists.List ℕ) → r .refusal ≡ 13 → r .written ≡ 0 → Turns p c buffer p r buffer
+  turned-down e r buffer n w = let s = sym (turn-unsound e) in record {
+    parts = ap (λ x. x .parts) s;
+    refusal = n ∙ ap (λ x. x .refusal) s;
+    written = w ∙ ap (λ x. length (x .bytes)) s;
+    report = ap (λ x. over (x .bytes) buffer) s;
+  }
+
+  -- the step by value, on parts that are whole before and after it
+  pub turned : sound p ≡ true → Whole p → {buffer : Lists.List ℕ} {p′ : Parts} {r : Reply} {buffer′ : Lists.List ℕ} → Serves p c buffer p′ r buffer′ → Whole p′
+      → (a : Answer) → a .refusal ≡ refusalNumber (r .refusal) → a .written ≡ r .written → Turns p c buffer p′ a buffer′
+  turned e whole {buffer} {p′} {r} f whole′ a n w = let s = sym (turn-sound e) in record {
+    parts = sym (apart-assembled p′ whole′ (f .phased (known′ .0))) ∙ ap apart (f .step .table) ∙ kept (eqb (t .refusal) 0) refl ∙ ap (λ x. x .parts) s;
+    refusal = n ∙ f .step .refusal ∙ ap (λ x. x .refusal) s;
+    written = w ∙ f .step .written ∙ ap (λ x. length (x .bytes)) s;
+    report = f .step .report ∙ ap (λ x. over (x .bytes) buffer) s;
+  }
+    where
+      t : Steps.Answer
+      t = stepOf (assembled p) c
+
+      known′ : Phased p × (wellFormed (assembled p) ≡ true)
+      known′ = sound-parts p e
+
+      kept : (b : Bool) → eqb (t .refusal) 0 ≡ b → apart (t .table) ≡ cond b (apart (t .table)) p
+      kept true q = refl
+      kept false q = ap apart (refused-kept (assembled p) c (known′ .1) (eqb-false (t .refusal) 0 q)) ∙ apart-assembled p whole (known′ .0)

@@ -1,0 +1,48 @@
+use Prim.Native.Nat.{_-_, _≤_}
+use mathlib.Core.Path.{_≡_, _∙_}
+use mathlib.Core.Logic.{⊎-elim}
+use native.Mathlib.Omega.{arith}
+use lib.ListN.{getD}
+use lib.Dec.{leb}
+use borrow.Author.Tests.{le-leb, lt-leb}
+use Rattle.label.specs.Tests.{every}
+use Rattle.ticketing.proofs.Flags.{flag-up, flag-down, flag-stays, flag-end}
+use borrow.Author.Needs.{needs}
+use Rattle.ticketing.proofs.well_formed.phases_known.Statement.{statement}
+use Rattle.ticketing.proofs.well_formed.phases_known.Tie as tie
+
+abbrev Inv-loop : tie.InvT-loop
+Inv-loop phases r₀ i₀ r i = (i ≤ 32) × (r ≡ every i (λ k. leb (getD phases k 0) 5))
+
+abbrev μ-loop : tie.MeasureT-loop
+μ-loop phases r₀ i₀ r i = 32 - i
+
+loop-holds : tie.Need-loop-holds Inv-loop μ-loop
+loop-holds c = (search needs, flag-up _)
+
+element-copy-out-if1 : tie.Need-element-copy-out-if1 Inv-loop μ-loop
+element-copy-out-if1 c = search needs
+
+add-i : tie.Need-add-i Inv-loop μ-loop
+add-i c = search needs
+
+loop-less : tie.Need-loop-less Inv-loop μ-loop
+loop-less c = search needs
+
+loop-again : tie.Need-loop-again Inv-loop μ-loop
+loop-again c =
+    let i = c .before .before .before .loop .i in
+    let b = getD (c .before .before .before .before .args .phases .now) i 0 in (
+      search needs,
+      ⊎-elim (λ w. w .1 ∙ flag-down i _ (lt-leb b 5 (w .0 .taken)))
+          (λ w. w .1 ∙ flag-stays i _ (c .before .before .before .loop .inv .1) (le-leb b 5 (w .0 .left)))
+          (c .if1 .came),
+    )
+
+returns : tie.Need-returns Inv-loop μ-loop
+returns c = flag-end _ (c .before .loop .inv .1) (omega arith)
+
+pub phases-known-spec : {M : Type 1} → statement M
+phases-known-spec =
+    tie.close
+    (tie.spec Inv-loop μ-loop loop-holds element-copy-out-if1 add-i loop-less loop-again returns)
