@@ -29,8 +29,11 @@ use Rattle.table.specs.declared.Station.{Station}
 use Rattle.table.specs.declared.Table.{Table}
 use Rattle.parts.specs.Parts.{Parts, parts, phaseOf, entries, stationAt, assembled, Phased}
 use Rattle.parts.proofs.PartLaws.{at-part}
-use Rattle.ticketing.specs.Apart.{phaseNumber, freshStations, apart, known}
-use Rattle.ticketing.specs.Contracts.{Whole, freshParts}
+use Rattle.parts.proofs.Fresh.{fresh-sized}
+use Rattle.ticketing.specs.Apart.{phaseNumber, apart, known}
+use Rattle.parts.specs.Parts.{freshRow}
+use Rattle.ticketing.specs.Contracts.{Whole}
+use Rattle.parts.specs.Parts.{freshParts}
 use Rattle.ticketing.proofs.Sound.{entry-at, entries-long}
 
 -- a list by its elements
@@ -180,34 +183,10 @@ stepped-long t l ok c = subst (λ (a : Answer). Long (a .table)) (sym (step-carr
 
 -- THE FRESH TABLE
 
-pub fresh-assembled : (n : ℕ) → assembled (freshParts n) ≡ freshTable n
-unfolding assembled freshTable freshStation
-fresh-assembled n = ap (λ (s : Lists.List Station). record { count = n; stations = s }) (sym (replicate-tabulate 32 0 (freshStation n) (stationAt (freshParts n)) each))
-  where
-    same : {A : Type 0} (a d : A) (i : ℕ) → i < 32 → getD (replicate 32 a) i d ≡ a
-    same a d i h = getD-replicate 32 i a d h
-
-    each : (i : ℕ) → i < 32 → stationAt (freshParts n) i ≡ freshStation n
-    each i h x = record {
-      label = same (replicate 31 1) [] i h x;
-      job = same 0 0 i h x;
-      «pending_label» = same (replicate 31 1) [] i h x;
-      «pending_job» = same 0 0 i h x;
-      «scan_result» = (ap₂ entries (same (freshStations n) [] i h) (same (replicate 32 0) [] i h) ∙ result) x;
-      phase = ap phaseOf (same 0 0 i h) x;
-    }
-      where
-        result : entries (freshStations n) (replicate 32 0) ≡ tabulate 32 0 (freshEntry n)
-        result = unfold entries in tabulate-same 32 0 _ _ (λ q l. rw (here (λ k. cond (ltb k n) (suc k) 0) 0 q l, getD-replicate {A = ℕ} 32 q 0 0 l) (go q (ltb q n)))
-          where
-            go : (q : ℕ) (b : Bool) → entry (cond b (suc q) 0) 0 ≡ cond b (entry (suc q) 0) blank
-            go q true = refl
-            go q false = refl
-
 pub fresh-whole : (n : ℕ) → Whole (freshParts n)
 fresh-whole n = record {
-  sized = record { labels = refl; jobs = refl; pendingLabels = refl; pendingJobs = refl; resultStations = refl; resultJobs = refl; phases = refl };
-  stations = λ i h. ap length (getD-replicate 32 i (freshStations n) [] h) ∙ length-tabulate 32 0 _;
+  sized = fresh-sized n;
+  stations = λ i h. ap length (getD-replicate 32 i (freshRow n) [] h) ∙ length-tabulate 32 0 _;
   jobs = λ i h. ap length (getD-replicate 32 i (replicate 32 0) [] h);
 }
 

@@ -23,10 +23,12 @@ use Rattle.step.specs.Routines as Routines
 use Rattle.step.proofs.StepLaws.{ill-formed}
 use Rattle.step.proofs.Routines.{routines-demand}
 use Rattle.parts.specs.Parts.{Parts, assembled}
+use Rattle.parts.proofs.Fresh.{fresh-parts}
 use Rattle.ticketing.specs.Apart.{apart, known, sound}
-use Rattle.ticketing.specs.Contracts.{Whole, freshParts, Starts, Turns}
+use Rattle.ticketing.specs.Contracts.{Whole, Starts, Turns}
+use Rattle.parts.specs.Parts.{freshParts}
 use Rattle.ticketing.specs.Exported.{Made, callOf, Sequence, refusalOf, routine, ExportedDemand}
-use Rattle.ticketing.proofs.ApartLaws.{assembled-apart, apart-whole, apart-known, assembled-long, stepped-long, fresh-assembled, fresh-whole, fresh-known}
+use Rattle.ticketing.proofs.ApartLaws.{assembled-apart, apart-whole, apart-known, assembled-long, stepped-long, fresh-whole, fresh-known}
 use Rattle.ticketing.proofs.TurnLaws.{refused-kept, turn-unsound, turn-sound}
 use Rattle.table.specs.declared.Table.{Table}
 
@@ -103,7 +105,7 @@ exported-demand n p p′ f xs q =
     let s : Sequence (freshParts n) xs = subst (λ (y : Parts). Sequence y xs) (f .parts ∙ rw e refl) q in
     record {
       numbers = numbers (freshParts n) (fresh-whole n) (fresh-known n) xs s;
-      demand = routines-demand n (b .0) (b .1) (map routine xs) (subst (λ (t : Table). Routines.Sequence t (map routine xs)) (fresh-assembled n) (routines (freshParts n) (fresh-whole n) (fresh-known n) xs s));
+      demand = routines-demand n (b .0) (b .1) (map routine xs) (subst (λ (t : Table). Routines.Sequence t (map routine xs)) (fresh-parts n) (routines (freshParts n) (fresh-whole n) (fresh-known n) xs s));
     }
   where
     made : (v : Bool) → within 2 32 n ≡ v → within 2 32 n ≡ true

@@ -29,7 +29,8 @@ use Rattle.table.specs.declared.Station.{Station}
 use Rattle.table.specs.declared.Table.{Table}
 use Rattle.parts.specs.Parts.{Parts, phaseOf, entries, stationAt, assembled}
 use Rattle.parts.proofs.PartLaws.{at-part}
-use Rattle.ticketing.specs.Apart.{freshStations, rowsFit, known, sound}
+use Rattle.ticketing.specs.Apart.{rowsFit, known, sound}
+use Rattle.parts.specs.Parts.{freshRow}
 
 every-and : (k : ℕ) (f g : ℕ → Bool) → every k (λ i. f i && g i) ≡ (every k f && every k g)
 unfolding every
@@ -104,7 +105,7 @@ module _ (stations jobs : Lists.List ℕ) where
   unfolding entries
   entries-long = length-tabulate 32 0 _
 
-  pub fresh-rows : (n : ℕ) (fresh : Lists.List ℕ) → fresh ≡ freshStations n
+  pub fresh-rows : (n : ℕ) (fresh : Lists.List ℕ) → fresh ≡ freshRow n
       → (every 32 (λ q. eqb (getD stations q 0) (getD fresh q 0)) && every 32 (λ q. eqb (getD jobs q 0) 0)) ≡ every 32 (λ p. sameEntry (getD (entries stations jobs) p blank) (freshEntry n p))
   fresh-rows n fresh e = sym (every-and 32 _ _) ∙ every-same 32 _ _ each
     where

@@ -3,7 +3,7 @@ use Prim.Native.Nat.{ℕ}
 use native.Mathlib.Omega.{arith}
 use mathlib.Core.Path.{_≡_, refl, sym, ap, _∙_}
 use mathlib.Core.Logic.{_≢_}
-use mathlib.Core.Bool.{Bool, true, false, cond}
+use mathlib.Core.Bool.{Bool, true, false, cond, true≢false}
 use mathlib.Core.List as Lists
 use mathlib.Core.List.{[], _∷_}
 use lib.ListN.{length}
@@ -22,9 +22,10 @@ use Rattle.transition.proofs.View.{step-carries}
 use Rattle.moves.specs.Moves.{refusalNumber, moveOf}
 use Rattle.moves.proofs.Move.{the-type}
 use Rattle.step.specs.Contracts.{over}
-use Rattle.parts.specs.Parts.{Parts, assembled, Phased}
+use Rattle.parts.specs.Parts.{Parts, assembled, Phased, isSnap}
 use Rattle.ticketing.specs.Apart.{apart, known, sound}
-use Rattle.ticketing.specs.Contracts.{Whole, freshParts, Starts, turnOf, Turns, Serves}
+use Rattle.ticketing.specs.Contracts.{Whole, Starts, turnOf, Turns, Serves}
+use Rattle.parts.specs.Parts.{freshParts}
 use Rattle.ticketing.proofs.ApartLaws.{apart-assembled, phased}
 use Rattle.table.specs.declared.Table.{Table}
 use Rattle.moves.specs.declared.Move.{Move}
@@ -40,15 +41,15 @@ pub not-started : (n : ℕ) (p : Parts) → within 2 32 n ≡ false → Starts n
 not-started n p e = record { refusal = rw e refl; parts = rw e refl }
 
 -- the moves that ask for no scan order
-pub no-scan : (m : Move) → OneOf (0 ∷ 1 ∷ 2 ∷ 3 ∷ 5 ∷ 6 ∷ 7 ∷ []) (tagOf the-type m) → moveOf m ≢ Calls.Move.snapsScan
-no-scan (Refused x) h e = let z : _≡_ {A = ℕ} 0 1 = cc in omega arith
-no-scan BeginLabel h e = let z : _≡_ {A = ℕ} 0 1 = cc in omega arith
-no-scan BeginScan h e = let z : _≡_ {A = ℕ} 0 1 = cc in omega arith
-no-scan SnapLabel h e = let z : _≡_ {A = ℕ} 0 1 = cc in omega arith
-no-scan SnapScan h e = miss (0 ∷ 1 ∷ 2 ∷ 3 ∷ 5 ∷ 6 ∷ 7 ∷ []) 4 tt h
-no-scan Update h e = let z : _≡_ {A = ℕ} 0 1 = cc in omega arith
-no-scan EndLabel h e = let z : _≡_ {A = ℕ} 0 1 = cc in omega arith
-no-scan EndScan h e = let z : _≡_ {A = ℕ} 0 1 = cc in omega arith
+pub no-order : (m : Move) → OneOf (0 ∷ 1 ∷ 2 ∷ 5 ∷ 6 ∷ 7 ∷ []) (tagOf the-type m) → isSnap (moveOf m) ≢ true
+no-order (Refused x) h e = true≢false (sym e)
+no-order BeginLabel h e = true≢false (sym e)
+no-order BeginScan h e = true≢false (sym e)
+no-order SnapLabel h e = miss (0 ∷ 1 ∷ 2 ∷ 5 ∷ 6 ∷ 7 ∷ []) 3 tt h
+no-order SnapScan h e = miss (0 ∷ 1 ∷ 2 ∷ 5 ∷ 6 ∷ 7 ∷ []) 4 tt h
+no-order Update h e = true≢false (sym e)
+no-order EndLabel h e = true≢false (sym e)
+no-order EndScan h e = true≢false (sym e)
 
 -- a refused call leaves a well-formed table as it is
 carried-kept : (t : Table) (c : Call) (w : Calls.Move) → carryOut t c w .refusal ≢ 0 → carryOut t c w .table ≡ t

@@ -29,10 +29,6 @@ phaseNumber (End Scan) = 5
 abbrev pub recordOf : Lists.List ℕ → ℕ → Lists.List ℕ → ℕ → Lists.List ℕ → Lists.List ℕ → ℕ → Station
 recordOf l j w v e f b = record { label = l; job = j; «pending_label» = w; «pending_job» = v; «scan_result» = entries e f; phase = phaseOf b }
 
--- the stations of a fresh result
-abbrev pub freshStations : ℕ → Lists.List ℕ
-freshStations n = tabulate 32 0 (λ q. cond (ltb q n) (suc q) 0)
-
 -- the labels and the result of one of n stations fit: `stationFits` on rows
 abbrev pub rowsFit : ℕ → Lists.List ℕ → Lists.List ℕ → Lists.List ℕ → Lists.List ℕ → Bool
 rowsFit n label pending stations jobs = rowFits 31 (n - 1) label && rowFits 31 (n - 1) pending && resultFits 32 n (entries stations jobs)

@@ -4,14 +4,15 @@ use mathlib.Core.Path.{_≡_}
 use mathlib.Core.Bool.{true, false, cond}
 use mathlib.Core.List as Lists
 use mathlib.Core.List.{[]}
-use lib.ListN.{length, getD, replicate}
+use lib.ListN.{length, getD}
 use lib.Dec.{eqb}
 use Rattle.label.specs.Tests.{within}
 use Rattle.simulation.specs.Calls.{Call}
 use Rattle.transition.specs.Steps.{stepOf}
 use Rattle.step.specs.Contracts.{over, Steps}
-use Rattle.parts.specs.Parts.{Parts, parts, assembled, Sized, Phased}
-use Rattle.ticketing.specs.Apart.{freshStations, apart, sound}
+use Rattle.parts.specs.Parts.{Parts, assembled, freshParts, Sized, Phased}
+use Rattle.ticketing.specs.Apart.{apart, sound}
+
 use Rattle.step.specs.declared.Reply.{Reply}
 use Rattle.ticketing.specs.declared.Answer.{Answer}
 
@@ -20,10 +21,6 @@ pub record Whole (p : Parts) : Type 0 where
   pub sized : Sized p
   pub stations : (i : ℕ) → i < 32 → length (getD (p .resultStations) i []) ≡ 32
   pub jobs : (i : ℕ) → i < 32 → length (getD (p .resultJobs) i []) ≡ 32
-
--- the parts of a fresh table: digits 1, no jobs, results 1 to n, all idle
-abbrev pub freshParts : ℕ → Parts
-freshParts n = parts n (replicate 32 (replicate 31 1)) (replicate 32 0) (replicate 32 (replicate 31 1)) (replicate 32 0) (replicate 32 (freshStations n)) (replicate 32 (replicate 32 0)) (replicate 32 0)
 
 -- a fresh table of n is asked for where the parts p stand: 1 and the same parts for a number of stations that is not 2 to 32 (01, refusal 1)
 pub record Starts (n : ℕ) (p p′ : Parts) (r : ℕ) : Type 0 where

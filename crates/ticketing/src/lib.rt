@@ -4,10 +4,9 @@ ghost use mathlib.Core.Bool.{true};
 ghost use Prim.Native.Nat.{ℕ};
 ghost use lib.ListN.{length};
 ghost use Rattle.rows.specs.Held.{Orderly};
-ghost use Rattle.simulation.specs.Calls.{snapsScan};
 ghost use Rattle.table.specs.WellFormed.{wellFormed};
 ghost use Rattle.moves.specs.Moves.{moveOf, called};
-ghost use Rattle.parts.specs.Parts.{parts, assembled, Sized, orderOf};
+ghost use Rattle.parts.specs.Parts.{parts, assembled, Sized, orderOf, isSnap};
 ghost use Rattle.ticketing.specs.Contracts.{Whole, Starts, Turns, Serves};
 use moves::Move;
 use step::Reply;
@@ -37,9 +36,10 @@ fn whole(
 // The scan order, for a move that asks for it.
 fn order_for(m: Move, labels: &[[u8; 31]; 32], n: usize) -> [usize; 32]
     requires { ⌜ Orderly n (now labels) ⌝ }
-    ensures { λ r. ⌜ (moveOf m ≡ snapsScan → r ≡ orderOf n (now (labels .entry))) ⌝ }
+    ensures { λ r. ⌜ (isSnap (moveOf m) ≡ true → r ≡ orderOf n (now (labels .entry))) ⌝ }
 {
     match m {
+        Move::SnapLabel => rows::order::order(labels, n),
         Move::SnapScan => rows::order::order(labels, n),
         _ => [0usize; 32],
     }
@@ -179,7 +179,7 @@ pub extern "C" fn tickets_fresh(
         return 1;
     }
     let label = [1u8; 31];
-    let stations = well_formed::fresh_stations(n as usize);
+    let stations = parts::fresh_row(n as usize);
     let none = [0u32; 32];
     *labels = [label; 32];
     *jobs = none;

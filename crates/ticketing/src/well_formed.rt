@@ -10,7 +10,8 @@ ghost use Rattle.label.specs.Rows.{rowFits};
 ghost use Rattle.table.specs.Results.{blank, freshEntry, sameEntry, resultFits};
 ghost use Rattle.table.specs.WellFormed.{isFresh};
 ghost use Rattle.parts.specs.Parts.{parts, entries, stationAt};
-ghost use Rattle.ticketing.specs.Apart.{recordOf, freshStations, rowsFit, known, sound};
+ghost use Rattle.ticketing.specs.Apart.{recordOf, rowsFit, known, sound};
+ghost use Rattle.parts.specs.Parts.{freshRow};
 
 // Whether each number is one of a phase.
 fn phases_known(phases: &[u8; 32]) -> bool
@@ -70,23 +71,9 @@ fn same_stations(a: [u8; 32], b: &[u8; 32]) -> bool
     r
 }
 
-// The stations of a fresh result of n: 1 to n, and 0s past them.
-pub fn fresh_stations(n: usize) -> [u8; 32]
-    requires { ⌜ n ≤ 32 ⌝ }
-    ensures { λ r. ⌜ r ≡ freshStations n ⌝ }
-{
-    let mut r = [0u8; 32];
-    let mut p: usize = 0;
-    while p < n {
-        r[p] = (p + 1) as u8;
-        p += 1;
-    }
-    r
-}
-
 // Whether a result is that of a fresh station of n, whose stations are `fresh`.
 fn holds_fresh_result(stations: [u8; 32], jobs: [u32; 32], fresh: &[u8; 32]) -> bool
-    ensures { λ r. ⌜ ((n : ℕ) → now (fresh .entry) ≡ freshStations n → r ≡ every 32 (λ p. sameEntry (getD (entries stations jobs) p blank) (freshEntry n p))) ⌝ }
+    ensures { λ r. ⌜ ((n : ℕ) → now (fresh .entry) ≡ freshRow n → r ≡ every 32 (λ p. sameEntry (getD (entries stations jobs) p blank) (freshEntry n p))) ⌝ }
 {
     same_stations(stations, fresh) && no_jobs(jobs)
 }
@@ -102,7 +89,7 @@ fn is_fresh(
     phase: u8,
     fresh: &[u8; 32],
 ) -> bool
-    ensures { λ r. ⌜ ((n : ℕ) → now (fresh .entry) ≡ freshStations n → r ≡ isFresh n (recordOf label job «pending_label» «pending_job» stations jobs phase)) ⌝ }
+    ensures { λ r. ⌜ ((n : ℕ) → now (fresh .entry) ≡ freshRow n → r ≡ isFresh n (recordOf label job «pending_label» «pending_job» stations jobs phase)) ⌝ }
 {
     if !ones(label) {
         return false;
@@ -136,7 +123,7 @@ fn rest_is_fresh(
     requires { ⌜ n ≤ 32 ⌝ }
     ensures { λ r. ⌜ r ≡ every (32 - n) (λ i. isFresh n (stationAt (parts n (now (labels .entry)) (now (jobs .entry)) (now («pending_labels» .entry)) (now («pending_jobs» .entry)) (now («result_stations» .entry)) (now («result_jobs» .entry)) (now (phases .entry))) (n + i))) ⌝ }
 {
-    let fresh = fresh_stations(n);
+    let fresh = parts::fresh_row(n);
     let mut i: usize = 0;
     while i < 32 - n {
         let k = n + i;

@@ -15,14 +15,14 @@ returns c = not-started _ _ (left-no _ (lt-leb 2 _ (c .if1 .taken)))
 returns-2 : tie.Need-returns-2
 returns-2 c = not-started _ _ (right-no (leb 2 (c .before .before .args .n)) (lt-leb _ 32 (c .if2 .taken)))
 
-fresh-stations-requires : tie.Need-fresh-stations-requires
-fresh-stations-requires c κs = search needs
+fresh-row-requires : tie.Need-fresh-row-requires
+fresh-row-requires c κs = search needs
 
 returns-3 : tie.Need-returns-3
 returns-3 c =
     let f = c .before .before .before .before .before in
     let n = f .before .before .before .args .n in
-    started n _ _ (within-of 2 32 n (search needs) (search needs)) (ap (λ s. parts n (replicate 32 (replicate 31 1)) (replicate 32 0) (replicate 32 (replicate 31 1)) (replicate 32 0) (replicate 32 s) (replicate 32 (replicate 32 0)) (replicate 32 0)) (f .fresh-stations .ensures))
+    started n _ _ (within-of 2 32 n (search needs) (search needs)) (ap (λ s. parts n (replicate 32 (replicate 31 1)) (replicate 32 0) (replicate 32 (replicate 31 1)) (replicate 32 0) (replicate 32 s) (replicate 32 (replicate 32 0)) (replicate 32 0)) (f .fresh-row .ensures))
 
 pub tickets-fresh-spec : {M : Type 1} → statement M
-tickets-fresh-spec = tie.close (tie.spec returns returns-2 fresh-stations-requires returns-3)
+tickets-fresh-spec = tie.close (tie.spec returns returns-2 fresh-row-requires returns-3)

@@ -19,8 +19,8 @@ abbrev μ-loop : tie.MeasureT-loop
 μ-loop n labels jobs pending-labels pending-jobs result-stations result-jobs phases fresh i₀ i =
     32 - n - i
 
-fresh-stations-requires : tie.Need-fresh-stations-requires Inv-loop μ-loop
-fresh-stations-requires c κs = search needs
+fresh-row-requires : tie.Need-fresh-row-requires Inv-loop μ-loop
+fresh-row-requires c κs = search needs
 
 loop-holds : tie.Need-loop-holds Inv-loop μ-loop
 loop-holds c = (search needs, every-none _)
@@ -76,7 +76,7 @@ is-fresh-requires c κs = search needs
 returns : tie.Need-returns Inv-loop μ-loop
 returns c =
     let b = c .before .before .before .before .before .before .before .before .before .before in
-    sym (every-no _ _ (b .before .loop .i) (search needs) (was-false (c .before .is-fresh .ensures _ (b .before .before .fresh-stations .ensures)) (c .if1 .taken)))
+    sym (every-no _ _ (b .before .loop .i) (search needs) (was-false (c .before .is-fresh .ensures _ (b .before .before .fresh-row .ensures)) (c .if1 .taken)))
 
 add-i : tie.Need-add-i Inv-loop μ-loop
 add-i c = search needs
@@ -87,7 +87,7 @@ loop-less c = search needs
 loop-again : tie.Need-loop-again Inv-loop μ-loop
 loop-again c =
     let b = c .before .before .before .before .before .before .before .before .before .before in
-    (search needs, every-more _ _ (b .before .loop .inv .1) (was-true (c .before .is-fresh .ensures _ (b .before .before .fresh-stations .ensures)) (c .if1 .left)))
+    (search needs, every-more _ _ (b .before .loop .inv .1) (was-true (c .before .is-fresh .ensures _ (b .before .before .fresh-row .ensures)) (c .if1 .left)))
 
 returns-2 : tie.Need-returns-2 Inv-loop μ-loop
 returns-2 c = every-done _ (c .before .loop .inv .1) (omega arith)
@@ -98,7 +98,7 @@ rest-is-fresh-spec =
     (tie.spec
     Inv-loop
     μ-loop
-    fresh-stations-requires
+    fresh-row-requires
     loop-holds
     sub-loop
     add-k
