@@ -9,13 +9,11 @@ use mathlib.Core.List.{[], _∷_}
 use lib.ListN.{length, getD, take}
 use lib.Seq.{set-getD, length-take-le}
 use mir.Val.{Val}
-use types.Run.{OneOf, miss}
-use denote.Enum.Declared.{tagOf}
 use denote.Shadow.{shadow}
 use lib.Dec.{eqb}
 use borrow.Author.Tests.{ne-eqb, eqb-true}
 use Rattle.label.specs.Tests.{within}
-use Rattle.label.proofs.Facts.{getD-any, within-true, within-of}
+use Rattle.label.proofs.Facts.{getD-any, within-of}
 use Rattle.simulation.specs.Calls as Calls
 use Rattle.simulation.specs.Calls.{Call, judge, numberOf, place, reportLines}
 use Rattle.table.specs.Tables.{at, store}
@@ -24,7 +22,7 @@ use Rattle.table.proofs.Orders.{passed}
 use Rattle.table.proofs.Owned.{stations-long}
 use Rattle.table.proofs.Table.{the-row}
 use Rattle.transition.specs.Steps.{refuse, carryOut, move, stepOf}
-use Rattle.simulation.proofs.Judged.{Roomy, roomy, Own, Verdict, turned, own, verdict}
+use Rattle.simulation.proofs.Judged.{roomy, Own, Verdict, turned, own, verdict}
 use Rattle.moves.specs.Moves.{refusalNumber, moveOf, called, recordMoved, reportSize, placeOf}
 use Rattle.step.specs.Contracts.{recordAfter, due, over, Decides, Steps}
 use Rattle.transition.proofs.View.{step-carries, carried-count}
@@ -33,8 +31,6 @@ use Rattle.moves.proofs.MoveLaws.{place-below, has-room}
 use Rattle.step.proofs.ReportLaws.{length-report-lines}
 use Rattle.step.specs.declared.Decision.{Decision}
 use Rattle.moves.specs.declared.Move.{Move}
-use Rattle.moves.specs.declared.Move.the-variants.{Refused, BeginLabel, BeginScan, SnapLabel, SnapScan, Update, EndLabel, EndScan}
-use Rattle.moves.proofs.Move.{the-type}
 use Rattle.step.specs.declared.Reply.{Reply}
 use Rattle.table.specs.declared.Entry.{Entry}
 use Rattle.table.specs.declared.Phase.{Phase}

@@ -1,21 +1,21 @@
 -- Taking a table apart and making it again: each undoes the other.
-use Prim.Native.Nat.{ℕ, suc, _≤_, _<_}
+use Prim.Native.Nat.{ℕ, _≤_, _<_}
 use native.Mathlib.Decide.{ℕ-discrete, decLt}
 use native.Mathlib.Nat.{zero-add}
 use native.Mathlib.Omega.{arith}
 use mathlib.Core.Path.{_≡_, refl, sym, ap, ap₂, subst, _∙_}
 use mathlib.Core.Logic.{_≢_, by-cases}
-use mathlib.Core.Bool.{Bool, true, false, cond}
+use mathlib.Core.Bool.{true}
 use mathlib.Core.List as Lists
 use mathlib.Core.List.{[]}
 use lib.ListN.{length, getD, replicate, length-set, length-map, length-append, length-replicate, getD-replicate, List·getD-eq-default}
 use lib.Seq.{ext-getD, set-out, getD-set-same, getD-set-other}
-use lib.Dec.{eqb, ltb}
+use lib.Dec.{eqb}
 use borrow.Author.Tests.{eqb-true, leb-true, le-leb}
 use Rattle.label.specs.Tests.{every, tabulate}
-use Rattle.label.proofs.Facts.{every-all, every-at, length-tabulate, getD-tabulate, tabulate-same, replicate-tabulate, ordered-length}
-use Rattle.table.specs.Results.{entry, blank, stored, freshEntry}
-use Rattle.table.specs.Tables.{freshStation, freshTable, at, store, scanOf}
+use Rattle.label.proofs.Facts.{every-all, every-at, length-tabulate, getD-tabulate, ordered-length}
+use Rattle.table.specs.Results.{entry, blank, stored}
+use Rattle.table.specs.Tables.{freshStation, at, store, scanOf}
 use Rattle.table.specs.WellFormed.{wellFormed}
 use Rattle.table.proofs.Orders.{passed}
 use Rattle.simulation.specs.Calls.{Call, Move, place}

@@ -1,9 +1,9 @@
 -- A table taken apart, as a program in another language holds it.
-use Prim.Native.Nat.{ℕ, suc, _-_}
-use mathlib.Core.Bool.{Bool, _&&_, cond}
+use Prim.Native.Nat.{ℕ, _-_}
+use mathlib.Core.Bool.{Bool, _&&_}
 use mathlib.Core.List as Lists
 use lib.ListN.{getD}
-use lib.Dec.{leb, ltb}
+use lib.Dec.{leb}
 use Rattle.label.specs.Tests.{every, tabulate}
 use Rattle.label.specs.Rows.{rowFits}
 use Rattle.table.specs.Results.{blank, resultFits}

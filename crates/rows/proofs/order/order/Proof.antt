@@ -3,7 +3,7 @@ use mathlib.Core.Path.{_≡_, refl, sym, ap, _∙_}
 use native.Mathlib.Omega.{arith}
 use Rattle.label.specs.Tests.{ordered}
 use Rattle.rows.specs.Held.{standsIn}
-use Rattle.rows.proofs.OrderLaws.{orderly-total, orderIn, order-front, order-long, order-others, order-sorted, order-turns, put-in}
+use Rattle.rows.proofs.OrderLaws.{orderly-total, orderIn, order-long, order-others, order-sorted, order-turns, put-in}
 use borrow.Author.Needs.{needs}
 use Rattle.rows.proofs.order.order.Statement.{statement}
 use Rattle.rows.proofs.order.order.Tie as tie
