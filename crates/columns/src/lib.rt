@@ -1,8 +1,9 @@
 // Columns of fixed width: decimal numbers at the right edge, blanks before them.
 ghost use mathlib.Core.Path.{_≡_};
+ghost use mathlib.Core.List.{_++_};
 ghost use Prim.Native.Nat.{_≤_, _<_, _^_};
 ghost use lib.ListN.{length};
-ghost use Rattle.columns.specs.Columns.{column, reportLine};
+ghost use Rattle.columns.specs.Columns.{column, lineHead, lineTail, reportLine};
 ghost use Rattle.columns.specs.Reading.{columnRead};
 ghost use Rattle.columns.specs.Scanning.{withDigit, withFront};
 
@@ -88,6 +89,26 @@ pub fn write_column(out: &mut [u8], v: u64)
     }
 }
 
+// Fills the 11 bytes of the head of a report line.
+pub fn write_head(out: &mut [u8], line: u64, refusal: u64)
+    requires { ⌜ length (now out) ≡ 11 ⌝ }
+    ensures { λ _. ⌜ now (out .exit) ≡ lineHead line refusal ⌝ }
+{
+    write_column(&mut out[0..8], line);
+    write_column(&mut out[8..11], refusal);
+}
+
+// Fills the 18 bytes after it.
+fn write_tail(out: &mut [u8], place: u64, station: u64, job: u64)
+    requires { ⌜ length (now out) ≡ 18 ⌝ }
+    ensures { λ _. ⌜ now (out .exit) ≡ lineTail place station job ⌝ }
+{
+    write_column(&mut out[0..3], place);
+    write_column(&mut out[3..6], station);
+    write_column(&mut out[6..17], job);
+    out[17] = 10;
+}
+
 // Fills the 29 bytes of a report line.
 pub fn write_report_line(
     out: &mut [u8],
@@ -100,10 +121,27 @@ pub fn write_report_line(
     requires { ⌜ length (now out) ≡ 29 ⌝ }
     ensures { λ _. ⌜ now (out .exit) ≡ reportLine line refusal place station job ⌝ }
 {
-    write_column(&mut out[0..8], line);
-    write_column(&mut out[8..11], refusal);
-    write_column(&mut out[11..14], place);
-    write_column(&mut out[14..17], station);
-    write_column(&mut out[17..28], job);
-    out[28] = 10;
+    write_head(&mut out[0..11], line, refusal);
+    write_tail(&mut out[11..29], place, station, job);
+}
+
+// Copies a head.
+fn copy_head(out: &mut [u8], head: [u8; 11])
+    requires { ⌜ length (now out) ≡ 11 ⌝ }
+    ensures { λ _. ⌜ now (out .exit) ≡ head ⌝ }
+{
+    let mut i = 0;
+    while i < 11 {
+        out[i] = head[i];
+        i += 1;
+    }
+}
+
+// Fills the 29 bytes of a report line with a head that is made already.
+pub fn write_listed_line(out: &mut [u8], head: [u8; 11], place: u64, station: u8, job: u32)
+    requires { ⌜ length (now out) ≡ 29 ⌝ }
+    ensures { λ _. ⌜ now (out .exit) ≡ head ++ lineTail place station job ⌝ }
+{
+    copy_head(&mut out[0..11], head);
+    write_tail(&mut out[11..29], place, station as u64, job as u64);
 }

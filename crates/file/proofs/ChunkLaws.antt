@@ -28,7 +28,7 @@ use Rattle.parts.specs.Parts.{Parts, assembled}
 use Rattle.schedule.specs.Lines.{lineRead}
 use Rattle.schedule.specs.Sessions.{session, closed, byHeader, headerOf, Served, isFinal, refused, nextLine, stepLine}
 use Rattle.file.specs.Files.{cut, pieces, printed, headerPrinted, runLines, fileReport}
-use Rattle.file.specs.Contracts.{Prints, Runs}
+use Rattle.file.specs.Contracts.{Prints, behind, ahead, Reports}
 use Rattle.schedule.proofs.SessionLaws.{serve-next, next-within}
 use Rattle.schedule.specs.declared.Line.{Line}
 use Rattle.file.proofs.FileTheorem.{Numbered, next-numbered, Opened, opened}
@@ -41,10 +41,6 @@ next-refused : (lines : ℕ) (l : Lists.List ℕ) (r : Refusal) → nextLine lin
 next-refused lines l r e = subst Numbered e (next-numbered lines l)
 
 -- RUNS
-
--- a run with these bytes printed before it
-abbrev pub behind : Lists.List ℕ → Served → Served
-behind bytes o = record { session = o .session; refusal = o .refusal; bytes = bytes ++ o .bytes }
 
 -- nothing follows a final refusal
 pub final-run : (s : Session) (ls : Lists.List (Lists.List ℕ)) → refusalNumber (s .refusal) ≢ 0 → runLines s ls ≡ refused s (refusalNumber (s .refusal))
@@ -115,10 +111,6 @@ printed-refusal number refusal = go (eqb refusal 0)
 
 -- PLACES
 
--- lines from a place on
-abbrev ahead : Lists.List ℕ → ℕ → ℕ
-ahead chunk at = (length chunk - at + 17) / 18
-
 module _ (chunk : Lists.List ℕ) (at : ℕ) (h : at < length chunk) where
   abbrev line : Lists.List ℕ
   line = take 18 (drop at chunk)
@@ -150,16 +142,22 @@ module _ (chunk : Lists.List ℕ) (at : ℕ) (h : at < length chunk) where
 
 pub record Sofar (s : Session) (chunk out₀ : Lists.List ℕ) (t : Table) (lines written at : ℕ) (out : Lists.List ℕ) : Type 0 where
   pub within : at ≤ length chunk
-  pub room : written + 928 * ahead chunk at ≤ length out₀
+  pub room : written ≤ length out₀
+  pub short : written + 928 * ahead chunk at ≤ 928 * pieces chunk
+  pub counted : lines + ahead chunk at ≡ s .lines + pieces chunk
+  pub low : s .lines ≤ 1000001 → lines ≤ 1000001
   pub bytes : Lists.List ℕ
   pub long : written ≡ length bytes
   pub area : out ≡ over bytes out₀
   pub runs : runLines s (cut (pieces chunk) chunk) ≡ behind bytes (runLines (session lines Accepted t) (cut (ahead chunk at) (drop at chunk)))
 
-pub sofar-start : (lines : ℕ) (t : Table) (chunk out : Lists.List ℕ) → 928 * pieces chunk ≤ length out → Sofar (session lines Accepted t) chunk out t lines 0 0 out
-sofar-start lines t chunk out h = record {
+pub sofar-start : (lines : ℕ) (t : Table) (chunk out : Lists.List ℕ) → Sofar (session lines Accepted t) chunk out t lines 0 0 out
+sofar-start lines t chunk out = record {
   within = omega arith;
   room = omega arith;
+  short = omega arith;
+  counted = omega arith;
+  low = λ h. h;
   bytes = [];
   long = refl;
   area = refl;
@@ -170,17 +168,26 @@ module _ {s : Session} {chunk out₀ : Lists.List ℕ} {t : Table} {lines writte
   pub as-long : length out ≡ length out₀
   as-long = rw (f .area) (length-over (f .bytes) out₀ (omega (arith, f .long, f .room)))
 
-  -- the run is over
-  pub sofar-end : (r : Progress) → r .lines ≡ lines → r .refusal ≡ Accepted → r .written ≡ written → length chunk ≤ at → Runs (runLines s (cut (pieces chunk) chunk)) t r out₀ out
-  unfolding cut runLines
-  sofar-end r e v w h =
-      let none : ahead chunk at ≡ 0 = omega arith in
-      let q : runLines s (cut (pieces chunk) chunk) ≡ behind (f .bytes) (refused (session lines Accepted t) 0) = f .runs ∙ rw none refl in
-      rw (q, append-nil) (record { session = rw (e, v) refl; refusal = ap refusalNumber v; written = w ∙ f .long; report = f .area })
+  pub inside : written ≤ length out
+  inside = omega (arith, as-long, f .room)
 
-  module _ (h : at < length chunk) where
+  -- all lines are served, or there is no room for another
+  pub sofar-end : (r : Progress) → r .lines ≡ lines → r .refusal ≡ Accepted → r .read ≡ at → r .written ≡ written → (length chunk ≤ at) ⊎ (length out - written < 928)
+      → Reports s chunk t r out₀ out
+  sofar-end r e v u w h = record {
+    within = rw u (f .within);
+    bytes = f .bytes;
+    written = w ∙ f .long;
+    report = f .area;
+    runs = rw (e, v, u) (f .runs);
+    short = rw (u, w) (f .short);
+    counted = λ z. rw (u, e) (f .counted, f .low);
+    stops = inr (⊎-elim (λ x. inl (omega (arith, u, f .within))) (λ x. inr (omega (arith, w, as-long, f .room))) h);
+  }
+
+  module _ (h : at < length chunk) (free : 928 ≤ length out - written) where
     pub room-here : written + 928 ≤ length out
-    room-here = omega (arith, as-long, f .room, line-within chunk at h)
+    room-here = omega (arith, inside)
 
     pub at-next : (l : Lists.List ℕ) → l ≡ take 18 (drop at chunk) → (at + length l ≤ length chunk) × (0 < length l)
     at-next l p = rw p (line-within chunk at h .0, line-within chunk at h .1)
@@ -188,24 +195,31 @@ module _ {s : Session} {chunk out₀ : Lists.List ℕ} {t : Table} {lines writte
     module _ (reached : Reached t) (l : Lists.List ℕ) (p : l ≡ take 18 (drop at chunk)) (k : ℕ) (e : k ≡ 928) where
       -- what is put in behind the bytes so far
       put : (x : Lists.List ℕ) → length x ≤ 928 → putMid written k out (over x (midOf written k out)) ≡ over (f .bytes ++ x) out₀
-      put x short = rw (f .area, e, f .long) (put-over (f .bytes) x out₀ 928 short (omega (arith, f .long, f .room, line-within chunk at h)))
+      put x short = rw (f .area, e, f .long) (put-over (f .bytes) x out₀ 928 short (omega (arith, f .long, as-long, room-here)))
 
       -- a line that is refused for good
       pub sofar-stop : (r : Refusal) (n : ℕ) (x : Lists.List ℕ) (o : Progress) → nextLine lines l ≡ Refused r → n ≡ length (printed (lines + 1) (refusalNumber r) [])
-          → x ≡ over (printed (lines + 1) (refusalNumber r) []) (midOf written k out) → o .lines ≡ lines → o .refusal ≡ r → o .written ≡ written + n
-          → Runs (runLines s (cut (pieces chunk) chunk)) t o out₀ (putMid written k out x)
-      sofar-stop r n x o a b c u v w =
+          → x ≡ over (printed (lines + 1) (refusalNumber r) []) (midOf written k out) → o .lines ≡ lines → o .refusal ≡ r → o .read ≡ at + length l → o .written ≡ written + n
+          → Reports s chunk t o out₀ (putMid written k out x)
+      sofar-stop r n x o a b c u v y w =
           let bytes = printed (lines + 1) (refusalNumber r) [] in
-          let q : runLines s (cut (pieces chunk) chunk) ≡ record { session = session lines r t; refusal = refusalNumber r; bytes = f .bytes ++ bytes } =
-          f .runs
-          ∙ ap (λ ls. behind (f .bytes) (runLines (session lines Accepted t) ls)) (cut-line chunk at h)
-          ∙ ap (behind (f .bytes)) (run-refused (session lines Accepted t) (take 18 (drop at chunk)) _ refl reached r (rw p at a)) in
-          rw q (record {
-            session = rw (u, v) refl;
-            refusal = ap refusalNumber v;
+          let d = next-refused lines l r a in
+          let low : length bytes ≤ 29 = printed-refusal (lines + 1) (refusalNumber r) in
+          let rest = cut (ahead chunk (at + length l)) (drop (at + length l) chunk) in
+          record {
+            within = rw y (at-next l p .0);
+            bytes = f .bytes ++ bytes;
             written = omega (arith, w, b, f .long, length-append (f .bytes) bytes);
-            report = rw c (put bytes (omega (arith, printed-refusal (lines + 1) (refusalNumber r))));
-          })
+            report = rw c (put bytes (omega (arith, low)));
+            runs =
+                f .runs
+                ∙ ap (λ ls. behind (f .bytes) (runLines (session lines Accepted t) ls)) (cut-line chunk at h)
+                ∙ ap (behind (f .bytes)) (run-refused (session lines Accepted t) (take 18 (drop at chunk)) _ refl reached r (rw p at a))
+                ∙ rw (u, v, y, final-run (session lines r t) rest d, append-nil) refl;
+            short = rw (y, p) (omega (arith, w, b, low, f .short, line-within chunk at h));
+            counted = λ z. absurd (d (sym (ap refusalNumber v) ∙ z));
+            stops = inl (λ z. d (sym (ap refusalNumber v) ∙ z));
+          }
 
       -- a line that is served
       pub sofar-more : (station code job : ℕ) → nextLine lines l ≡ Step station code job → (t′ : Table) (n : ℕ) (x : Lists.List ℕ) → let c = called (lines + 1) code station job 928 in
@@ -214,13 +228,16 @@ module _ {s : Session} {chunk out₀ : Lists.List ℕ} {t : Table} {lines writte
       sofar-more station code job a t′ n x u v w y =
           let c = called (lines + 1) code station job 928 in
           let mid : length (midOf written k out) ≡ 928 = length-take-le k (drop written out) (rw length-drop (omega (arith, e, room-here))) ∙ e in
-          let short : length (shownOf t c) ≤ 928 = omega (arith, over-short (shownOf t c) (midOf written k out) x w y, mid) in
+          let few : length (shownOf t c) ≤ 928 = omega (arith, over-short (shownOf t c) (midOf written k out) x w y, mid) in
           record {
             within = at-next l p .0;
-            room = rw p (omega (arith, v, f .room, line-within chunk at h, short));
+            room = omega (arith, v, few, as-long, room-here);
+            short = rw p (omega (arith, v, few, f .short, line-within chunk at h));
+            counted = rw p (omega (arith, f .counted, line-within chunk at h));
+            low = λ _. omega (arith, next-within lines l station code job a);
             bytes = f .bytes ++ shownOf t c;
             long = omega (arith, v, f .long, length-append (f .bytes) (shownOf t c));
-            area = rw w (put (shownOf t c) short);
+            area = rw w (put (shownOf t c) few);
             runs =
                 f .runs
                 ∙ ap (λ ls. behind (f .bytes) (runLines (session lines Accepted t) ls)) (cut-line chunk at h)
@@ -228,54 +245,41 @@ module _ {s : Session} {chunk out₀ : Lists.List ℕ} {t : Table} {lines writte
                 ∙ rw (u, p, append-assoc) refl;
           }
 
--- HOW MANY LINES ARE COUNTED
+-- WHAT A CALLER HAS OF IT
 
--- lines that no final refusal ends are counted, all of them, and there are not too many
-abbrev Counted : Session → Lists.List (Lists.List ℕ) → Type 0
-Counted s ls = Reached (s .table) → s .lines ≤ 1000001 → runLines s ls .refusal ≡ 0 → (runLines s ls .session .lines ≡ s .lines + length ls) × (s .lines + length ls ≤ 1000001)
+module _ {s : Session} {chunk : Lists.List ℕ} {t : Table} {r : Progress} {buffer buffer′ : Lists.List ℕ} (f : Reports s chunk t r buffer buffer′) where
+  -- with room for all lines, the whole run is printed
+  pub reports-all : 928 * pieces chunk ≤ length buffer → Printed (r .written) (runLines s (cut (pieces chunk) chunk) .bytes) buffer buffer′
+  unfolding cut runLines
+  reports-all h = rw (ap (λ o. o .bytes) (f .runs) ∙ ap (λ (x : Lists.List ℕ). f .bytes ++ x) none ∙ append-nil (f .bytes)) (f .written, f .report)
+    where
+      rest : Lists.List (Lists.List ℕ)
+      rest = cut (ahead chunk (r .read)) (drop (r .read) chunk)
 
-run-counted : (ls : Lists.List (Lists.List ℕ)) (s : Session) → Counted s ls
-unfolding runLines
-run-counted [] s g m z = (omega arith, omega arith)
-run-counted (l ∷ ls) s g m z = go (eqb (refusalNumber (s .refusal)) 0) refl (run-counted ls)
-  where
-    served : ((s′ : Session) → Counted s′ ls) → (w : Line) → nextLine (s .lines) l ≡ w → runLines (stepLine s 928 w .session) ls .refusal ≡ 0
-        → (runLines (stepLine s 928 w .session) ls .session .lines ≡ s .lines + suc (length ls)) × (s .lines + suc (length ls) ≤ 1000001)
-    served ih (Refused r) e y = let n = next-refused (s .lines) l r e in absurd (n (sym (ap (λ o. o .refusal) (final-run (session (s .lines) r (s .table)) ls n)) ∙ y))
-    served ih (Step st k j) e y =
-        let c = called (s .lines + 1) k st j 928 in
-        let reached : Reached (stepOf (s .table) c .table) = stepped-reached (s .table) g c in
-        let n = next-within (s .lines) l st k j e in
-        let more = ih (stepLine s 928 (Step st k j) .session) reached (omega arith) y in
-        (more .0 ∙ omega arith, omega (arith, more .1))
+      over-now : r .read ≡ length chunk → runLines (session (r .lines) (r .refusal) t) rest .bytes ≡ []
+      over-now e = let z : ahead chunk (r .read) ≡ 0 = omega arith in rw z refl
 
-    go : (b : Bool) → eqb (refusalNumber (s .refusal)) 0 ≡ b → ((s′ : Session) → Counted s′ ls)
-        → (runLines s (l ∷ ls) .session .lines ≡ s .lines + suc (length ls)) × (s .lines + suc (length ls) ≤ 1000001)
-    go true b ih = let e = run-next s l ls (eqb-true _ _ b) g in rw e (served ih (nextLine (s .lines) l) refl (rw e at z))
-    go false b ih = let d = eqb-false _ _ b in absurd (d (sym (ap (λ o. o .refusal) (final-run s (l ∷ ls) d)) ∙ z))
+      none : runLines (session (r .lines) (r .refusal) t) rest .bytes ≡ []
+      none = ⊎-elim (λ d. ap (λ o. o .bytes) (final-run (session (r .lines) (r .refusal) t) rest d))
+          (⊎-elim over-now (λ x. over-now (omega (arith, x, h, f .short, f .within))))
+          (f .stops)
 
-length-cut : (k : ℕ) (bs : Lists.List ℕ) → length (cut k bs) ≡ k
-unfolding cut
-length-cut zero bs = refl
-length-cut (suc k) bs = ap suc (length-cut k (drop 18 bs))
+  pub reports-inside : r .written ≤ length buffer′
+  reports-inside = omega (arith, f .written, ap length (f .report) ∙ length-append (f .bytes) (drop (length (f .bytes)) buffer))
 
--- a part that leaves no refusal has taken the count further
-pub part-counted : (lines : ℕ) (t t′ : Table) (chunk out out′ : Lists.List ℕ) (r : Progress) → Reached t → lines ≤ 1000001 → 0 < length chunk
-    → Runs (runLines (session lines Accepted t) (cut (pieces chunk) chunk)) t′ r out out′ → refusalNumber (r .refusal) ≡ 0 → (lines < r .lines) × (r .lines ≤ 1000001)
-part-counted lines t t′ chunk out out′ r g m h f z =
-    let n = run-counted (cut (pieces chunk) chunk) (session lines Accepted t) g m (sym (f .refusal) ∙ z) in
-    let l = length-cut (pieces chunk) chunk in
-    let e = ap (λ x. x .lines) (f .session) in
-    (omega (arith, n), omega (arith, n))
+  -- with room for a line, something is read
+  pub reports-on : 0 < length chunk → 928 ≤ length buffer → refusalNumber (r .refusal) ≡ 0 → 0 < r .read
+  reports-on h m z = ⊎-elim (λ d. absurd (d z)) (⊎-elim (λ e. omega (arith, e)) (λ x. go (leb 1 (r .read)) refl x)) (f .stops)
+    where
+      go : (b : Bool) → leb 1 (r .read) ≡ b → length buffer < r .written + 928 → 0 < r .read
+      go true e x = omega (arith, leb-true 1 (r .read) e)
+      go false e x = absurd (omega (arith, leb-false 1 (r .read) e, x, m, f .short))
 
 -- THE ENDS OF A FILE
 
 -- what is written lies within the buffer
 pub printed-inside : (n : ℕ) (bytes buffer buffer′ : Lists.List ℕ) → Printed n bytes buffer buffer′ → n ≤ length buffer′
 printed-inside n bytes buffer buffer′ p = omega (arith, p .0, ap length (p .1) ∙ length-append bytes (drop (length bytes) buffer))
-
-pub runs-inside : {o : Served} {t : Table} {r : Progress} {buffer buffer′ : Lists.List ℕ} → Runs o t r buffer buffer′ → r .written ≤ length buffer′
-runs-inside {o} {t} {r} {buffer} {buffer′} f = printed-inside (r .written) (o .bytes) buffer buffer′ (f .written, f .report)
 
 -- an accepted header prints nothing, and opens a session on the fresh table of its count
 pub header-accepted : (s : Session) (l : Lists.List ℕ) → s ≡ headerOf l → length (headerPrinted s) ≡ 0 → Opened s

@@ -12,7 +12,8 @@ use lib.Seq.{take-append-le, drop-append-le, take-at, drop-at, take-all}
 use Rattle.moves.specs.Moves.{refusalNumber}
 use Rattle.schedule.specs.Sessions.{headerOf, refused, isFinal, serveOf}
 use Rattle.file.specs.Files.{cut, pieces, printed, runLines, headerPrinted, fileReport}
-use Rattle.file.proofs.ChunkLaws.{behind, final-run}
+use Rattle.file.specs.Contracts.{behind}
+use Rattle.file.proofs.ChunkLaws.{final-run}
 use Rattle.schedule.specs.declared.Session.{Session}
 
 -- LINES IN TWO GROUPS: the second goes on with the session that the first leaves

@@ -12,18 +12,19 @@ ghost use Rattle.table.specs.Tables.{freshTable};
 ghost use Rattle.parts.specs.Parts.{parts, assembled, orderOf};
 ghost use Rattle.schedule.specs.Sessions.{session};
 ghost use Rattle.file.specs.Files.{cut, pieces, printed, headerPrinted, runLines, fileReport};
-ghost use Rattle.file.specs.Contracts.{isUpdate, Runnable, Prints, Runs};
+ghost use Rattle.file.specs.Contracts.{isUpdate, Runnable, Prints, Reports};
 use moves::Move;
 use moves::Refusal;
 use schedule::Line;
 use schedule::Session;
 use schedule::next_line;
 
-// What the lines of a part of the file leave beside the table and the output buffer: how many lines are counted, the final refusal if there is one, and
-// the bytes that they print.
+// What the lines of a part of the file leave beside the table and the output buffer: how many lines are counted, the final refusal if there is one, the
+// bytes of the part that were read, and the bytes that were printed.
 pub struct Progress {
     pub lines: u32,
     pub refusal: Refusal,
+    pub read: usize,
     pub written: usize,
 }
 
@@ -149,7 +150,8 @@ fn serve_line(
     print_refusal(lines, refusal, out)
 }
 
-// Serves the lines of a part of the file after `lines` others, up to a final refusal, and writes what they print.
+// Serves the lines of a part of the file after `lines` others, and writes what they print: up to a final refusal, or until there is no room for the report
+// of another line.
 pub fn report_lines(
     lines: u32,
     n: usize,
@@ -165,14 +167,21 @@ pub fn report_lines(
     out: &mut [u8],
 ) -> Progress
     requires { ⌜ Runnable (parts n (now labels) (now jobs) (now «pending_labels») (now «pending_jobs») (now «result_stations») (now «result_jobs») (now phases)) (now order) ⌝ }
-    requires { ⌜ 928 * pieces (now chunk) ≤ length (now out) ⌝ }
-    ensures { λ r. ⌜ Runs (runLines (session lines Accepted (assembled (parts n (now (labels .entry)) (now (jobs .entry)) (now («pending_labels» .entry)) (now («pending_jobs» .entry)) (now («result_stations» .entry)) (now («result_jobs» .entry)) (now (phases .entry))))) (cut (pieces (now (chunk .entry))) (now (chunk .entry)))) (assembled (parts n (now (labels .exit)) (now (jobs .exit)) (now («pending_labels» .exit)) (now («pending_jobs» .exit)) (now («result_stations» .exit)) (now («result_jobs» .exit)) (now (phases .exit)))) r (now (out .entry)) (now (out .exit)) ⌝ }
+    ensures { λ r. ⌜ Reports (session lines Accepted (assembled (parts n (now (labels .entry)) (now (jobs .entry)) (now («pending_labels» .entry)) (now («pending_jobs» .entry)) (now («result_stations» .entry)) (now («result_jobs» .entry)) (now (phases .entry))))) (now (chunk .entry)) (assembled (parts n (now (labels .exit)) (now (jobs .exit)) (now («pending_labels» .exit)) (now («pending_jobs» .exit)) (now («result_stations» .exit)) (now («result_jobs» .exit)) (now (phases .exit)))) r (now (out .entry)) (now (out .exit)) ⌝ }
     ensures { λ _. ⌜ Runnable (parts n (now (labels .exit)) (now (jobs .exit)) (now («pending_labels» .exit)) (now («pending_jobs» .exit)) (now («result_stations» .exit)) (now («result_jobs» .exit)) (now (phases .exit))) (now (order .exit)) ⌝ }
 {
     let mut count = lines;
     let mut written = 0;
     let mut at = 0;
     while at < chunk.len() {
+        if out.len() - written < 928 {
+            return Progress {
+                lines: count,
+                refusal: Refusal::Accepted,
+                read: at,
+                written,
+            };
+        }
         let line = line_at(chunk, at);
         match next_line(count, line) {
             Line::Refused(refusal) => {
@@ -180,6 +189,7 @@ pub fn report_lines(
                 return Progress {
                     lines: count,
                     refusal,
+                    read: at + line.len(),
                     written: written + k,
                 };
             }
@@ -209,6 +219,7 @@ pub fn report_lines(
     Progress {
         lines: count,
         refusal: Refusal::Accepted,
+        read: at,
         written,
     }
 }

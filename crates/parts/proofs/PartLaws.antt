@@ -1,5 +1,5 @@
 -- Arrays that hold the parts of a table: what a store in them makes of the table, and when a call on them is served as the table's step says.
-use Prim.Native.Nat.{ℕ, zero, suc, _+_, _*_, _≤_, _<_}
+use Prim.Native.Nat.{ℕ, zero, suc, _+_, _-_, _*_, _≤_, _<_}
 use native.Mathlib.Nat.{zero-add}
 use native.Mathlib.Omega.{arith}
 use native.Mathlib.Decide.{ℕ-discrete}
@@ -7,14 +7,16 @@ use mathlib.Core.Path.{_≡_, refl, sym, ap, ap₂, subst, _∙_}
 use mathlib.Core.Logic.{_≢_, _⊎_, inl, inr, ⊎-elim, by-cases}
 use mathlib.Core.Bool.{Bool, true, false, cond}
 use mathlib.Core.List as Lists
-use mathlib.Core.List.{[], _∷_}
+use mathlib.Core.List.{[], _∷_, _++_}
 use lib.ListN.{length, getD, set, take, length-set}
 use lib.Seq.{set-getD, getD-set-same, getD-set-other}
 use lib.Dec.{ltb}
-use borrow.Author.Tests.{lt-ltb, ne-eqb}
+use borrow.Author.Tests.{ne-eqb}
+use borrow.Rule.Slice.PartMut.{putMid}
+use Rattle.columns.specs.Columns.{lineHead, lineTail, reportLine}
 use Rattle.label.specs.Tests.{tabulate}
 use Rattle.label.specs.Rows.{digit}
-use Rattle.label.proofs.Facts.{length-tabulate, getD-tabulate, tabulate-same, take-tabulate, set-tabulate}
+use Rattle.label.proofs.Facts.{length-tabulate, getD-tabulate, tabulate-same, set-tabulate}
 use Rattle.label.proofs.Filled.{filled, filled-none, filled-more}
 use Rattle.rows.specs.Held.{standsIn, Orderly, pendingIn}
 use Rattle.rows.proofs.OrderLaws.{order-front, order-long}
@@ -32,6 +34,7 @@ use Rattle.moves.specs.Moves.{refusalNumber, recordMoved, called, reportSize, p
 use Rattle.step.specs.Contracts.{recordAfter, due, over, Steps}
 use Rattle.moves.proofs.MoveLaws.{place-below}
 use Rattle.step.proofs.StepLaws.{Made, judged, report-long}
+use Rattle.step.proofs.ReportLaws.{one-line-more}
 use Rattle.parts.specs.Parts.{Parts, parts, phaseOf, entries, stationAt, assembled, Sized, Phased, orderOf, Carries}
 use Rattle.table.specs.declared.Entry.{Entry}
 use Rattle.table.specs.declared.Phase.{Phase}
@@ -142,11 +145,16 @@ ordered-entries n order jobs stations results h long e f = tabulate-same 32 0 _ 
         go true = refl
         go false = refl
 
--- the first n entries, in an array that holds no more
-pub entries-front : (n : ℕ) (stations jobs : Lists.List ℕ) (r : Lists.List Entry) → n ≤ 32 → r ≡ filled 32 n (λ q. entry (getD stations q 0) (getD jobs q 0)) blank → take n r ≡ take n (entries stations jobs)
-unfolding entries
-entries-front n stations jobs r h e =
-    rw e (take-tabulate n 32 0 _ h ∙ tabulate-same n 0 _ _ (λ q l. rw (lt-ltb q n (omega arith)) refl) ∙ sym (take-tabulate n 32 0 _ h))
+-- the report line of entry k, made with the head of all of them, put behind the k lines before it
+pub one-row-more : (line : ℕ) (stations jobs : Lists.List ℕ) (k : ℕ) (head out buffer x : Lists.List ℕ) → k < 32 → head ≡ lineHead line 0
+    → out ≡ over (reportLines line 1 (take k (entries stations jobs))) buffer → x ≡ head ++ lineTail (k + 1) (getD stations k 0) (getD jobs k 0)
+    → putMid (k * 29) (k * 29 + 29 - k * 29) out x ≡ over (reportLines line 1 (take (k + 1) (entries stations jobs))) buffer
+unfolding reportLine entries
+one-row-more line stations jobs k head out buffer x h d o e =
+    let f : ℕ → Entry = λ q. entry (getD stations q 0) (getD jobs q 0) in
+    let a : f k ≡ getD (entries stations jobs) k blank = sym (getD-tabulate 32 0 k f blank h ∙ ap f (zero-add k)) in
+    let g : x ≡ reportLine line 0 (k + 1) (f k .station) (f k .job) = e ∙ ap (λ (y : Lists.List ℕ). y ++ lineTail (k + 1) (f k .station) (f k .job)) d in
+    one-line-more line (entries stations jobs) k blank out buffer x o (g ∙ ap (λ (y : Entry). reportLine line 0 (k + 1) (y .station) (y .job)) a) (omega (arith, length-tabulate 32 0 f))
 
 -- MOVES
 
@@ -260,20 +268,18 @@ module _ (p : Parts) (z : Sized p) (ok : wellFormed (assembled p) ≡ true) wher
           (λ i. parts (p .count) (set (p .labels) k (K (p .pendingLabels) [])) (set (p .jobs) k (K (p .pendingJobs) 0)) (keep (p .pendingLabels) k [] i) (keep (p .pendingJobs) k 0 i) (keep (p .resultStations) k [] i) (keep (p .resultJobs) k [] i) (set (p .phases) k 4))
           (ap updated (sym here)) (inl (omega arith)) (λ d. absurd (d refl)) no (done .1) refl
 
-    pub carries-end-scan : (l : Lists.List Entry) (buffer′ : Lists.List ℕ) → (r .refusal ≡ Accepted) × (r .written ≡ p .count * 29)
-        → l ≡ filled 32 (p .count) (λ q. entry (getD (K (p .resultStations) []) q 0) (getD (K (p .resultJobs) []) q 0)) blank
-        → buffer′ ≡ over (reportLines line 1 (take (p .count) l)) buffer → Carries p k job Calls.Move.endsScan line buffer
+    pub carries-end-scan : (buffer′ : Lists.List ℕ) → (r .refusal ≡ Accepted) × (r .written ≡ p .count * 29)
+        → buffer′ ≡ over (reportLines line 1 (take (p .count) (entries (K (p .resultStations) []) (K (p .resultJobs) [])))) buffer → Carries p k job Calls.Move.endsScan line buffer
         (parts (p .count) (p .labels) (p .jobs) (p .pendingLabels) (p .pendingJobs) (p .resultStations) (p .resultJobs) (set (p .phases) k 0)) r buffer′
     unfolding assembled recordAfter recordMoved
-    carries-end-scan l buffer′ done e b = carried k job Calls.Move.endsScan line buffer _ r buffer′ h
+    carries-end-scan buffer′ done b = carried k job Calls.Move.endsScan line buffer _ r buffer′ h
         (K (p .labels) []) (K (p .jobs) 0) (K (p .pendingLabels) []) (K (p .pendingJobs) 0) (K (p .resultStations) []) (K (p .resultJobs) []) 0
         (λ i. parts (p .count) (keep (p .labels) k [] i) (keep (p .jobs) k 0 i) (keep (p .pendingLabels) k [] i) (keep (p .pendingJobs) k 0 i) (keep (p .resultStations) k [] i) (keep (p .resultJobs) k [] i) (set (p .phases) k 0))
         (ap (λ (s : Station). inPhase s Idle) (sym here)) (inl (omega arith)) (λ _. refl) (ap refusalNumber (done .0)) (done .1)
         (b ∙ ap (λ (x : Lists.List ℕ). over x buffer) shown)
       where
-        shown : reportLines line 1 (take (p .count) l) ≡ due (p .count * 29) line (take (p .count) (at t k .«scan_result»))
-        shown = rw (ne-eqb (p .count * 29) 0 (λ y. omega (arith, passed t ok .low)))
-            (ap (reportLines line 1) (entries-front (p .count) (K (p .resultStations) []) (K (p .resultJobs) []) l (passed t ok .high) e ∙ ap (λ (s : Station). take (p .count) (s .«scan_result»)) (sym here)))
+        shown : reportLines line 1 (take (p .count) (entries (K (p .resultStations) []) (K (p .resultJobs) []))) ≡ due (p .count * 29) line (take (p .count) (at t k .«scan_result»))
+        shown = rw (ne-eqb (p .count * 29) 0 (λ y. omega (arith, passed t ok .low))) (ap (λ (s : Station). reportLines line 1 (take (p .count) (s .«scan_result»))) (sym here))
 
   -- CALLS
 

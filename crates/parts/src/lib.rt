@@ -1,18 +1,19 @@
 // The step call on a table that is taken apart: its arrays are lent, and nothing is copied but what changes.
 ghost use mathlib.Core.Path.{_≡_};
 ghost use mathlib.Core.Bool.{cond};
-ghost use Prim.Native.Nat.{ℕ, suc, _≤_, _<_};
-ghost use lib.ListN.{length, getD};
+ghost use mathlib.Core.List.{[]};
+ghost use Prim.Native.Nat.{ℕ, suc, _*_, _≤_, _<_};
+ghost use lib.ListN.{length, getD, take};
 ghost use lib.Dec.{ltb};
 ghost use Rattle.label.specs.Tests.{tabulate};
-ghost use Rattle.table.specs.Results.{entry, blank};
+ghost use Rattle.simulation.specs.Calls.{reportLines};
 ghost use Rattle.moves.specs.Moves.{moveOf};
 ghost use Rattle.moves.specs.declared.Refusal.the-variants.{Accepted};
-ghost use Rattle.parts.specs.Parts.{parts, phaseOf, freshRow, Ready, Carries};
+ghost use Rattle.step.specs.Contracts.{over};
+ghost use Rattle.parts.specs.Parts.{parts, phaseOf, entries, freshRow, Ready, Carries};
 use moves::Move;
 use moves::Refusal;
 use step::Reply;
-use table::Entry;
 use table::Operation;
 use table::Phase;
 
@@ -95,21 +96,33 @@ fn ordered_jobs(order: &[usize; 32], jobs: &[u32; 32], n: usize) -> [u32; 32]
     r
 }
 
-// The first n entries of a scan result, from its stations and jobs.
-fn entries_of(stations: [u8; 32], jobs: [u32; 32], n: usize) -> [Entry; 32]
-    requires { ⌜ n ≤ 32 ⌝ }
-    ensures { λ r. ⌜ r ≡ tabulate 32 0 (λ p. cond (ltb p n) (entry (getD stations p 0) (getD jobs p 0)) blank) ⌝ }
+// Writes the report lines of the first n entries of the scan result at a place to the front of `out`.
+fn write_rows(
+    stations: &[[u8; 32]; 32],
+    jobs: &[[u32; 32]; 32],
+    place: usize,
+    n: usize,
+    line: u64,
+    out: &mut [u8],
+)
+    requires { ⌜ (place < 32) × (n ≤ 32) ⌝ }
+    requires { ⌜ n * 29 ≤ length (now out) ⌝ }
+    ensures { λ _. ⌜ now (out .exit) ≡ over (reportLines line 1 (take n (entries (getD (now (stations .entry)) place []) (getD (now (jobs .entry)) place [])))) (now (out .entry)) ⌝ }
 {
-    let mut r = [Entry { station: 0, job: 0 }; 32];
-    let mut p: usize = 0;
-    while p < n {
-        r[p] = Entry {
-            station: stations[p],
-            job: jobs[p],
-        };
-        p += 1;
+    let mut head = [0u8; 11];
+    columns::write_head(&mut head, line, 0);
+    let mut k = 0;
+    while k < n {
+        let at = k * 29;
+        columns::write_listed_line(
+            &mut out[at..at + 29],
+            head,
+            k as u64 + 1,
+            stations[place][k],
+            jobs[place][k],
+        );
+        k += 1;
     }
-    r
 }
 
 fn accepted(written: usize) -> Reply
@@ -179,8 +192,7 @@ pub fn carry_out(
             accepted(0)
         }
         Move::EndScan => {
-            let entries = entries_of(result_stations[place], result_jobs[place], n);
-            step::write_result(entries, n, line, report);
+            write_rows(result_stations, result_jobs, place, n, line, report);
             phases[place] = IDLE;
             accepted(n * 29)
         }

@@ -1,6 +1,7 @@
 use borrow.Author.Needs.{needs}
 use borrow.Rule.Slice.PartMut.{same-len-mid}
 use mathlib.Core.Path.{_≡_, refl, sym, _∙_}
+use mathlib.Core.Logic.{inl, inr}
 use Prim.Native.Nat.{_+_, _-_, _<_}
 use native.Mathlib.Omega.{arith}
 use lib.ListN.{length, drop, length-take, length-drop}
@@ -11,7 +12,7 @@ use Rattle.parts.specs.Parts.{parts, assembled}
 use Rattle.schedule.specs.Sessions.{session}
 use Rattle.schedule.proofs.SessionLaws.{next-within}
 use Rattle.file.specs.Contracts.{Runnable}
-use Rattle.file.proofs.ChunkLaws.{Sofar, sofar-start, sofar-end, sofar-more, sofar-stop, as-long, room-here, at-next, printed-refusal, prints-short}
+use Rattle.file.proofs.ChunkLaws.{Sofar, sofar-start, sofar-end, sofar-more, sofar-stop, as-long, inside, room-here, at-next, printed-refusal, prints-short}
 use Rattle.file.proofs.report_lines.Statement.{statement}
 use Rattle.file.proofs.report_lines.Tie as tie
 
@@ -25,10 +26,21 @@ abbrev μ-loop : tie.MeasureT-loop
     length chunk - at
 
 loop-holds : tie.Need-loop-holds Inv-loop μ-loop
-loop-holds c = (sofar-start _ _ _ _ (c .before .before .pre .1), c .before .before .pre .0)
+loop-holds c = (sofar-start _ _ _ _, c .before .before .pre)
+
+sub-if1 : tie.Need-sub-if1 Inv-loop μ-loop
+sub-if1 c = inside (c .before .loop .inv .0)
+
+same-length : tie.Need-same-length Inv-loop μ-loop
+same-length c = as-long (c .before .before .loop .inv .0)
+
+returns : tie.Need-returns Inv-loop μ-loop
+returns c =
+    let l = c .before .before .loop in
+    (sofar-end (l .inv .0) _ refl refl refl refl (inr (c .if1 .taken)), l .inv .1)
 
 line-at-requires : tie.Need-line-at-requires Inv-loop μ-loop
-line-at-requires c κs = omega (arith, c .before .loop .inv .0 .within)
+line-at-requires c κs = omega (arith, c .before .before .loop .inv .0 .within)
 
 next-line-requires : tie.Need-next-line-requires Inv-loop μ-loop
 next-line-requires c κs = search needs
@@ -37,7 +49,11 @@ enum-known-refusal : tie.Need-enum-known-refusal Inv-loop μ-loop
 enum-known-refusal c = search needs
 
 add-print-refusal : tie.Need-add-print-refusal Inv-loop μ-loop
-add-print-refusal c = omega (arith, room-here (c .before .before .before .before .before .before .loop .inv .0) (c .before .before .before .before .before .loop-test .taken))
+add-print-refusal c =
+    let l = c .before .before .before .before .before .before .before .loop in
+    let test = c .before .before .before .before .before .before .loop-test .taken in
+    let free = c .before .before .before .before .before .if1 .left in
+    omega (arith, room-here (l .inv .0) test free)
 
 sub-print-refusal : tie.Need-sub-print-refusal Inv-loop μ-loop
 sub-print-refusal c = omega arith
@@ -46,31 +62,57 @@ part-print-refusal-start : tie.Need-part-print-refusal-start Inv-loop μ-loop
 part-print-refusal-start c = omega arith
 
 part-print-refusal-end : tie.Need-part-print-refusal-end Inv-loop μ-loop
-part-print-refusal-end c = omega (arith, room-here (c .before .before .before .before .before .before .loop .inv .0) (c .before .before .before .before .before .loop-test .taken))
+part-print-refusal-end c =
+    let l = c .before .before .before .before .before .before .before .loop in
+    let test = c .before .before .before .before .before .before .loop-test .taken in
+    let free = c .before .before .before .before .before .if1 .left in
+    omega (arith, room-here (l .inv .0) test free)
 
 print-refusal-requires : tie.Need-print-refusal-requires Inv-loop μ-loop
-print-refusal-requires c κs = simp (length-take, length-drop) (omega (arith, room-here (c .before .before .before .before .before .before .before .loop .inv .0) (c .before .before .before .before .before .before .loop-test .taken)))
+print-refusal-requires c κs =
+    let l = c .before .before .before .before .before .before .before .before .loop in
+    let test = c .before .before .before .before .before .before .before .loop-test .taken in
+    let free = c .before .before .before .before .before .before .if1 .left in
+    simp (length-take, length-drop) (omega (arith, room-here (l .inv .0) test free))
 
-add-t26 : tie.Need-add-t26 Inv-loop μ-loop
-add-t26 c =
-    let l = c .before .before .before .before .before .before .before .before .before .before .loop in
-    omega (arith, room-here (c .before .before .before .before .before .before .before .before .before .before .loop .inv .0) (c .before .before .before .before .before .before .before .before .before .loop-test .taken), c .before .before .print-refusal .ensures .0, printed-refusal (l .count + 1) (refusalNumber (c .before .before .before .before .before .refusal .given .0 .0)), c .before .before .before .before .before .before .before .before .before .before .before .before .before .good .1 .1 .1 .1 .1 .1 .1 .1 .1 .1 .1 .0 .0, as-long (l .inv .0))
+add-t30 : tie.Need-add-t30 Inv-loop μ-loop
+add-t30 c =
+    let l = c .before .before .before .before .before .before .before .before .before .before .before .loop in
+    let test = c .before .before .before .before .before .before .before .before .before .before .loop-test .taken in
+    let free = c .before .before .before .before .before .before .before .before .before .if1 .left in
+    omega (arith, at-next (l .inv .0) test free (c .before .before .before .before .before .before .before .before .line-at .result .now) (c .before .before .before .before .before .before .before .before .line-at .ensures), c .before .before .before .before .before .before .before .before .before .before .before .before .before .before .good .1 .1 .1 .1 .1 .1 .1 .1 .1 .1 .0 .0)
 
-same-length : tie.Need-same-length Inv-loop μ-loop
-same-length c =
-    let l = c .before .before .before .before .before .before .before .before .before .before .loop in
+add-t33 : tie.Need-add-t33 Inv-loop μ-loop
+add-t33 c =
+    let l = c .before .before .before .before .before .before .before .before .before .before .before .loop in
+    let test = c .before .before .before .before .before .before .before .before .before .before .loop-test .taken in
+    let free = c .before .before .before .before .before .before .before .before .before .if1 .left in
+    omega (arith, room-here (l .inv .0) test free, c .before .before .print-refusal .ensures .0, printed-refusal (l .count + 1) (refusalNumber (c .before .before .before .before .before .refusal .given .0 .0)), c .before .before .before .before .before .before .before .before .before .before .before .before .before .before .good .1 .1 .1 .1 .1 .1 .1 .1 .1 .1 .1 .0 .0, as-long (l .inv .0))
+
+same-length-2 : tie.Need-same-length-2 Inv-loop μ-loop
+same-length-2 c =
+    let l = c .before .before .before .before .before .before .before .before .before .before .before .loop in
     same-len-mid (l .written) (l .written + 928 - l .written) (l .out) (c .before .before .print-refusal .last .1 .1 .0) (c .before .before .print-refusal .kept .1 .1 .0) ∙ as-long (l .inv .0)
 
-returns : tie.Need-returns Inv-loop μ-loop
-returns c =
-    let l = c .before .before .before .before .before .before .before .before .before .before .loop in
-    (sofar-stop (l .inv .0) (c .before .before .before .before .before .before .before .before .before .loop-test .taken) (l .inv .1 .reached) _ (c .before .before .before .before .before .before .before .before .line-at .ensures) (l .written + 928 - l .written) (omega arith) _ _ _ _ (sym (c .before .before .before .before .before .before .before .next-line .ensures) ∙ c .before .before .before .before .before .refusal .given .1) (c .before .before .print-refusal .ensures .0) (c .before .before .print-refusal .ensures .1) refl refl refl, l .inv .1)
+returns-2 : tie.Need-returns-2 Inv-loop μ-loop
+returns-2 c =
+    let l = c .before .before .before .before .before .before .before .before .before .before .before .loop in
+    let test = c .before .before .before .before .before .before .before .before .before .before .loop-test .taken in
+    let free = c .before .before .before .before .before .before .before .before .before .if1 .left in
+    let told = c .before .before .print-refusal in (
+      sofar-stop (l .inv .0) test free (l .inv .1 .reached) _ (c .before .before .before .before .before .before .before .before .line-at .ensures) (l .written + 928 - l .written) (omega arith) _ _ _ _ (sym (c .before .before .before .before .before .before .before .next-line .ensures) ∙ c .before .before .before .before .before .refusal .given .1) (told .ensures .0) (told .ensures .1) refl refl refl refl,
+      l .inv .1,
+    )
 
 enum-known-station : tie.Need-enum-known-station Inv-loop μ-loop
 enum-known-station c = search needs
 
 add-serve-line : tie.Need-add-serve-line Inv-loop μ-loop
-add-serve-line c = omega (arith, room-here (c .before .before .before .before .before .before .before .before .before .before .before .before .before .before .loop .inv .0) (c .before .before .before .before .before .before .before .before .before .before .before .before .before .loop-test .taken))
+add-serve-line c =
+    let l = c .before .before .before .before .before .before .before .before .before .before .before .before .before .before .before .loop in
+    let test = c .before .before .before .before .before .before .before .before .before .before .before .before .before .before .loop-test .taken in
+    let free = c .before .before .before .before .before .before .before .before .before .before .before .before .before .if1 .left in
+    omega (arith, room-here (l .inv .0) test free, as-long (l .inv .0), c .before .before .before .before .before .before .before .before .before .before .before .before .before .before .before .before .before .before .good .1 .1 .1 .1 .1 .1 .1 .1 .1 .1 .1 .0 .0)
 
 sub-serve-line : tie.Need-sub-serve-line Inv-loop μ-loop
 sub-serve-line c = omega arith
@@ -79,47 +121,62 @@ part-serve-line-start : tie.Need-part-serve-line-start Inv-loop μ-loop
 part-serve-line-start c = omega arith
 
 part-serve-line-end : tie.Need-part-serve-line-end Inv-loop μ-loop
-part-serve-line-end c = omega (arith, room-here (c .before .before .before .before .before .before .before .before .before .before .before .before .before .before .loop .inv .0) (c .before .before .before .before .before .before .before .before .before .before .before .before .before .loop-test .taken))
+part-serve-line-end c =
+    let l = c .before .before .before .before .before .before .before .before .before .before .before .before .before .before .before .loop in
+    let test = c .before .before .before .before .before .before .before .before .before .before .before .before .before .before .loop-test .taken in
+    let free = c .before .before .before .before .before .before .before .before .before .before .before .before .before .if1 .left in
+    omega (arith, room-here (l .inv .0) test free)
 
 serve-line-requires : tie.Need-serve-line-requires Inv-loop μ-loop
 serve-line-requires c κs =
-    let l = c .before .before .before .before .before .before .before .before .before .before .before .before .before .before .before .loop in
-    (l .inv .1, length-take-le (l .written + 928 - l .written) (drop (l .written) (l .out)) (rw length-drop (omega (arith, room-here (c .before .before .before .before .before .before .before .before .before .before .before .before .before .before .before .loop .inv .0) (c .before .before .before .before .before .before .before .before .before .before .before .before .before .before .loop-test .taken)))) ∙ omega arith)
+    let l = c .before .before .before .before .before .before .before .before .before .before .before .before .before .before .before .before .loop in
+    let test = c .before .before .before .before .before .before .before .before .before .before .before .before .before .before .before .loop-test .taken in
+    let free = c .before .before .before .before .before .before .before .before .before .before .before .before .before .before .if1 .left in
+    (l .inv .1, length-take-le (l .written + 928 - l .written) (drop (l .written) (l .out)) (rw length-drop (omega (arith, room-here (l .inv .0) test free))) ∙ omega arith)
 
 add-count : tie.Need-add-count Inv-loop μ-loop
-add-count c = omega (arith, next-within (c .before .before .before .before .before .before .before .before .before .before .before .before .before .before .before .before .before .before .loop .count) _ _ _ _ (sym (c .before .before .before .before .before .before .before .before .before .before .before .before .before .before .before .next-line .ensures) ∙ c .before .before .before .before .before .before .before .before .before .before .before .before .before .station .given .1))
+add-count c = omega (arith, next-within (c .before .before .before .before .before .before .before .before .before .before .before .before .before .before .before .before .before .before .before .loop .count) _ _ _ _ (sym (c .before .before .before .before .before .before .before .before .before .before .before .before .before .before .before .next-line .ensures) ∙ c .before .before .before .before .before .before .before .before .before .before .before .before .before .station .given .1))
 
 add-written : tie.Need-add-written Inv-loop μ-loop
 add-written c =
-    let l = c .before .before .before .before .before .before .before .before .before .before .before .before .before .before .before .before .before .before .loop in
-    let mid = length-take-le (l .written + 928 - l .written) (drop (l .written) (l .out)) (rw length-drop (omega (arith, room-here (c .before .before .before .before .before .before .before .before .before .before .before .before .before .before .before .before .before .before .loop .inv .0) (c .before .before .before .before .before .before .before .before .before .before .before .before .before .before .before .before .before .loop-test .taken)))) in
-    omega (arith, room-here (c .before .before .before .before .before .before .before .before .before .before .before .before .before .before .before .before .before .before .loop .inv .0) (c .before .before .before .before .before .before .before .before .before .before .before .before .before .before .before .before .before .loop-test .taken), prints-short (c .before .before .serve-line .ensures .0) (c .before .before .serve-line .kept .1 .1 .1 .1 .1 .1 .1 .1 .1 .1 .1 .1 .1 .0), mid, c .before .before .before .before .before .before .before .before .before .before .before .before .before .before .before .before .before .before .before .before .before .good .1 .1 .1 .1 .1 .1 .1 .1 .1 .1 .1 .0 .0, as-long (l .inv .0))
+    let l = c .before .before .before .before .before .before .before .before .before .before .before .before .before .before .before .before .before .before .before .loop in
+    let test = c .before .before .before .before .before .before .before .before .before .before .before .before .before .before .before .before .before .before .loop-test .taken in
+    let free = c .before .before .before .before .before .before .before .before .before .before .before .before .before .before .before .before .before .if1 .left in
+    let served = c .before .before .serve-line in
+    let mid = length-take-le (l .written + 928 - l .written) (drop (l .written) (l .out)) (rw length-drop (omega (arith, room-here (l .inv .0) test free))) in
+    omega (arith, room-here (l .inv .0) test free, prints-short (served .ensures .0) (served .kept .1 .1 .1 .1 .1 .1 .1 .1 .1 .1 .1 .1 .1 .0), mid, c .before .before .before .before .before .before .before .before .before .before .before .before .before .before .before .before .before .before .before .before .before .before .good .1 .1 .1 .1 .1 .1 .1 .1 .1 .1 .1 .0 .0, as-long (l .inv .0))
 
 add-at : tie.Need-add-at Inv-loop μ-loop
 add-at c =
-    let l = c .before .before .before .before .before .before .before .before .before .before .before .before .before .before .before .before .before .before .loop in
-    omega (arith, at-next (l .inv .0) (c .before .before .before .before .before .before .before .before .before .before .before .before .before .before .before .before .before .loop-test .taken) (c .before .before .before .before .before .before .before .before .before .before .before .before .before .before .before .before .line-at .result .now) (c .before .before .before .before .before .before .before .before .before .before .before .before .before .before .before .before .line-at .ensures), c .before .before .before .before .before .before .before .before .before .before .before .before .before .before .before .before .before .before .before .before .before .good .1 .1 .1 .1 .1 .1 .1 .1 .1 .1 .0 .0)
+    let l = c .before .before .before .before .before .before .before .before .before .before .before .before .before .before .before .before .before .before .before .loop in
+    let test = c .before .before .before .before .before .before .before .before .before .before .before .before .before .before .before .before .before .before .loop-test .taken in
+    let free = c .before .before .before .before .before .before .before .before .before .before .before .before .before .before .before .before .before .if1 .left in
+    omega (arith, at-next (l .inv .0) test free (c .before .before .before .before .before .before .before .before .before .before .before .before .before .before .before .before .line-at .result .now) (c .before .before .before .before .before .before .before .before .before .before .before .before .before .before .before .before .line-at .ensures), c .before .before .before .before .before .before .before .before .before .before .before .before .before .before .before .before .before .before .before .before .before .before .good .1 .1 .1 .1 .1 .1 .1 .1 .1 .1 .0 .0)
 
 loop-less : tie.Need-loop-less Inv-loop μ-loop
 loop-less c =
-    let l = c .before .before .before .before .before .before .before .before .before .before .before .before .before .before .before .before .before .before .loop in
-    omega (arith, at-next (l .inv .0) (c .before .before .before .before .before .before .before .before .before .before .before .before .before .before .before .before .before .loop-test .taken) (c .before .before .before .before .before .before .before .before .before .before .before .before .before .before .before .before .line-at .result .now) (c .before .before .before .before .before .before .before .before .before .before .before .before .before .before .before .before .line-at .ensures))
+    let l = c .before .before .before .before .before .before .before .before .before .before .before .before .before .before .before .before .before .before .before .loop in
+    let test = c .before .before .before .before .before .before .before .before .before .before .before .before .before .before .before .before .before .before .loop-test .taken in
+    let free = c .before .before .before .before .before .before .before .before .before .before .before .before .before .before .before .before .before .if1 .left in
+    omega (arith, at-next (l .inv .0) test free (c .before .before .before .before .before .before .before .before .before .before .before .before .before .before .before .before .line-at .result .now) (c .before .before .before .before .before .before .before .before .before .before .before .before .before .before .before .before .line-at .ensures))
 
 loop-again : tie.Need-loop-again Inv-loop μ-loop
 loop-again c =
-    let l = c .before .before .before .before .before .before .before .before .before .before .before .before .before .before .before .before .before .before .loop in
+    let l = c .before .before .before .before .before .before .before .before .before .before .before .before .before .before .before .before .before .before .before .loop in
+    let test = c .before .before .before .before .before .before .before .before .before .before .before .before .before .before .before .before .before .before .loop-test .taken in
+    let free = c .before .before .before .before .before .before .before .before .before .before .before .before .before .before .before .before .before .if1 .left in
     let said = c .before .before .before .before .before .before .before .before .before .before .before .before .before .station .given in
     let served = c .before .before .serve-line in (
-      sofar-more (l .inv .0) (c .before .before .before .before .before .before .before .before .before .before .before .before .before .before .before .before .before .loop-test .taken) (l .inv .1 .reached) _ (c .before .before .before .before .before .before .before .before .before .before .before .before .before .before .before .before .line-at .ensures) (l .written + 928 - l .written) (omega arith) (said .0 .0) (said .0 .1 .0) (said .0 .1 .1 .0) (sym (c .before .before .before .before .before .before .before .before .before .before .before .before .before .before .before .next-line .ensures) ∙ c .before .before .before .before .before .before .before .before .before .before .before .before .before .station .given .1) _ _ _
+      sofar-more (l .inv .0) test free (l .inv .1 .reached) _ (c .before .before .before .before .before .before .before .before .before .before .before .before .before .before .before .before .line-at .ensures) (l .written + 928 - l .written) (omega arith) (said .0 .0) (said .0 .1 .0) (said .0 .1 .1 .0) (sym (c .before .before .before .before .before .before .before .before .before .before .before .before .before .before .before .next-line .ensures) ∙ said .1) _ _ _
           (served .ensures .0 .table) (served .ensures .0 .written) (served .ensures .0 .report) (served .kept .1 .1 .1 .1 .1 .1 .1 .1 .1 .1 .1 .1 .1 .0),
       served .ensures .1,
     )
 
-same-length-2 : tie.Need-same-length-2 Inv-loop μ-loop
-same-length-2 c = as-long (c .before .loop .inv .0)
+same-length-3 : tie.Need-same-length-3 Inv-loop μ-loop
+same-length-3 c = as-long (c .before .loop .inv .0)
 
-returns-2 : tie.Need-returns-2 Inv-loop μ-loop
-returns-2 c = (sofar-end (c .before .loop .inv .0) _ refl refl refl (c .loop-test .left), c .before .loop .inv .1)
+returns-3 : tie.Need-returns-3 Inv-loop μ-loop
+returns-3 c = (sofar-end (c .before .loop .inv .0) _ refl refl refl refl (inl (c .loop-test .left)), c .before .loop .inv .1)
 
 pub report-lines-spec : {M : Type 1} → statement M
 report-lines-spec =
@@ -128,6 +185,9 @@ report-lines-spec =
     Inv-loop
     μ-loop
     loop-holds
+    sub-if1
+    same-length
+    returns
     line-at-requires
     next-line-requires
     enum-known-refusal
@@ -136,9 +196,10 @@ report-lines-spec =
     part-print-refusal-start
     part-print-refusal-end
     print-refusal-requires
-    add-t26
-    same-length
-    returns
+    add-t30
+    add-t33
+    same-length-2
+    returns-2
     enum-known-station
     add-serve-line
     sub-serve-line
@@ -150,5 +211,5 @@ report-lines-spec =
     add-at
     loop-less
     loop-again
-    same-length-2
-    returns-2)
+    same-length-3
+    returns-3)

@@ -66,8 +66,8 @@ element-copy-out-newest c = omega (arith, c .before .before .before .before .pre
 pending-by-requires : tie.Need-pending-by-requires
 pending-by-requires c κs = let s = c .before .before .before .before .before .before in let o = parts-orderly _ (s .pre .sized) (s .pre .passed) in (o, (last-newest _ _ _ (orderly-total _ _ o) (omega (arith, o .low)) (order-front 32 _ _ _ (s .pre .isOrder (ap snap (c .before .before .before .enum-told3 .given .1)))), s .pre .inside))
 
-mul-t35 : tie.Need-mul-t35
-mul-t35 c = omega (arith, c .before .before .before .before .before .before .before .pre .inside, counted _ (c .before .before .before .before .before .before .before .pre .passed))
+mul-t34 : tie.Need-mul-t34
+mul-t34 c = omega (arith, c .before .before .before .before .before .before .before .pre .inside, counted _ (c .before .before .before .before .before .before .before .pre .passed))
 
 element-set-from-pending-labels : tie.Need-element-set-from-pending-labels
 element-set-from-pending-labels c = omega (arith, c .before .before .before .before .before .before .before .pre .inside, counted _ (c .before .before .before .before .before .before .before .pre .passed))
@@ -84,8 +84,8 @@ enum-told-4 c = search needs
 ordered-stations-requires : tie.Need-ordered-stations-requires
 ordered-stations-requires c κs = let s = c .before .before .before in (counted _ (s .pre .passed) .1, λ q l. omega (arith, counted _ (s .pre .passed) .1, listed-below _ _ _ (order-front 32 _ _ _ (s .pre .isOrder (ap snap (c .enum-told4 .given .1)))) q l))
 
-mul-t42 : tie.Need-mul-t42
-mul-t42 c = omega (arith, c .before .before .before .before .pre .inside, counted _ (c .before .before .before .before .pre .passed))
+mul-t41 : tie.Need-mul-t41
+mul-t41 c = omega (arith, c .before .before .before .before .pre .inside, counted _ (c .before .before .before .before .pre .passed))
 
 element-set-from-result-stations : tie.Need-element-set-from-result-stations
 element-set-from-result-stations c = omega (arith, c .before .before .before .before .pre .inside, counted _ (c .before .before .before .before .pre .passed))
@@ -93,8 +93,8 @@ element-set-from-result-stations c = omega (arith, c .before .before .before .be
 ordered-jobs-requires : tie.Need-ordered-jobs-requires
 ordered-jobs-requires c κs = let s = c .before .before .before .before .before in (counted _ (s .pre .passed) .1, λ q l. omega (arith, counted _ (s .pre .passed) .1, listed-below _ _ _ (order-front 32 _ _ _ (s .pre .isOrder (ap snap (c .before .before .enum-told4 .given .1)))) q l))
 
-mul-t42-2 : tie.Need-mul-t42-2
-mul-t42-2 c = omega (arith, c .before .before .before .before .before .before .pre .inside, counted _ (c .before .before .before .before .before .before .pre .passed))
+mul-t41-2 : tie.Need-mul-t41-2
+mul-t41-2 c = omega (arith, c .before .before .before .before .before .before .pre .inside, counted _ (c .before .before .before .before .before .before .pre .passed))
 
 element-set-from-result-jobs : tie.Need-element-set-from-result-jobs
 element-set-from-result-jobs c = omega (arith, c .before .before .before .before .before .before .pre .inside, counted _ (c .before .before .before .before .before .before .pre .passed))
@@ -114,8 +114,8 @@ mul-labels c = omega (arith, c .before .before .before .pre .inside, counted _ (
 element-copy-out-labels : tie.Need-element-copy-out-labels
 element-copy-out-labels c = omega (arith, c .before .before .before .pre .inside, counted _ (c .before .before .before .pre .passed))
 
-mul-t55 : tie.Need-mul-t55
-mul-t55 c = omega (arith, c .before .before .before .before .pre .inside, counted _ (c .before .before .before .before .pre .passed))
+mul-t54 : tie.Need-mul-t54
+mul-t54 c = omega (arith, c .before .before .before .before .pre .inside, counted _ (c .before .before .before .before .pre .passed))
 
 element-set-from-labels : tie.Need-element-set-from-labels
 element-set-from-labels c = omega (arith, c .before .before .before .before .pre .inside, counted _ (c .before .before .before .before .pre .passed))
@@ -150,29 +150,16 @@ accepted-requires-6 c κs = search needs
 enum-told-7 : tie.Need-enum-told-7
 enum-told-7 c = search needs
 
-mul-entries-of : tie.Need-mul-entries-of
-mul-entries-of c = omega (arith, c .before .before .before .pre .inside, counted _ (c .before .before .before .pre .passed))
-
-element-copy-out-entries-of : tie.Need-element-copy-out-entries-of
-element-copy-out-entries-of c = omega (arith, c .before .before .before .pre .inside, counted _ (c .before .before .before .pre .passed))
-
-mul-entries-of-2 : tie.Need-mul-entries-of-2
-mul-entries-of-2 c = omega (arith, c .before .before .before .before .pre .inside, counted _ (c .before .before .before .before .pre .passed))
-
-element-copy-out-entries-of-2 : tie.Need-element-copy-out-entries-of-2
-element-copy-out-entries-of-2 c = omega (arith, c .before .before .before .before .pre .inside, counted _ (c .before .before .before .before .pre .passed))
-
-entries-of-requires : tie.Need-entries-of-requires
-entries-of-requires c κs = counted _ (c .before .before .before .before .before .pre .passed) .1
-
-write-result-requires : tie.Need-write-result-requires
-write-result-requires c κs = let s = c .before .before .before .before .before .before .before in (counted _ (s .pre .passed) .1, s .pre .hasRoom (ap moveOf (c .before .before .before .before .enum-told7 .given .1)))
+write-rows-requires : tie.Need-write-rows-requires
+write-rows-requires c κs =
+    let s = c .before .before .before .before .before .before in
+    ((omega (arith, s .pre .inside, counted _ (s .pre .passed)), counted _ (s .pre .passed) .1), s .pre .hasRoom (ap moveOf (c .before .before .before .enum-told7 .given .1)))
 
 element-write-phases-7 : tie.Need-element-write-phases-7
-element-write-phases-7 c = omega (arith, c .before .before .before .before .before .before .before .before .before .before .pre .inside, counted _ (c .before .before .before .before .before .before .before .before .before .before .pre .passed))
+element-write-phases-7 c = omega (arith, c .before .before .before .before .before .before .before .before .before .pre .inside, counted _ (c .before .before .before .before .before .before .before .before .before .pre .passed))
 
 mul-accepted : tie.Need-mul-accepted
-mul-accepted c = omega (arith, c .before .before .before .before .before .before .before .before .before .before .pre .inside, counted _ (c .before .before .before .before .before .before .before .before .before .before .pre .passed))
+mul-accepted c = omega (arith, c .before .before .before .before .before .before .before .before .before .pre .inside, counted _ (c .before .before .before .before .before .before .before .before .before .pre .passed))
 
 accepted-requires-7 : tie.Need-accepted-requires-7
 accepted-requires-7 c κs = search needs
@@ -202,7 +189,7 @@ same-length : tie.Need-same-length
 same-length c = search needs
 
 returns-8 : tie.Need-returns-8
-returns-8 c = let s = c .before .before .before .before .before .before .before .before .before .before .before in rw (c .before .before .before .before .before .before .before .before .enum-told7 .given .1) (carries-end-scan _ (s .pre .sized) (s .pre .passed) (s .args .place) (s .args .job) (s .args .line) (s .pre .inside) _ _ _ _ (c .accepted7 .ensures) (c .before .before .before .before .before .entries-of .ensures) (c .before .before .before .write-result .ensures))
+returns-8 c = let s = c .before .before .before .before .before .before .before .before .before .before in rw (c .before .before .before .before .before .before .before .enum-told7 .given .1) (carries-end-scan _ (s .pre .sized) (s .pre .passed) (s .args .place) (s .args .job) (s .args .line) (s .pre .inside) _ _ _ (c .accepted7 .ensures) (c .before .before .before .write-rows .ensures))
 
 pub carry-out-spec : {M : Type 1} → statement M
 carry-out-spec =
@@ -225,23 +212,23 @@ carry-out-spec =
     mul-newest
     element-copy-out-newest
     pending-by-requires
-    mul-t35
+    mul-t34
     element-set-from-pending-labels
     element-write-phases-3
     accepted-requires-3
     enum-told-4
     ordered-stations-requires
-    mul-t42
+    mul-t41
     element-set-from-result-stations
     ordered-jobs-requires
-    mul-t42-2
+    mul-t41-2
     element-set-from-result-jobs
     element-write-phases-4
     accepted-requires-4
     enum-told-5
     mul-labels
     element-copy-out-labels
-    mul-t55
+    mul-t54
     element-set-from-labels
     mul-jobs
     element-copy-out-jobs
@@ -253,12 +240,7 @@ carry-out-spec =
     element-write-phases-6
     accepted-requires-6
     enum-told-7
-    mul-entries-of
-    element-copy-out-entries-of
-    mul-entries-of-2
-    element-copy-out-entries-of-2
-    entries-of-requires
-    write-result-requires
+    write-rows-requires
     element-write-phases-7
     mul-accepted
     accepted-requires-7
