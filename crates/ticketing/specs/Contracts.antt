@@ -21,9 +21,11 @@ pub record Whole (p : Parts) : Type 0 where
   pub stations : (i : ℕ) → i < 32 → length (getD (p .resultStations) i []) ≡ 32
   pub jobs : (i : ℕ) → i < 32 → length (getD (p .resultJobs) i []) ≡ 32
 
--- the parts of a fresh table: digits 1, no jobs, results 1 to n, all idle
+-- the parts of a fresh table: digits 1, no jobs, results 1 to n without a job, all idle
 abbrev pub freshParts : ℕ → Parts
-freshParts n = parts n (replicate 32 (replicate 31 1)) (replicate 32 0) (replicate 32 (replicate 31 1)) (replicate 32 0) (replicate 32 (freshStations n)) (replicate 32 (replicate 32 0)) (replicate 32 0)
+freshParts n = parts n
+    (replicate 32 (replicate 31 1)) (replicate 32 0) (replicate 32 (replicate 31 1)) (replicate 32 0)
+    (replicate 32 (freshStations n)) (replicate 32 (replicate 32 0)) (replicate 32 0)
 
 -- a fresh table of n is asked for where the parts p stand: 1 and the same parts for a number of stations that is not 2 to 32 (01, refusal 1)
 pub record Starts (n : ℕ) (p p′ : Parts) (r : ℕ) : Type 0 where
