@@ -5,7 +5,7 @@ use mathlib.Core.Logic.{_≢_}
 use mathlib.Core.Bool.{Bool, true, false, cond, true≢false}
 use mathlib.Core.List as Lists
 use mathlib.Core.List.{[], _∷_}
-use lib.ListN.{length}
+use lib.ListN.{length, replicate}
 use lib.Dec.{eqb}
 use types.Run.{OneOf, miss}
 use denote.Enum.Declared.{tagOf}
@@ -21,10 +21,9 @@ use Rattle.transition.proofs.View.{step-carries}
 use Rattle.moves.specs.Moves.{refusalNumber, moveOf}
 use Rattle.moves.proofs.Move.{the-type}
 use Rattle.step.specs.Contracts.{over}
-use Rattle.parts.specs.Parts.{Parts, assembled, Phased, isSnap}
+use Rattle.parts.specs.Parts.{Parts, parts, assembled, Phased, freshRow, isSnap}
 use Rattle.ticketing.specs.Apart.{apart, known, sound}
 use Rattle.ticketing.specs.Contracts.{Whole, Starts, turnOf, Turns, Serves}
-use Rattle.parts.specs.Parts.{freshParts}
 use Rattle.ticketing.proofs.ApartLaws.{apart-assembled, phased}
 use Rattle.table.specs.declared.Table.{Table}
 use Rattle.moves.specs.declared.Move.{Move}
@@ -33,8 +32,9 @@ use Rattle.step.specs.declared.Reply.{Reply}
 use Rattle.ticketing.specs.declared.Answer.{Answer}
 
 -- a fresh table, made or refused
-pub started : (n : ℕ) (p p′ : Parts) → within 2 32 n ≡ true → p′ ≡ freshParts n → Starts n p p′ 0
-started n p p′ e q = record { refusal = rw e refl; parts = rw e q }
+pub started : (n : ℕ) (p : Parts) {s : Lists.List ℕ} → within 2 32 n ≡ true → s ≡ freshRow n → Starts n p
+    (parts n (replicate 32 (replicate 31 1)) (replicate 32 0) (replicate 32 (replicate 31 1)) (replicate 32 0) (replicate 32 s) (replicate 32 (replicate 32 0)) (replicate 32 0)) 0
+started n p e q = record { refusal = rw e refl; parts = rw (e, q) refl }
 
 pub not-started : (n : ℕ) (p : Parts) → within 2 32 n ≡ false → Starts n p p 1
 not-started n p e = record { refusal = rw e refl; parts = rw e refl }
