@@ -1,7 +1,7 @@
 use native.Mathlib.Omega.{arith}
 use mathlib.Core.Path.{sym}
 use lib.Seq.{length-take-le}
-use Rattle.file.proofs.ChunkLaws.{runs-inside}
+use Rattle.file.proofs.ChunkLaws.{reports-inside}
 use borrow.Author.Needs.{needs}
 use Rattle.limits.proofs.serve.Statement.{statement}
 use Rattle.limits.proofs.serve.Tie as tie
@@ -28,13 +28,13 @@ text-requires-2 : tie.Need-text-requires-2
 text-requires-2 c κs = search needs
 
 report-lines-requires : tie.Need-report-lines-requires
-report-lines-requires c κs = (c .before .before .before .before .before .before .before .before .before .before .before .before .before .before .before .before .repeat .ensures .0, omega (arith, c .before .before .before .before .before .before .before .before .before .before .before .before .before .before .before .before .before .before .before .before .before .before .before .before .before .before .before .before .before .pre .1 .1 .0, c .before .before .before .before .before .before .before .before .before .before .before .before .before .before .before .before .before .before .before .before .before .before .before .before .before .before .before .before .before .pre .1 .1 .1 .0, c .before .before .before .before .before .before .before .before .before .before .before .before .before .before .before .before .repeat .kept .1 .1 .1 .1 .1 .1 .1 .1 .1 .0))
+report-lines-requires c κs = c .before .before .before .before .before .before .before .before .before .before .before .before .before .before .before .before .repeat .ensures .0
 
 slice-reshare-prefix-text-2 : tie.Need-slice-reshare-prefix-text-2
-slice-reshare-prefix-text-2 c = runs-inside (c .before .before .report-lines .ensures .0)
+slice-reshare-prefix-text-2 c = reports-inside (c .before .before .report-lines .ensures .0)
 
 slice-aggregate-text-3 : tie.Need-slice-aggregate-text-3
-slice-aggregate-text-3 c = sym (length-take-le _ _ (runs-inside (c .before .before .before .report-lines .ensures .0)))
+slice-aggregate-text-3 c = sym (length-take-le _ _ (reports-inside (c .before .before .before .report-lines .ensures .0)))
 
 text-requires-3 : tie.Need-text-requires-3
 text-requires-3 c κs = search needs
