@@ -1,36 +1,32 @@
 -- The lines of a part of the file, one after the other: what one line more gives, and what stands in the output buffer meanwhile.
-use mathlib.Core.Path.{_≡_, refl, sym, ap, ap₂, subst, _∙_}
+use mathlib.Core.Path.{_≡_, refl, sym, ap, subst, _∙_}
 use mathlib.Core.Logic.{_≢_, _⊎_, inl, inr, ⊎-elim}
 use mathlib.Core.Bool.{Bool, true, false, not, cond}
 use mathlib.Core.List as Lists
 use mathlib.Core.List.{[], _∷_, _++_, append-assoc, append-nil}
-use Prim.Native.Nat.{ℕ, zero, suc, _+_, _-_, _*_, _/_, _≤_, _<_}
+use Prim.Native.Nat.{ℕ, suc, _+_, _-_, _*_, _≤_, _<_}
 use native.Mathlib.Omega.{arith}
-use lib.ListN.{length, getD, take, drop, length-append, length-take, length-drop, take-append-drop, drop-of-length-le}
+use lib.ListN.{length, take, drop, length-append, length-take, length-drop, take-append-drop, drop-of-length-le}
 use lib.Seq.{take-at, drop-at, drop-append-le, drop-drop, length-take-le, take-all}
 use lib.Dec.{eqb, leb}
-use borrow.Author.Tests.{eq-eqb, ne-eqb, eqb-true, eqb-false, leb-true, leb-false}
+use borrow.Author.Tests.{eq-eqb, ne-eqb, leb-true, leb-false}
 use borrow.Rule.Slice.PartMut.{midOf, putMid}
 use Rattle.columns.specs.Columns.{reportLine}
 use Rattle.columns.proofs.ColumnLaws.{length-report-line}
 use Rattle.simulation.specs.Calls.{Call}
-use Rattle.label.specs.Tests.{within}
-use Rattle.label.proofs.Facts.{within-true}
 use Rattle.table.specs.Tables.{freshTable}
 use Rattle.table.specs.declared.Table.{Table}
 use Rattle.moves.specs.Moves.{refusalNumber, called}
 use Rattle.step.specs.Contracts.{over}
 use Rattle.transition.specs.Steps.{stepOf}
-use Rattle.transition.proofs.Reachable.{Reached, reached-passes, stepped-reached, reached-fresh}
+use Rattle.transition.proofs.Reachable.{Reached, reached-passes}
 use Rattle.moves.specs.declared.Refusal.{Refusal}
-use Rattle.moves.specs.declared.Refusal.the-variants.{Accepted, StationCount, UnknownStep, JobOutOfRange}
+use Rattle.moves.specs.declared.Refusal.the-variants.{Accepted}
 use Rattle.parts.specs.Parts.{Parts, assembled}
-use Rattle.schedule.specs.Lines.{lineRead}
-use Rattle.schedule.specs.Sessions.{session, closed, byHeader, headerOf, Served, isFinal, refused, nextLine, stepLine}
+use Rattle.schedule.specs.Sessions.{session, headerOf, isFinal, refused, nextLine, stepLine}
 use Rattle.file.specs.Files.{cut, pieces, printed, headerPrinted, runLines, fileReport}
 use Rattle.file.specs.Contracts.{Prints, behind, ahead, Reports}
 use Rattle.schedule.proofs.SessionLaws.{serve-next, next-within}
-use Rattle.schedule.specs.declared.Line.{Line}
 use Rattle.file.proofs.FileTheorem.{Numbered, next-numbered, Opened, opened}
 use Rattle.schedule.specs.declared.Line.the-variants.{Step, Refused}
 use Rattle.schedule.specs.declared.Session.{Session}

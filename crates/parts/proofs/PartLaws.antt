@@ -7,7 +7,7 @@ use mathlib.Core.Path.{_≡_, refl, sym, ap, ap₂, subst, _∙_}
 use mathlib.Core.Logic.{_≢_, _⊎_, inl, inr, ⊎-elim, by-cases}
 use mathlib.Core.Bool.{Bool, true, false, cond}
 use mathlib.Core.List as Lists
-use mathlib.Core.List.{[], _∷_, _++_}
+use mathlib.Core.List.{[], _++_}
 use lib.ListN.{length, getD, set, take, length-set}
 use lib.Seq.{set-getD, getD-set-same, getD-set-other}
 use lib.Dec.{ltb}
@@ -35,7 +35,7 @@ use Rattle.step.specs.Contracts.{recordAfter, due, over, Steps}
 use Rattle.moves.proofs.MoveLaws.{place-below}
 use Rattle.step.proofs.StepLaws.{Made, judged, report-long}
 use Rattle.step.proofs.ReportLaws.{one-line-more}
-use Rattle.parts.specs.Parts.{Parts, parts, phaseOf, entries, stationAt, assembled, Sized, Phased, orderOf, Carries}
+use Rattle.parts.specs.Parts.{Parts, parts, phaseOf, entries, stationAt, assembled, Sized, orderOf, Carries}
 use Rattle.table.specs.declared.Entry.{Entry}
 use Rattle.table.specs.declared.Phase.{Phase}
 use Rattle.table.specs.declared.Phase.the-variants.{Idle}
