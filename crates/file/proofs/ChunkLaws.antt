@@ -268,12 +268,22 @@ module _ {s : Session} {chunk : Lists.List ℕ} {t : Table} {r : Progress} {buff
   reports-inside = omega (arith, f .written, ap length (f .report) ∙ length-append (f .bytes) (drop (length (f .bytes)) buffer))
 
   -- with room for a line, something is read
-  pub reports-on : 0 < length chunk → 928 ≤ length buffer → refusalNumber (r .refusal) ≡ 0 → 0 < r .read
+  reports-on : 0 < length chunk → 928 ≤ length buffer → refusalNumber (r .refusal) ≡ 0 → 0 < r .read
   reports-on h m z = ⊎-elim (λ d. absurd (d z)) (⊎-elim (λ e. omega (arith, e)) (λ x. go (leb 1 (r .read)) refl x)) (f .stops)
     where
       go : (b : Bool) → leb 1 (r .read) ≡ b → length buffer < r .written + 928 → 0 < r .read
       go true e x = omega (arith, leb-true 1 (r .read) e)
       go false e x = absurd (omega (arith, leb-false 1 (r .read) e, x, m, f .short))
+
+  -- what stands from a place on in a larger part, served further: the place to go on from, and the lines counted
+  pub part-on : (whole : Lists.List ℕ) (at total : ℕ) → at < length whole → length chunk ≡ length whole - at → s .lines + ahead whole at ≡ total → s .lines ≤ 1000001
+      → 928 ≤ length buffer → refusalNumber (r .refusal) ≡ 0
+      → (0 < r .read) × (at + r .read ≤ length whole) × (r .lines + ahead whole (at + r .read) ≡ total) × (r .lines ≤ 1000001)
+  part-on whole at total h e q low m z =
+      let w : at + r .read ≤ length whole = omega (arith, f .within) in
+      let k : ahead chunk (r .read) ≡ ahead whole (at + r .read) = omega (arith, w) in
+      let n = f .counted z in
+      (reports-on (omega arith) m z, w, omega (arith, n .0, k), n .1 low)
 
 -- THE ENDS OF A FILE
 

@@ -80,10 +80,13 @@ apart-assembled p w low x = parts (p .count)
     (listed 32 (p .jobs) 0 _ (w .sized .jobs) (λ k h. ap (λ s. s .job) (at-part p k h)) x)
     (listed 32 (p .pendingLabels) [] _ (w .sized .pendingLabels) (λ k h. ap (λ s. s .«pending_label») (at-part p k h)) x)
     (listed 32 (p .pendingJobs) 0 _ (w .sized .pendingJobs) (λ k h. ap (λ s. s .«pending_job») (at-part p k h)) x)
-    (listed 32 (p .resultStations) [] _ (w .sized .resultStations) (λ k h. ap (row (λ e. e .station)) (at-part p k h) ∙ listed 32 _ 0 _ (w .stations k h) (λ q l. ap (λ e. e .station) (entry-at (getD (p .resultStations) k []) (getD (p .resultJobs) k []) q l))) x)
-    (listed 32 (p .resultJobs) [] _ (w .sized .resultJobs) (λ k h. ap (row (λ e. e .job)) (at-part p k h) ∙ listed 32 _ 0 _ (w .jobs k h) (λ q l. ap (λ e. e .job) (entry-at (getD (p .resultStations) k []) (getD (p .resultJobs) k []) q l))) x)
+    (listed 32 (p .resultStations) [] _ (w .sized .resultStations) (λ k h. ap (row (λ e. e .station)) (at-part p k h) ∙ listed 32 _ 0 _ (w .stations k h) (λ q l. ap (λ e. e .station) (entry-there k q l))) x)
+    (listed 32 (p .resultJobs) [] _ (w .sized .resultJobs) (λ k h. ap (row (λ e. e .job)) (at-part p k h) ∙ listed 32 _ 0 _ (w .jobs k h) (λ q l. ap (λ e. e .job) (entry-there k q l))) x)
     (listed 32 (p .phases) 0 _ (w .sized .phases) (λ k h. ap (λ s. phaseNumber (s .phase)) (at-part p k h) ∙ number-back (getD (p .phases) k 0) (low k h)) x)
   where
+    entry-there : (k q : ℕ) → q < 32 → getD (entries (getD (p .resultStations) k []) (getD (p .resultJobs) k [])) q blank ≡ entry (getD (getD (p .resultStations) k []) q 0) (getD (getD (p .resultJobs) k []) q 0)
+    entry-there k = entry-at (getD (p .resultStations) k []) (getD (p .resultJobs) k [])
+
     row : (Entry → ℕ) → Station → Lists.List ℕ
     row f s = tabulate 32 0 (λ q. f (getD (s .«scan_result») q blank))
 

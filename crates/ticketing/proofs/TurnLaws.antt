@@ -1,15 +1,15 @@
 -- What an exported call amounts to, from the tests and the step that it is made of.
-use Prim.Native.Nat.{ℕ}
+use Prim.Native.Nat.{ℕ, _+_, _/_, _≤_, _<_}
 use mathlib.Core.Path.{_≡_, refl, sym, ap, _∙_}
 use mathlib.Core.Logic.{_≢_}
 use mathlib.Core.Bool.{Bool, true, false, cond, true≢false}
 use mathlib.Core.List as Lists
 use mathlib.Core.List.{[], _∷_}
-use lib.ListN.{length}
+use lib.ListN.{length, replicate}
 use lib.Dec.{eqb}
 use types.Run.{OneOf, miss}
 use denote.Enum.Declared.{tagOf}
-use borrow.Author.Tests.{eqb-false}
+use borrow.Author.Tests.{eqb-false, le-leb, lt-leb}
 use Rattle.label.specs.Tests.{within}
 use Rattle.label.proofs.Facts.{and-both}
 use Rattle.simulation.specs.Calls as Calls
@@ -21,10 +21,10 @@ use Rattle.transition.proofs.View.{step-carries}
 use Rattle.moves.specs.Moves.{refusalNumber, moveOf}
 use Rattle.moves.proofs.Move.{the-type}
 use Rattle.step.specs.Contracts.{over}
-use Rattle.parts.specs.Parts.{Parts, assembled, Phased, isSnap}
+use Rattle.parts.specs.Parts.{Parts, parts, assembled, Phased, freshRow, isSnap}
+use Rattle.file.specs.Files.{fileReport}
 use Rattle.ticketing.specs.Apart.{apart, known, sound}
-use Rattle.ticketing.specs.Contracts.{Whole, Starts, turnOf, Turns, Serves}
-use Rattle.parts.specs.Parts.{freshParts}
+use Rattle.ticketing.specs.Contracts.{Whole, Starts, turnOf, Turns, Serves, ReportsFile}
 use Rattle.ticketing.proofs.ApartLaws.{apart-assembled, phased}
 use Rattle.table.specs.declared.Table.{Table}
 use Rattle.moves.specs.declared.Move.{Move}
@@ -33,8 +33,9 @@ use Rattle.step.specs.declared.Reply.{Reply}
 use Rattle.ticketing.specs.declared.Answer.{Answer}
 
 -- a fresh table, made or refused
-pub started : (n : ℕ) (p p′ : Parts) → within 2 32 n ≡ true → p′ ≡ freshParts n → Starts n p p′ 0
-started n p p′ e q = record { refusal = rw e refl; parts = rw e q }
+pub started : (n : ℕ) (p : Parts) {s : Lists.List ℕ} → within 2 32 n ≡ true → s ≡ freshRow n → Starts n p
+    (parts n (replicate 32 (replicate 31 1)) (replicate 32 0) (replicate 32 (replicate 31 1)) (replicate 32 0) (replicate 32 s) (replicate 32 (replicate 32 0)) (replicate 32 0)) 0
+started n p e q = record { refusal = rw e refl; parts = rw (e, q) refl }
 
 pub not-started : (n : ℕ) (p : Parts) → within 2 32 n ≡ false → Starts n p p 1
 not-started n p e = record { refusal = rw e refl; parts = rw e refl }
@@ -107,3 +108,11 @@ module _ (p : Parts) (c : Call) where
       kept : (b : Bool) → eqb (t .refusal) 0 ≡ b → apart (t .table) ≡ cond b (apart (t .table)) p
       kept true q = refl
       kept false q = ap apart (refused-kept (assembled p) c (known′ .1) (eqb-false (t .refusal) 0 q)) ∙ apart-assembled p whole (known′ .0)
+
+-- a whole schedule, with room for its report and without
+pub file-unserved : (bs buffer : Lists.List ℕ) (r : Answer) → length buffer / 928 < length bs / 18 + 2 → r .refusal ≡ 7 → r .written ≡ 0 → ReportsFile bs buffer r buffer
+file-unserved bs buffer r h e f = let q = lt-leb (length bs / 18 + 2) (length buffer / 928) h in record { refusal = rw q e; written = rw q f; report = rw q refl }
+
+pub file-served : (bs buffer buffer′ : Lists.List ℕ) (r : Answer) → length bs / 18 + 2 ≤ length buffer / 928 → r .refusal ≡ 0 → r .written ≡ length (fileReport bs)
+    → buffer′ ≡ over (fileReport bs) buffer → ReportsFile bs buffer r buffer′
+file-served bs buffer buffer′ r h e f g = let q = le-leb (length bs / 18 + 2) (length buffer / 928) h in record { refusal = rw q e; written = rw q f; report = rw q g }

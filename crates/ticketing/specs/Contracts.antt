@@ -1,18 +1,18 @@
 -- What the contracts of the exported functions say.
-use Prim.Native.Nat.{ℕ, _<_}
+use Prim.Native.Nat.{ℕ, _+_, _/_, _<_}
 use mathlib.Core.Path.{_≡_}
-use mathlib.Core.Bool.{true, false, cond}
+use mathlib.Core.Bool.{Bool, true, false, cond}
 use mathlib.Core.List as Lists
 use mathlib.Core.List.{[]}
 use lib.ListN.{length, getD}
-use lib.Dec.{eqb}
+use lib.Dec.{eqb, leb}
 use Rattle.label.specs.Tests.{within}
 use Rattle.simulation.specs.Calls.{Call}
 use Rattle.transition.specs.Steps.{stepOf}
 use Rattle.step.specs.Contracts.{over, Steps}
 use Rattle.parts.specs.Parts.{Parts, assembled, freshParts, Sized, Phased}
+use Rattle.file.specs.Files.{fileReport}
 use Rattle.ticketing.specs.Apart.{apart, sound}
-
 use Rattle.step.specs.declared.Reply.{Reply}
 use Rattle.ticketing.specs.declared.Answer.{Answer}
 
@@ -51,3 +51,13 @@ pub record Turns (p : Parts) (c : Call) (buffer : Lists.List ℕ) (p′ : Parts)
 pub record Serves (p : Parts) (c : Call) (buffer : Lists.List ℕ) (p′ : Parts) (r : Reply) (buffer′ : Lists.List ℕ) : Type 0 where
   pub step : Steps (assembled p) c buffer (assembled p′) r buffer′
   pub phased : Phased p → Phased p′
+
+-- room for any report of a schedule of so many bytes, which has at most one line more than it has times 18 of them
+abbrev pub roomFor : ℕ → ℕ → Bool
+roomFor bytes room = leb (bytes / 18 + 2) (room / 928)
+
+-- the report of the whole schedule bs, written to the front of the buffer; without room for it 7, and nothing is written
+pub record ReportsFile (bs buffer : Lists.List ℕ) (r : Answer) (buffer′ : Lists.List ℕ) : Type 0 where
+  pub refusal : r .refusal ≡ cond (roomFor (length bs) (length buffer)) 0 7
+  pub written : r .written ≡ cond (roomFor (length bs) (length buffer)) (length (fileReport bs)) 0
+  pub report : buffer′ ≡ cond (roomFor (length bs) (length buffer)) (over (fileReport bs) buffer) buffer

@@ -35,7 +35,9 @@ Sequence p (x ∷ xs) = Turns p (callOf x) (x .buffer) (x .parts) (x .answer) (x
 
 -- the refusal with a number
 abbrev pub refusalOf : ℕ → Refusal
-refusalOf r = getD (Accepted ∷ StationCount ∷ UnknownStation ∷ Busy ∷ NoSnapDue ∷ NoUpdateDue ∷ NothingToEnd ∷ BufferTooShort ∷ IncompleteLine ∷ MalformedColumn ∷ UnknownStep ∷ JobOutOfRange ∷ TooManyLines ∷ []) r IllFormedTable
+refusalOf r = getD
+    (Accepted ∷ StationCount ∷ UnknownStation ∷ Busy ∷ NoSnapDue ∷ NoUpdateDue ∷ NothingToEnd ∷ BufferTooShort
+    ∷ IncompleteLine ∷ MalformedColumn ∷ UnknownStep ∷ JobOutOfRange ∷ TooManyLines ∷ []) r IllFormedTable
 
 -- the same call and outcome on the table that the parts make
 abbrev pub routine : Made → Routines.Made

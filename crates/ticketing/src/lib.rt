@@ -1,4 +1,4 @@
-// The step calls for programs in C and Rust: exported functions on a table taken apart, which its owner lends.
+// The functions exported to programs in C and Rust: step calls on a table taken apart, which its owner lends, and whole schedule files.
 ghost use mathlib.Core.Path.{_≡_};
 ghost use mathlib.Core.Bool.{true};
 ghost use Prim.Native.Nat.{ℕ};
@@ -7,7 +7,7 @@ ghost use Rattle.rows.specs.Held.{Orderly};
 ghost use Rattle.table.specs.WellFormed.{wellFormed};
 ghost use Rattle.moves.specs.Moves.{moveOf, called};
 ghost use Rattle.parts.specs.Parts.{parts, assembled, Sized, orderOf, isSnap};
-ghost use Rattle.ticketing.specs.Contracts.{Whole, Starts, Turns, Serves};
+ghost use Rattle.ticketing.specs.Contracts.{Whole, Starts, Turns, Serves, ReportsFile};
 use moves::Move;
 use step::Reply;
 
@@ -189,4 +189,23 @@ pub extern "C" fn tickets_fresh(
     *result_jobs = [none; 32];
     *phases = [0u8; 32];
     0
+}
+
+// Writes the report of a whole schedule file. 7 is answered, and nothing written, unless there is room for any report of a file of its length.
+#[no_mangle]
+pub extern "C" fn tickets_report(schedule: &[u8], report: &mut [u8]) -> Answer
+    ensures { λ r. ⌜ ReportsFile (now (schedule .entry)) (now (report .entry)) r (now (report .exit)) ⌝ }
+{
+    let least = schedule.len() / 18 + 2;
+    if report.len() / 928 < least {
+        return Answer {
+            refusal: 7,
+            written: 0,
+        };
+    }
+    let written = file::report(schedule, report);
+    Answer {
+        refusal: 0,
+        written: written as u64,
+    }
 }

@@ -2,7 +2,7 @@
 ghost use mathlib.Core.Path.{_≡_};
 ghost use mathlib.Core.Logic.{_≢_};
 ghost use mathlib.Core.Bool.{true};
-ghost use Prim.Native.Nat.{_*_, _≤_, _<_};
+ghost use Prim.Native.Nat.{_+_, _≤_, _<_};
 ghost use lib.ListN.{length};
 ghost use Rattle.parts.specs.Parts.{parts};
 ghost use Rattle.file.specs.Files.{pieces};
@@ -33,7 +33,62 @@ fn read_header() -> usize
     t.count
 }
 
-// Reads a part of the file, and prints its report. A part that is not full is the last.
+// Serves a part of the file, and prints its report: whenever the output buffer has no room for another line, and at the end.
+fn serve_part(
+    lines: u32,
+    n: usize,
+    order: &mut [usize; 32],
+    labels: &mut [[u8; 31]; 32],
+    jobs: &mut [u32; 32],
+    pending_labels: &mut [[u8; 31]; 32],
+    pending_jobs: &mut [u32; 32],
+    result_stations: &mut [[u8; 32]; 32],
+    result_jobs: &mut [[u32; 32]; 32],
+    phases: &mut [u8; 32],
+    chunk: &[u8],
+    out: &mut [u8],
+) -> Turn
+    requires { ⌜ Runnable (parts n (now labels) (now jobs) (now «pending_labels») (now «pending_jobs») (now «result_stations») (now «result_jobs») (now phases)) (now order) ⌝ }
+    requires { ⌜ lines ≤ 1000001 ⌝ }
+    requires { ⌜ 928 ≤ length (now out) ⌝ }
+    ensures { λ _. ⌜ Runnable (parts n (now (labels .exit)) (now (jobs .exit)) (now («pending_labels» .exit)) (now («pending_jobs» .exit)) (now («result_stations» .exit)) (now («result_jobs» .exit)) (now (phases .exit))) (now (order .exit)) ⌝ }
+    ensures { λ r. ⌜ (r .more ≡ true → (r .lines ≡ lines + pieces (now (chunk .entry))) × (r .lines ≤ 1000001)) ⌝ }
+{
+    let mut count = lines;
+    let mut at = 0;
+    while at < chunk.len() {
+        let r = file::report_lines(
+            count,
+            n,
+            order,
+            labels,
+            jobs,
+            pending_labels,
+            pending_jobs,
+            result_stations,
+            result_jobs,
+            phases,
+            &chunk[at..],
+            out,
+        );
+        let written = r.written;
+        let refusal = r.refusal;
+        if !io::write_all(STDOUT_FILENO, &out[..written]) {
+            return Turn { lines, more: false };
+        }
+        if refusal.number() != 0 {
+            return Turn { lines, more: false };
+        }
+        count = r.lines;
+        at += r.read;
+    }
+    Turn {
+        lines: count,
+        more: true,
+    }
+}
+
+// Reads a part of the file, and serves it. A part that is not full is the last.
 fn read_part(
     lines: u32,
     n: usize,
@@ -51,12 +106,12 @@ fn read_part(
     requires { ⌜ Runnable (parts n (now labels) (now jobs) (now «pending_labels») (now «pending_jobs») (now «result_stations») (now «result_jobs») (now phases)) (now order) ⌝ }
     requires { ⌜ lines ≤ 1000001 ⌝ }
     requires { ⌜ 0 < length (now input) ⌝ }
-    requires { ⌜ 928 * pieces (now input) ≤ length (now out) ⌝ }
+    requires { ⌜ 928 ≤ length (now out) ⌝ }
     ensures { λ _. ⌜ Runnable (parts n (now (labels .exit)) (now (jobs .exit)) (now («pending_labels» .exit)) (now («pending_jobs» .exit)) (now («result_stations» .exit)) (now («result_jobs» .exit)) (now (phases .exit))) (now (order .exit)) ⌝ }
     ensures { λ r. ⌜ (r .more ≡ true → (lines < r .lines) × (r .lines ≤ 1000001)) ⌝ }
 {
     let k = io::read_full(STDIN_FILENO, input);
-    let r = file::report_lines(
+    let t = serve_part(
         lines,
         n,
         order,
@@ -70,12 +125,9 @@ fn read_part(
         &input[..k],
         out,
     );
-    let written = r.written;
-    let refusal = r.refusal;
-    let is_written = io::write_all(STDOUT_FILENO, &out[..written]);
     Turn {
-        lines: r.lines,
-        more: is_written && k == input.len() && refusal.number() == 0,
+        lines: t.lines,
+        more: t.more && k == input.len(),
     }
 }
 
@@ -91,7 +143,7 @@ fn read_parts(
     result_jobs: &mut [[u32; 32]; 32],
     phases: &mut [u8; 32],
     input: &mut [u8; 73728],
-    out: &mut [u8; 3801088],
+    out: &mut [u8; 65536],
 )
     requires { ⌜ Runnable (parts n (now labels) (now jobs) (now «pending_labels») (now «pending_jobs») (now «result_stations») (now «result_jobs») (now phases)) (now order) ⌝ }
 {
@@ -130,7 +182,7 @@ fn run(n: usize)
     let mut result_jobs = [[0u32; 32]; 32];
     let mut phases = [0u8; 32];
     let mut input = [0u8; 73728];
-    let mut out = [0u8; 3801088];
+    let mut out = [0u8; 65536];
     read_parts(
         n,
         &mut order,

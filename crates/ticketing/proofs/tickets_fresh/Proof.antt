@@ -1,9 +1,6 @@
-use mathlib.Core.Path.{ap}
-use lib.ListN.{replicate}
 use lib.Dec.{leb}
 use borrow.Author.Tests.{lt-leb}
 use Rattle.label.proofs.Facts.{left-no, right-no, within-of}
-use Rattle.parts.specs.Parts.{parts}
 use Rattle.ticketing.proofs.TurnLaws.{started, not-started}
 use borrow.Author.Needs.{needs}
 use Rattle.ticketing.proofs.tickets_fresh.Statement.{statement}
@@ -22,7 +19,7 @@ returns-3 : tie.Need-returns-3
 returns-3 c =
     let f = c .before .before .before .before .before in
     let n = f .before .before .before .args .n in
-    started n _ _ (within-of 2 32 n (search needs) (search needs)) (ap (λ s. parts n (replicate 32 (replicate 31 1)) (replicate 32 0) (replicate 32 (replicate 31 1)) (replicate 32 0) (replicate 32 s) (replicate 32 (replicate 32 0)) (replicate 32 0)) (f .fresh-row .ensures))
+    started n _ (within-of 2 32 n (search needs) (search needs)) (f .fresh-row .ensures)
 
 pub tickets-fresh-spec : {M : Type 1} → statement M
 tickets-fresh-spec = tie.close (tie.spec returns returns-2 fresh-row-requires returns-3)

@@ -34,8 +34,8 @@ loop-again c =
     let i = c .before .before .before .loop .i in
     let b = getD (c .before .before .before .before .args .phases .now) i 0 in (
       search needs,
-      ⊎-elim (λ w. w .1 ∙ flag-down i _ (lt-leb b 5 (w .0 .taken)))
-          (λ w. w .1 ∙ flag-stays i _ (c .before .before .before .loop .inv .1) (le-leb b 5 (w .0 .left)))
+      ⊎-elim (λ w. w .1 ∙ flag-down i _ (lt-leb b 5 (omega (arith, w .0 .taken))))
+          (λ w. w .1 ∙ flag-stays i _ (c .before .before .before .loop .inv .1) (le-leb b 5 (omega (arith, w .0 .left))))
           (c .if1 .came),
     )
 

@@ -1,0 +1,118 @@
+use borrow.Author.Needs.{needs}
+use mathlib.Core.Path.{_≡_, refl, sym, _∙_}
+use mathlib.Core.Bool.{true≢false}
+use Prim.Native.Nat.{_+_, _-_, _≤_, _<_}
+use native.Mathlib.Omega.{arith}
+use lib.ListN.{length, length-take, length-drop}
+use lib.Seq.{length-take-le}
+use Rattle.parts.specs.Parts.{parts}
+use Rattle.file.specs.Files.{pieces}
+use Rattle.file.specs.Contracts.{Runnable, ahead}
+use Rattle.file.proofs.ChunkLaws.{reports-inside, part-on}
+use Rattle.tickets.proofs.serve_part.Statement.{statement}
+use Rattle.tickets.proofs.serve_part.Tie as tie
+
+abbrev Inv-loop : tie.InvT-loop
+Inv-loop lines n order₀ labels₀ jobs₀ pending-labels₀ pending-jobs₀ result-stations₀ result-jobs₀ phases₀ chunk out₀ count₀ at₀ order labels jobs pending-labels pending-jobs result-stations result-jobs phases out count at =
+    Runnable (parts n labels jobs pending-labels pending-jobs result-stations result-jobs phases) order
+    × (length out ≡ length out₀) × (at ≤ length chunk) × (count + ahead chunk at ≡ lines + pieces chunk) × (count ≤ 1000001)
+
+abbrev μ-loop : tie.MeasureT-loop
+μ-loop lines n order₀ labels₀ jobs₀ pending-labels₀ pending-jobs₀ result-stations₀ result-jobs₀ phases₀ chunk out₀ count₀ at₀ order labels jobs pending-labels pending-jobs result-stations result-jobs phases out count at =
+    length chunk - at
+
+loop-holds : tie.Need-loop-holds Inv-loop μ-loop
+loop-holds c = (c .before .before .pre .0, refl, omega arith, omega arith, c .before .before .pre .1 .0)
+
+sub-report-lines : tie.Need-sub-report-lines Inv-loop μ-loop
+sub-report-lines c = omega arith
+
+part-report-lines-start : tie.Need-part-report-lines-start Inv-loop μ-loop
+part-report-lines-start c = omega arith
+
+part-report-lines-end : tie.Need-part-report-lines-end Inv-loop μ-loop
+part-report-lines-end c = omega arith
+
+report-lines-requires : tie.Need-report-lines-requires Inv-loop μ-loop
+report-lines-requires c κs = c .before .before .before .before .before .before .before .before .before .before .before .loop .inv .0
+
+slice-reshare-prefix-write-all : tie.Need-slice-reshare-prefix-write-all Inv-loop μ-loop
+slice-reshare-prefix-write-all c = reports-inside (c .before .before .report-lines .ensures .0)
+
+slice-aggregate-write-all : tie.Need-slice-aggregate-write-all Inv-loop μ-loop
+slice-aggregate-write-all c = sym (length-take-le _ _ (reports-inside (c .before .before .before .report-lines .ensures .0)))
+
+write-all-requires : tie.Need-write-all-requires Inv-loop μ-loop
+write-all-requires c κs = search needs
+
+same-length : tie.Need-same-length Inv-loop μ-loop
+same-length c = c .before .before .before .before .before .report-lines .kept .1 .1 .1 .1 .1 .1 .1 .1 .1 .1 .1 .0 ∙ c .before .before .before .before .before .before .before .before .before .before .before .before .before .before .before .before .before .loop .inv .1
+
+returns : tie.Need-returns Inv-loop μ-loop
+returns c = (c .before .before .before .before .before .report-lines .ensures .1, λ e. absurd (true≢false (sym e)))
+
+number-requires : tie.Need-number-requires Inv-loop μ-loop
+number-requires c κs = search needs
+
+same-length-2 : tie.Need-same-length-2 Inv-loop μ-loop
+same-length-2 c = c .before .before .before .before .before .before .before .report-lines .kept .1 .1 .1 .1 .1 .1 .1 .1 .1 .1 .1 .0 ∙ c .before .before .before .before .before .before .before .before .before .before .before .before .before .before .before .before .before .before .before .loop .inv .1
+
+returns-2 : tie.Need-returns-2 Inv-loop μ-loop
+returns-2 c = (c .before .before .before .before .before .before .before .report-lines .ensures .1, λ e. absurd (true≢false (sym e)))
+
+add-at : tie.Need-add-at Inv-loop μ-loop
+add-at c =
+    let l = c .before .before .before .before .before .before .before .before .before .before .before .before .before .before .before .before .before .before .before .before .loop in
+    let r = c .before .before .before .before .before .before .before .before .report-lines in
+    let a = c .before .before .before .before .before .before .before .before .before .before .before .before .before .before .before .before .before .before .before .before .before .before .before .args in
+    let on = part-on (r .ensures .0) (a .chunk .now) (l .at) (a .lines + pieces (a .chunk .now)) (c .before .before .before .before .before .before .before .before .before .before .before .before .before .before .before .before .before .before .before .loop-test .taken) (simp (length-take, length-drop) (omega arith)) (l .inv .3) (l .inv .4) (omega (arith, l .inv .1, c .before .before .before .before .before .before .before .before .before .before .before .before .before .before .before .before .before .before .before .before .before .before .before .pre .1 .1)) (sym (c .before .before .number .ensures) ∙ c .before .if2 .left) in
+    omega (arith, on, c .before .before .before .before .before .before .before .before .before .before .before .before .before .before .before .before .before .before .before .before .before .before .before .good .1 .1 .1 .1 .1 .1 .1 .1 .1 .1 .0 .0)
+
+loop-less : tie.Need-loop-less Inv-loop μ-loop
+loop-less c =
+    let l = c .before .before .before .before .before .before .before .before .before .before .before .before .before .before .before .before .before .before .before .before .loop in
+    let r = c .before .before .before .before .before .before .before .before .report-lines in
+    let a = c .before .before .before .before .before .before .before .before .before .before .before .before .before .before .before .before .before .before .before .before .before .before .before .args in
+    let on = part-on (r .ensures .0) (a .chunk .now) (l .at) (a .lines + pieces (a .chunk .now)) (c .before .before .before .before .before .before .before .before .before .before .before .before .before .before .before .before .before .before .before .loop-test .taken) (simp (length-take, length-drop) (omega arith)) (l .inv .3) (l .inv .4) (omega (arith, l .inv .1, c .before .before .before .before .before .before .before .before .before .before .before .before .before .before .before .before .before .before .before .before .before .before .before .pre .1 .1)) (sym (c .before .before .number .ensures) ∙ c .before .if2 .left) in
+    omega (arith, on)
+
+loop-again : tie.Need-loop-again Inv-loop μ-loop
+loop-again c =
+    let l = c .before .before .before .before .before .before .before .before .before .before .before .before .before .before .before .before .before .before .before .before .loop in
+    let r = c .before .before .before .before .before .before .before .before .report-lines in
+    let a = c .before .before .before .before .before .before .before .before .before .before .before .before .before .before .before .before .before .before .before .before .before .before .before .args in
+    let on = part-on (r .ensures .0) (a .chunk .now) (l .at) (a .lines + pieces (a .chunk .now)) (c .before .before .before .before .before .before .before .before .before .before .before .before .before .before .before .before .before .before .before .loop-test .taken) (simp (length-take, length-drop) (omega arith)) (l .inv .3) (l .inv .4) (omega (arith, l .inv .1, c .before .before .before .before .before .before .before .before .before .before .before .before .before .before .before .before .before .before .before .before .before .before .before .pre .1 .1)) (sym (c .before .before .number .ensures) ∙ c .before .if2 .left) in
+    (r .ensures .1, r .kept .1 .1 .1 .1 .1 .1 .1 .1 .1 .1 .1 .0 ∙ l .inv .1, on .1, on .2, on .3)
+
+same-length-3 : tie.Need-same-length-3 Inv-loop μ-loop
+same-length-3 c = c .before .loop .inv .1
+
+returns-3 : tie.Need-returns-3 Inv-loop μ-loop
+returns-3 c =
+    let l = c .before .loop in
+    (l .inv .0, λ e. (omega (arith, l .inv .3), l .inv .4))
+
+pub serve-part-spec : {M : Type 1} → statement M
+serve-part-spec =
+    tie.close
+    (tie.spec
+    Inv-loop
+    μ-loop
+    loop-holds
+    sub-report-lines
+    part-report-lines-start
+    part-report-lines-end
+    report-lines-requires
+    slice-reshare-prefix-write-all
+    slice-aggregate-write-all
+    write-all-requires
+    same-length
+    returns
+    number-requires
+    same-length-2
+    returns-2
+    add-at
+    loop-less
+    loop-again
+    same-length-3
+    returns-3)
