@@ -1,0 +1,209 @@
+//! Boards by index, reached or made up or damaged, and the calls on them.
+
+use crate::draw::{any_step, pick, source, Crew, Step};
+use crate::library::{Board, LAST_PHASE};
+use ticket_bench::generate::Random;
+use ticket_bench::plain::{Table, MAX_DIGITS, MAX_STATIONS, REPORT_LINE};
+
+/// A call, all of it: made on a copy of the board, with a report area filled with one byte.
+pub struct Call {
+    pub step: Step,
+    pub room: usize,
+    pub fill: u8,
+}
+
+/// All calls on the board with this index go by one run of numbers.
+pub struct Session {
+    random: Random,
+    crew: Crew,
+    /// One step in so many is of any kind.
+    any_in: u64,
+    pub n: u64,
+    pub board: Board,
+    pub calls: u64,
+}
+
+pub fn noise(random: &mut Random) -> Board {
+    let mut board = Board::of(&Table::fresh(MAX_STATIONS));
+    board.count = 2 + random.below(31);
+    board.labels.iter_mut().flatten().for_each(|b| *b = random.word() as u8);
+    board.jobs.iter_mut().for_each(|b| *b = random.word() as u32);
+    board.pending_labels.iter_mut().flatten().for_each(|b| *b = random.word() as u8);
+    board.pending_jobs.iter_mut().for_each(|b| *b = random.word() as u32);
+    board.result_stations.iter_mut().flatten().for_each(|b| *b = random.word() as u8);
+    board.result_jobs.iter_mut().flatten().for_each(|b| *b = random.word() as u32);
+    board.phases.iter_mut().for_each(|b| *b = random.word() as u8);
+    board
+}
+
+/// Digits that follow a drawn prefix tree: after each prefix one digit is the usual one and one of 3, 4, 5 is left out, so there is no ring.
+fn label(random: &mut Random, n: usize, tree: u64, stray_in: u64) -> [u8; MAX_DIGITS] {
+    let mut label = [1; MAX_DIGITS];
+    let mut prefix = tree;
+    for digit in &mut label[..n - 1] {
+        let drawn = Random(prefix).word();
+        let usual = 1 + (drawn % 5) as u8;
+        let left_out = 3 + (drawn >> 32) as u8 % 3;
+        *digit = if random.one_in(stray_in) { 1 + random.below(5) as u8 } else { usual };
+        if *digit == left_out {
+            *digit = 1 + (drawn >> 40) as u8 % 2;
+        }
+        prefix = drawn ^ u64::from(*digit);
+    }
+    label
+}
+
+/// A well-formed board that no steps need to reach.
+fn made_up(random: &mut Random, n: usize) -> Board {
+    let mut board = Board::of(&Table::fresh(n));
+    let tree = random.word();
+    let stray_in = pick(random, &[2, 4, 16, 64]);
+    for i in 0..n {
+        board.labels[i] = label(random, n, tree, stray_in);
+        // A pending label may be any row of digits, and close a ring.
+        board.pending_labels[i][..n - 1].iter_mut().for_each(|d| *d = 1 + random.below(5) as u8);
+        board.jobs[i] = random.word() as u32;
+        board.pending_jobs[i] = random.word() as u32 >> random.below(32);
+        for place in 0..n {
+            let other = place + random.below((n - place) as u64) as usize;
+            board.result_stations[i].swap(place, other);
+            board.result_jobs[i][place] = random.word() as u32 >> random.below(32);
+        }
+        board.phases[i] = random.below(u64::from(LAST_PHASE) + 1) as u8;
+    }
+    board
+}
+
+fn below(random: &mut Random, bound: usize) -> usize {
+    random.below(bound as u64) as usize
+}
+
+/// Changes one thing, mostly into something that is not well formed. A change may also leave the board as it was.
+fn damage(random: &mut Random, board: &mut Board) {
+    let n = board.count as usize;
+    let i = below(random, n);
+    let past = if n < MAX_STATIONS { n + below(random, MAX_STATIONS - n) } else { i };
+    let place = below(random, n);
+    let place_past = if n < MAX_STATIONS { n + below(random, MAX_STATIONS - n) } else { place };
+    let position = below(random, MAX_DIGITS);
+    let digit = pick(random, &[0, 1, 2, 3, 4, 5, 6, 7, 128, 255, 257u64 as u8]);
+    let number = (random.word() as u32 >> random.below(32)).max(1);
+    match random.below(20) {
+        0 => board.labels[i][position] = digit,
+        1 => board.pending_labels[i][position] = digit,
+        2 => board.labels[past][position] = digit,
+        3 => board.pending_labels[past][position] = digit,
+        4 => board.jobs[past] = number,
+        5 => board.pending_jobs[past] = number,
+        6 => board.phases[past] = random.below(8) as u8,
+        7 => board.phases[i] = pick(random, &[6, 7, 8, 127, 128, 255, 0, 3]),
+        8 => board.result_stations[i][place] = board.result_stations[i][below(random, n)],
+        9 => board.result_stations[i][place] = pick(random, &[0, n as u8, n as u8 + 1, 33, 64, 65, 255]),
+        10 => board.result_stations[i][place_past] = pick(random, &[0, 1, n as u8, n as u8 + 1, 255]),
+        11 => board.result_jobs[i][place_past] = number,
+        12 => board.result_stations[past][below(random, MAX_STATIONS)] = random.below(34) as u8,
+        13 => board.result_jobs[past][below(random, MAX_STATIONS)] = number,
+        // Another count: fields that fitted n do not fit it.
+        14 => {
+            let n = n as u64;
+            board.count = pick(random, &[0, 1, n - 1, n + 1, 33, 34, n + 32, n + 256, n + (1 << 32), n | 1 << 63, u64::MAX, 1 << 32]);
+        }
+        // A ring: three stations with the same digits up to a position and 3, 4, 5 there; sometimes only two of the three.
+        15 | 16 => {
+            let at = below(random, n - 1);
+            let mut three = [i, below(random, n), below(random, n)];
+            let shared = board.labels[i];
+            let digits = pick(random, &[[3, 4, 5], [3, 5, 4], [5, 3, 4], [3, 4, 4], [2, 4, 5], [1, 3, 5]]);
+            if n > 2 && random.below(4) > 0 {
+                three = [i, (i + 1) % n, (i + 2) % n];
+            }
+            for (station, digit) in three.into_iter().zip(digits) {
+                board.labels[station][..at].copy_from_slice(&shared[..at]);
+                board.labels[station][at] = digit;
+            }
+        }
+        // A ring among pending labels is none.
+        17 => {
+            for (k, digit) in [3, 4, 5].into_iter().enumerate() {
+                board.pending_labels[(i + k) % n][below(random, n - 1)] = digit;
+            }
+        }
+        18 => board.labels[i] = board.pending_labels[below(random, n)],
+        // Any one byte of the small arrays.
+        _ => match random.below(4) {
+            0 => board.labels[below(random, MAX_STATIONS)][position] = random.word() as u8,
+            1 => board.pending_labels[below(random, MAX_STATIONS)][position] = random.word() as u8,
+            2 => board.result_stations[below(random, MAX_STATIONS)][below(random, MAX_STATIONS)] = random.word() as u8,
+            _ => board.phases[below(random, MAX_STATIONS)] = random.word() as u8,
+        },
+    }
+}
+
+/// Random digits, rings and all, on a board that is else well formed.
+fn any_digits(random: &mut Random, n: usize) -> Board {
+    let mut board = made_up(random, n);
+    let spread = pick(random, &[2, 8, 64]);
+    for i in 1..n {
+        let other = below(random, i);
+        board.labels[i] = board.labels[other];
+        for digit in &mut board.labels[i][..n - 1] {
+            if random.one_in(spread) {
+                *digit = 1 + random.below(5) as u8;
+            }
+        }
+    }
+    board
+}
+
+impl Session {
+    /// The board is still to be freshened if `fresh` is returned.
+    pub fn new(seed: u64, index: u64) -> (Session, bool) {
+        let mut random = source(seed, 2, index);
+        let n = 2 + index % 31;
+        let (board, calls, fresh) = match random.below(8) {
+            0 | 1 => (made_up(&mut random, n as usize), 1 + random.below(40), false),
+            2 => (any_digits(&mut random, n as usize), 1, false),
+            3 if random.one_in(8) => (noise(&mut random), 1, false),
+            _ => (noise(&mut random), 1 + random.below(300), true),
+        };
+        let crew = Crew::new(&mut random, n);
+        let any_in = pick(&mut random, &[1 << 40, 16, 4]);
+        (Session { random, crew, any_in, n, board, calls }, fresh)
+    }
+
+    /// A count for `tickets_fresh`, mostly not one of 2 to 32.
+    pub fn other_count(&mut self) -> u64 {
+        let n = self.n;
+        pick(&mut self.random, &[0, 1, 2, 32, 33, 34, 255, n + 32, n + 256, n + (1 << 32), n | 1 << 63, u64::MAX, 1 << 32])
+    }
+
+    /// The next call on the board.
+    pub fn call(&mut self) -> Call {
+        let Session { random, crew, board, n, .. } = self;
+        let step = if random.one_in(self.any_in) { any_step(random, *n) } else { crew.step(random, &board.phases) };
+        let exact = *n as usize * REPORT_LINE;
+        let room = match random.below(8) {
+            0 => exact - 1,
+            1 => exact + 1,
+            2 => below(random, exact),
+            3 => exact + below(random, 64),
+            4 => pick(random, &[0, 1, 28, 29, 58, exact - 29, 928, 929, 1000]),
+            _ => exact,
+        };
+        Call { step, room, fill: random.word() as u8 }
+    }
+
+    /// Now and then a damaged copy of the board, for a call that the board itself does not see.
+    pub fn damaged(&mut self) -> Option<Board> {
+        if !self.random.one_in(4) {
+            return None;
+        }
+        let mut board = self.board.clone();
+        for _ in 0..if self.random.one_in(8) { 3 } else { 1 } {
+            if (2..=32).contains(&board.count) {
+                damage(&mut self.random, &mut board);
+            }
+        }
+        Some(board)
+    }
+}

@@ -1,0 +1,59 @@
+//! The static library against the plain program, byte for byte. README.md says what is covered.
+
+mod calls;
+mod draw;
+mod files;
+mod library;
+mod run;
+
+use std::process::ExitCode;
+
+const USAGE: &str = "ticket-differential [--files N] [--calls N] [--seed S]";
+
+struct Budget {
+    files: u64,
+    calls: u64,
+    seed: u64,
+}
+
+fn budget() -> Result<Budget, String> {
+    let mut budget = Budget { files: 2000, calls: 20_000, seed: 1 };
+    let mut arguments = std::env::args().skip(1);
+    while let Some(name) = arguments.next() {
+        let to = match name.as_str() {
+            "--files" => &mut budget.files,
+            "--calls" => &mut budget.calls,
+            "--seed" => &mut budget.seed,
+            _ => return Err(USAGE.into()),
+        };
+        *to = arguments.next().and_then(|number| number.parse().ok()).ok_or(USAGE)?;
+    }
+    Ok(budget)
+}
+
+fn all() -> Result<String, String> {
+    let Budget { mut files, mut calls, seed } = budget()?;
+    if files > 0 {
+        run::files(seed, files)?.show("report lines of files")?;
+        files += run::FULL.len() as u64;
+    }
+    if calls > 0 {
+        let counts = run::calls(seed, calls)?;
+        counts.show("direct calls")?;
+        calls = counts.total();
+    }
+    Ok(format!("files {files}, calls {calls}: all agree"))
+}
+
+fn main() -> ExitCode {
+    match all() {
+        Ok(line) => {
+            println!("{line}");
+            ExitCode::SUCCESS
+        }
+        Err(message) => {
+            eprintln!("{message}");
+            ExitCode::FAILURE
+        }
+    }
+}
