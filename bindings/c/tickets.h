@@ -69,6 +69,11 @@ struct tickets_answer tickets_step(uint64_t count, uint8_t (*labels)[TICKETS_MAX
     uint32_t *pending_jobs, uint8_t (*result_stations)[TICKETS_MAX_STATIONS], uint32_t (*result_jobs)[TICKETS_MAX_STATIONS], uint8_t *phases,
     uint64_t code, uint64_t station, uint64_t job, uint8_t *report, size_t report_len);
 
+/* Writes the report of a whole schedule file to the front of the buffer. It asks for room for any report of a file of that length,
+   TICKETS_REPORT_ROOM bytes; with less it answers TICKETS_SHORT_REPORT, and the buffer stays. Neither buffer is null, and they do not overlap. */
+#define TICKETS_REPORT_ROOM(schedule_len) (((schedule_len) / 18 + 2) * TICKETS_MAX_STATIONS * TICKETS_REPORT_LINE)
+struct tickets_answer tickets_report(const uint8_t *schedule, size_t schedule_len, uint8_t *report, size_t report_len);
+
 /* Makes the board a fresh table of `count` stations; TICKETS_BAD_COUNT leaves it as it is. */
 static inline uint64_t tickets_board_fresh(struct tickets_board *board, uint64_t count) {
     uint64_t refusal = tickets_fresh(count, board->labels, board->jobs, board->pending_labels, board->pending_jobs, board->result_stations,

@@ -1,4 +1,4 @@
-//! The ticket table for Rust programs: a safe wrapper of the proved library `libticketing.a`, whose functions ask nothing of their caller.
+//! The ticket table and the schedule program for Rust programs: a safe wrapper of the proved library `libticketing.a`, whose functions ask nothing of their caller.
 //!
 //! That the declarations here are those of the library is not proved; the assertions below hold the layout, and `tests/` runs the library.
 
@@ -101,6 +101,18 @@ extern "C" {
         report: *mut u8,
         report_len: usize,
     ) -> Answer;
+    fn tickets_report(schedule: *const u8, schedule_len: usize, report: *mut u8, report_len: usize) -> Answer;
+}
+
+/// The report of a whole schedule file. The memory that it takes is that of the report; room for more is asked for, and not touched.
+pub fn report(schedule: &[u8]) -> Vec<u8> {
+    let mut report = vec![0; (schedule.len() / 18 + 2) * MAX_STATIONS * REPORT_LINE];
+    // SAFETY: the function is declared as the library exports it; it takes any bytes, and writes at most `report.len()` to the buffer, which does not
+    // overlap the schedule.
+    let answer = unsafe { tickets_report(schedule.as_ptr(), schedule.len(), report.as_mut_ptr(), report.len()) };
+    assert!(answer.refusal == 0, "there is room for every report");
+    report.truncate(answer.written as usize);
+    report
 }
 
 impl Board {
