@@ -43,7 +43,6 @@ extern "C" {
         report_len: usize,
     ) -> Answer;
 
-    #[cfg(feature = "report")]
     fn tickets_report(schedule: *const u8, schedule_len: usize, report: *mut u8, report_len: usize) -> Answer;
 }
 
@@ -158,7 +157,6 @@ impl Board {
 }
 
 /// The library's report of a whole schedule.
-#[cfg(feature = "report")]
 pub fn report(schedule: &[u8], report: &mut [u8]) -> Answer {
     // SAFETY: both are as long as is said, and a shared and an exclusive loan do not overlap.
     unsafe { tickets_report(schedule.as_ptr(), schedule.len(), report.as_mut_ptr(), report.len()) }

@@ -8,22 +8,28 @@ mod run;
 
 use std::process::ExitCode;
 
-const USAGE: &str = "ticket-differential [--files N] [--calls N] [--seed S]";
+const USAGE: &str = "ticket-differential [--files N] [--calls N] [--seed S] [--program TICKETS]";
 
 struct Budget {
     files: u64,
     calls: u64,
     seed: u64,
+    /// Run on the files in the library's place.
+    program: Option<String>,
 }
 
 fn budget() -> Result<Budget, String> {
-    let mut budget = Budget { files: 2000, calls: 20_000, seed: 1 };
+    let mut budget = Budget { files: 2000, calls: 20_000, seed: 1, program: None };
     let mut arguments = std::env::args().skip(1);
     while let Some(name) = arguments.next() {
         let to = match name.as_str() {
             "--files" => &mut budget.files,
             "--calls" => &mut budget.calls,
             "--seed" => &mut budget.seed,
+            "--program" => {
+                budget.program = Some(arguments.next().ok_or(USAGE)?);
+                continue;
+            }
             _ => return Err(USAGE.into()),
         };
         *to = arguments.next().and_then(|number| number.parse().ok()).ok_or(USAGE)?;
@@ -32,9 +38,9 @@ fn budget() -> Result<Budget, String> {
 }
 
 fn all() -> Result<String, String> {
-    let Budget { mut files, mut calls, seed } = budget()?;
+    let Budget { mut files, mut calls, seed, program } = budget()?;
     if files > 0 {
-        run::files(seed, files)?.show("report lines of files")?;
+        run::files(seed, files, program.as_deref())?.show("report lines of files")?;
         files += run::FULL.len() as u64;
     }
     if calls > 0 {

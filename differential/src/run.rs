@@ -3,10 +3,13 @@
 use crate::calls::{noise, Call, Session};
 use crate::draw::source;
 use crate::files::file;
-use crate::library::{Answer, Board};
+use crate::library::{self, Answer, Board};
 use std::fmt::Debug;
+use std::fs::{self, File};
+use std::io;
+use std::process::{Command, Stdio};
 use ticket_bench::generate::{schedule, Ending};
-use ticket_bench::plain::{self, refusal, Table, MAX_STEPS, REPORT_LINE};
+use ticket_bench::plain::{self, refusal, Table, LINE, MAX_STATIONS, MAX_STEPS, REPORT_LINE};
 
 /// How often each refusal number was the plain program's answer, 0 for a call or a report line that is not refused.
 pub struct Counts {
@@ -39,65 +42,45 @@ impl Counts {
     }
 }
 
-#[cfg(not(feature = "report"))]
-mod reports {
-    use std::fs::{self, File};
-    use std::io::{self, Write};
-    use std::process::{Command, Stdio};
+/// Bytes behind a lent area that are not lent.
+const BEHIND: usize = 64;
 
-    pub const OWED: &[u64] = &[0, 1, 2, 3, 4, 5, 6, 8, 9, 10, 11, 12];
-
-    /// The program's report. The schedule goes through a file, so neither side waits for the other.
-    pub fn checked(schedule: &[u8], expected: &[u8], _random: u64) -> Result<bool, String> {
-        let path = std::env::temp_dir().join(format!("ticket-differential-{}", std::process::id()));
-        let report = || -> io::Result<Vec<u8>> {
-            File::create(&path)?.write_all(schedule)?;
-            let program = concat!(env!("CARGO_MANIFEST_DIR"), "/../target/bin/tickets");
-            let output = Command::new(program).stdin(Stdio::from(File::open(&path)?)).stderr(Stdio::inherit()).output()?;
-            fs::remove_file(&path)?;
-            output.status.success().then_some(output.stdout).ok_or_else(|| io::Error::other(format!("tickets: {}", output.status)))
-        };
-        let report = report().map_err(|error| error.to_string())?;
-        super::same_bytes("report", &report, expected).map(|()| false)
+/// The library's report, in just the room that it asks for; true if less room was tried first.
+fn check_library(schedule: &[u8], expected: &[u8], random: u64) -> Result<bool, String> {
+    let room = MAX_STATIONS * REPORT_LINE * (schedule.len() / LINE + 2);
+    // The room for a full file is most of a gigabyte: it is left to the system as zeros, and looked at only near the report.
+    let full = room > 1 << 27;
+    let fill = if full { 0 } else { random as u8 };
+    let mut area = if full { vec![0; room + BEHIND] } else { vec![fill; room + BEHIND] };
+    let kept = |bytes: &[u8]| bytes.iter().all(|&b| b == fill);
+    let short = !full && random >> 8 & 3 == 0;
+    if short {
+        let less = if random >> 10 & 1 == 0 { room - 1 } else { (random >> 16) as usize % room };
+        let answer = library::report(schedule, &mut area[..less]);
+        same("answer to less room", &answer, &Answer { refusal: refusal::SHORT_REPORT, written: 0 })?;
+        same("whether less room is kept", &kept(&area), &true)?;
     }
+    let answer = library::report(schedule, &mut area[..room]);
+    same("answer", &answer, &Answer { refusal: 0, written: expected.len() as u64 })?;
+    let (report, rest) = area.split_at(expected.len());
+    same_bytes("report", report, expected)?;
+    let near = if full { 1 << 16 } else { rest.len() };
+    same("whether the bytes past the report are kept", &kept(&rest[..near]), &true)?;
+    Ok(short)
 }
 
-#[cfg(feature = "report")]
-mod reports {
-    use super::{same, same_bytes, Answer};
-    use crate::library;
-    use ticket_bench::plain::{refusal, LINE};
-
-    pub const OWED: &[u64] = &[0, 1, 2, 3, 4, 5, 6, 7, 8, 9, 10, 11, 12];
-
-    /// The room that a report is to have, whatever its schedule says.
-    fn room(len: usize) -> usize {
-        928 * (len / LINE + 2)
-    }
-
-    /// The library's report, in exactly the room that it asks for and with bytes behind it that it must leave alone; true if it was also refused less room.
-    pub fn checked(schedule: &[u8], expected: &[u8], random: u64) -> Result<bool, String> {
-        const BEHIND: usize = 64;
-        let room = room(schedule.len());
-        // The area of a full file is most of a gigabyte: it is left to the system as zeros, and looked at only near the report.
-        let long = room > 1 << 24;
-        let fill = if long { 0 } else { random as u8 };
-        let mut area = if long { vec![0; room + BEHIND] } else { vec![fill; room + BEHIND] };
-        let short = !long && random >> 8 & 3 == 0;
-        if short {
-            let less = if random >> 10 & 1 == 0 { room - 1 } else { (random >> 16) as usize % room };
-            let answer = library::report(schedule, &mut area[..less]);
-            same("answer to less room", &answer, &Answer { refusal: refusal::SHORT_REPORT, written: 0 })?;
-            same("area of less room", &area.iter().all(|&b| b == fill), &true)?;
-        }
-        let answer = library::report(schedule, &mut area[..room]);
-        same("answer", &answer, &Answer { refusal: 0, written: expected.len() as u64 })?;
-        let (report, rest) = area.split_at(expected.len());
-        same_bytes("report", report, expected)?;
-        let near = if long { rest.len().min(1 << 16) } else { rest.len() };
-        same("bytes past the report kept", &rest[..near].iter().all(|&b| b == fill), &true)?;
-        Ok(short)
-    }
+/// The program's report. The schedule goes through a file, so neither side waits for the other.
+fn check_program(program: &str, schedule: &[u8], expected: &[u8]) -> Result<bool, String> {
+    let report = || -> io::Result<Vec<u8>> {
+        let path = std::env::temp_dir().join(format!("ticket-differential-{}", std::process::id()));
+        fs::write(&path, schedule)?;
+        let output = Command::new(program).stdin(File::open(&path)?).stderr(Stdio::inherit()).output()?;
+        fs::remove_file(&path)?;
+        output.status.success().then_some(output.stdout).ok_or_else(|| io::Error::other(output.status.to_string()))
+    };
+    let report = report().map_err(|error| format!("{program}: {error}"))?;
+    same_bytes("report", &report, expected)?;
+    Ok(false)
 }
 
 /// Both sides of a comparison, if they differ.
@@ -119,14 +102,18 @@ fn same_bytes(what: &str, library: &[u8], plain: &[u8]) -> Result<(), String> {
     Err(format!("{what} differs from byte {at} on\nlibrary: {}\nplain:   {}", rest(library), rest(plain)))
 }
 
-fn check_file(schedule: &[u8], random: u64, counts: &mut Counts) -> Result<(), String> {
+fn check_file(program: Option<&str>, schedule: &[u8], random: u64, counts: &mut Counts) -> Result<(), String> {
     let mut expected = Vec::new();
     plain::run(&mut &schedule[..], &mut expected).map_err(|error| error.to_string())?;
     for line in expected.chunks_exact(REPORT_LINE) {
         let number = line[8..11].iter().filter(|b| b.is_ascii_digit()).fold(0, |number, b| number * 10 + u64::from(b - b'0'));
         counts.add(number);
     }
-    if reports::checked(schedule, &expected, random)? {
+    let short = match program {
+        None => check_library(schedule, &expected, random)?,
+        Some(program) => check_program(program, schedule, &expected)?,
+    };
+    if short {
         counts.add(refusal::SHORT_REPORT);
     }
     Ok(())
@@ -136,23 +123,23 @@ fn check_file(schedule: &[u8], random: u64, counts: &mut Counts) -> Result<(), S
 pub const FULL: [Ending; 4] = [Ending::Plain, Ending::OneMore, Ending::Torn, Ending::Column];
 
 /// The full files, and so many others.
-pub fn files(seed: u64, files: u64) -> Result<Counts, String> {
-    let mut counts = Counts::new(reports::OWED);
+pub fn files(seed: u64, files: u64, program: Option<&str>) -> Result<Counts, String> {
+    let mut counts = Counts::new(match program {
+        None => &[0, 1, 2, 3, 4, 5, 6, 7, 8, 9, 10, 11, 12],
+        Some(_) => &[0, 1, 2, 3, 4, 5, 6, 8, 9, 10, 11, 12],
+    });
     for (n, ending) in (2..).zip(FULL) {
         let bytes = schedule(n, MAX_STEPS.into(), seed, ending);
-        check_file(&bytes, 1 << 8, &mut counts).map_err(|what| format!("seed {seed}, full file of {n} stations, ending {ending:?}: {what}"))?;
+        check_file(program, &bytes, 0, &mut counts).map_err(|what| format!("seed {seed}, full file of {n} stations, ending {ending:?}: {what}"))?;
     }
     for index in 0..files {
         let bytes = file(seed, index);
         let random = source(seed, 3, index).word();
-        check_file(&bytes, random, &mut counts)
+        check_file(program, &bytes, random, &mut counts)
             .map_err(|what| format!("seed {seed}, file {index}, {} bytes:\n{}\n{what}", bytes.len(), bytes.escape_ascii()))?;
     }
     Ok(counts)
 }
-
-/// The area lent for a report, with bytes behind it that are not lent.
-const BEHIND: usize = 64;
 
 /// One call on the board by both sides.
 fn check_call(board: &mut Board, call: &Call, counts: &mut Counts) -> Result<(), String> {
