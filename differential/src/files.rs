@@ -122,7 +122,8 @@ fn damage(random: &mut Random, n: u64, bytes: &mut Vec<u8>) {
 
 /// Bytes with no thought of lines.
 fn noise(random: &mut Random) -> Vec<u8> {
-    let len = random.below(80);
+    let some = random.below(80);
+    let len = pick(random, &[0, 17, 18, 19, some, some]);
     let digits = random.one_in(2);
     (0..len).map(|_| if digits { pick(random, b"    00123456789\n") } else { random.word() as u8 }).collect()
 }
