@@ -5,7 +5,7 @@ use crate::library::{Board, LAST_PHASE};
 use ticket_bench::generate::Random;
 use ticket_bench::plain::{Table, MAX_DIGITS, MAX_STATIONS, REPORT_LINE};
 
-/// A call, all of it: made on a copy of the board, with a report area filled with one byte.
+/// A step, the length of its report area, and the byte that fills it before.
 pub struct Call {
     pub step: Step,
     pub room: usize,
@@ -20,6 +20,8 @@ pub struct Session {
     any_in: u64,
     pub n: u64,
     pub board: Board,
+    /// Whether the board is first made a fresh one.
+    pub fresh: bool,
     pub calls: u64,
 }
 
@@ -86,7 +88,7 @@ fn damage(random: &mut Random, board: &mut Board) {
     let place = below(random, n);
     let place_past = if n < MAX_STATIONS { n + below(random, MAX_STATIONS - n) } else { place };
     let position = below(random, MAX_DIGITS);
-    let digit = pick(random, &[0, 1, 2, 3, 4, 5, 6, 7, 128, 255, 257u64 as u8]);
+    let digit = pick(random, &[0, 1, 2, 3, 4, 5, 6, 7, 128, 255]);
     let number = (random.word() as u32 >> random.below(32)).max(1);
     match random.below(20) {
         0 => board.labels[i][position] = digit,
@@ -156,8 +158,8 @@ fn any_digits(random: &mut Random, n: usize) -> Board {
 }
 
 impl Session {
-    /// The board is still to be freshened if `fresh` is returned.
-    pub fn new(seed: u64, index: u64) -> (Session, bool) {
+    /// All numbers of stations come in turn.
+    pub fn new(seed: u64, index: u64) -> Session {
         let mut random = source(seed, 2, index);
         let n = 2 + index % 31;
         let (board, calls, fresh) = match random.below(8) {
@@ -168,7 +170,7 @@ impl Session {
         };
         let crew = Crew::new(&mut random, n);
         let any_in = pick(&mut random, &[1 << 40, 16, 4]);
-        (Session { random, crew, any_in, n, board, calls }, fresh)
+        Session { random, crew, any_in, n, board, fresh, calls }
     }
 
     /// A count for `tickets_fresh`, mostly not one of 2 to 32.

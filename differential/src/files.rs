@@ -72,7 +72,7 @@ fn spoil(random: &mut Random, column: &mut [u8]) {
         3 => column.fill(b'0'),
         4 => column.fill(b'9'),
         5 => column[last - 1..].copy_from_slice(b"00"),
-        6 => column[last - 1..].copy_from_slice(pick(random, &[b"+1", b"-1", b"\t1", b"1\t", b"\n1", b"1\n", b"1\r", b"\01"])),
+        6 => column[last - 1..].copy_from_slice(pick(random, &[b"+1", b"-1", b"\t1", b"1\t", b"\n1", b"1\n", b"1\r", b"\x001"])),
         7 => {
             column[0] = b'1';
             column[last] = b'1';
@@ -122,7 +122,8 @@ fn damage(random: &mut Random, n: u64, bytes: &mut Vec<u8>) {
 
 /// Bytes with no thought of lines.
 fn noise(random: &mut Random) -> Vec<u8> {
-    let len = random.below(80);
+    let some = random.below(80);
+    let len = pick(random, &[0, 17, 18, 19, some, some]);
     let digits = random.one_in(2);
     (0..len).map(|_| if digits { pick(random, b"    00123456789\n") } else { random.word() as u8 }).collect()
 }

@@ -116,7 +116,7 @@ impl Board {
         Some(Table { n: usize::try_from(self.count).ok()?, stations: std::array::from_fn(station) })
     }
 
-    /// The library's fresh table of n stations, written over this board; the count is left alone.
+    /// The library's fresh table of n stations, written over this board; the count is kept.
     pub fn freshen(&mut self, n: u64) -> u64 {
         // SAFETY: each pointer is to an array of the type that the library declares, lent for the call, and no two overlap.
         unsafe {
