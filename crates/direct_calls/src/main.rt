@@ -69,7 +69,7 @@ fn shown(t: Table, form: u64, c: Command, report: &mut [u8]) -> Table {
     o.table
 }
 
-// Lends a buffer for a step call. A command has room for 929 bytes at most (`bounds`).
+// Lends a buffer for a step call. A command has room for 929 bytes at most (`fits`).
 fn call(t: Table, form: u64, c: Command) -> Table {
     let mut buffer = [b'.'; 929];
     let n = (c.d % 930) as usize;
