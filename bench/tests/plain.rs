@@ -19,7 +19,7 @@ fn refusals(report: &[u8]) -> Vec<(u64, u64)> {
 
 #[test]
 fn vectors() {
-    let folder = Path::new(env!("CARGO_MANIFEST_DIR")).join("../crates/vectors/data/outside");
+    let folder = Path::new(env!("CARGO_MANIFEST_DIR")).join("../tests/outside");
     let mut count = 0;
     for entry in fs::read_dir(folder).unwrap() {
         let input = entry.unwrap().path();

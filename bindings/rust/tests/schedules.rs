@@ -1,4 +1,4 @@
-//! Whole schedules: every vector of crates/vectors, byte for byte.
+//! Whole schedules: every schedule of tests/, byte for byte.
 
 use std::fs;
 use std::path::Path;
@@ -22,7 +22,7 @@ fn run(folder: &Path) -> usize {
 
 #[test]
 fn vectors() {
-    let folder = Path::new(env!("CARGO_MANIFEST_DIR")).join("../../crates/vectors/data");
+    let folder = Path::new(env!("CARGO_MANIFEST_DIR")).join("../../tests");
     assert!(run(&folder) >= 109);
 }
 
