@@ -1,11 +1,11 @@
 // Columns of fixed width: decimal numbers at the right edge, blanks before them.
 ghost use mathlib.Core.Path.{_≡_};
 ghost use mathlib.Core.List.{_++_};
-ghost use Prim.Native.Nat.{_≤_, _<_, _^_};
+ghost use Prim.Native.Nat.{_+_, _*_, _≤_, _<_, _^_};
 ghost use lib.ListN.{length};
 ghost use Rattle.columns.specs.Columns.{column, lineHead, lineTail, reportLine};
 ghost use Rattle.columns.specs.Reading.{columnRead};
-ghost use Rattle.columns.specs.Scanning.{withDigit, withFront};
+ghost use Rattle.columns.specs.Scanning.{withDigit, withFront, blanks};
 
 // What stands in a column: a number, or something that is not written as any number is.
 pub enum Column {
@@ -47,8 +47,8 @@ fn with_front(v: u64, b: u8) -> Column
     Column::Value(next)
 }
 
-// Reads a column.
-pub fn read_column(s: &[u8]) -> Column
+// Reads a column byte by byte.
+fn scan_column(s: &[u8]) -> Column
     requires { ⌜ length (now s) ≤ 18 ⌝ }
     ensures { λ r. ⌜ r ≡ columnRead (now (s .entry)) ⌝ }
 {
@@ -66,6 +66,36 @@ pub fn read_column(s: &[u8]) -> Column
         i += 1;
     }
     with_digit(v, s[last])
+}
+
+// Four bytes as one number, which tells four blanks from all others.
+fn joined(a: u8, b: u8, c: u8, d: u8) -> u64
+    ensures { λ r. ⌜ r ≡ a + b * 256 + c * 65536 + d * 16777216 ⌝ }
+    ensures { λ r. ⌜ r < 4294967296 ⌝ }
+    ensures { λ r. ⌜ (r ≡ 538976288 → (a ≡ 32) × (b ≡ 32) × (c ≡ 32) × (d ≡ 32)) ⌝ }
+{
+    a as u64 + b as u64 * 256 + c as u64 * 65536 + d as u64 * 16777216
+}
+
+// Whether the first 8 bytes are blanks. They are compared as two numbers, which the compiler makes one.
+fn blank_front(s: &[u8]) -> bool
+    requires { ⌜ 8 ≤ length (now s) ⌝ }
+    ensures { λ r. ⌜ r ≡ blanks 8 (now (s .entry)) ⌝ }
+{
+    let low = joined(s[0], s[1], s[2], s[3]);
+    let high = joined(s[4], s[5], s[6], s[7]);
+    low + high * 4294967296 == 2314885530818453536
+}
+
+// Reads a column. Of a wide one the blanks before a small number are passed over together.
+pub fn read_column(s: &[u8]) -> Column
+    requires { ⌜ length (now s) ≤ 18 ⌝ }
+    ensures { λ r. ⌜ r ≡ columnRead (now (s .entry)) ⌝ }
+{
+    if 8 < s.len() && blank_front(s) {
+        return scan_column(&s[8..]);
+    }
+    scan_column(s)
 }
 
 // Fills a column with v. Of a number that is too wide it writes the last digits.
