@@ -33,7 +33,7 @@ impl Random {
 pub enum Ending {
     Plain,
     /// Refusal 8: a line cut short.
-    Torn,
+    Incomplete,
     /// Refusal 9: a column with a needless 0.
     Column,
     /// Refusal 12 after 1,000,000 lines, and else one line more.
@@ -145,7 +145,7 @@ pub fn schedule(n: u64, lines: u64, seed: u64, ending: Ending) -> Vec<u8> {
     }
     match ending {
         Ending::Plain => {}
-        Ending::Torn => bytes.extend(&line(1, 1, 1)[..LINE - 1]),
+        Ending::Incomplete => bytes.extend(&line(1, 1, 1)[..LINE - 1]),
         Ending::Column => bytes.extend(b" 01  1          1\n"),
         Ending::OneMore => bytes.extend(line(1, 1, 1)),
     }

@@ -19,7 +19,7 @@ pub mod refusal {
     pub const NO_UPDATE_DUE: u64 = 5;
     pub const NO_END_DUE: u64 = 6;
     pub const SHORT_REPORT: u64 = 7;
-    pub const TORN: u64 = 8;
+    pub const INCOMPLETE: u64 = 8;
     pub const COLUMN: u64 = 9;
     pub const CODE: u64 = 10;
     pub const JOB: u64 = 11;
@@ -333,7 +333,7 @@ fn write_refusal(line: u32, refused: u64, report: &mut [u8]) {
 /// Station (in the header the count), code and job of a line.
 fn read_line(bytes: &[u8]) -> Result<(u64, u64, u64), u64> {
     if bytes.len() != LINE || bytes[LINE - 1] != b'\n' {
-        return Err(refusal::TORN);
+        return Err(refusal::INCOMPLETE);
     }
     Ok((column(&bytes[..3])?, column(&bytes[3..6])?, column(&bytes[6..17])?))
 }
@@ -382,7 +382,7 @@ pub fn run(input: &mut impl Read, output: &mut impl Write) -> io::Result<()> {
     let mut line = 0;
     loop {
         let len = fill(input, &mut schedule)?;
-        // An empty input is a torn line too.
+        // An empty input is an incomplete line too.
         let empty = (line == 0 && len == 0).then_some(&[][..]);
         for bytes in schedule[..len].chunks(LINE).chain(empty) {
             line += 1;
@@ -403,7 +403,7 @@ pub fn run(input: &mut impl Read, output: &mut impl Write) -> io::Result<()> {
                 Err(number) => {
                     write_refusal(line, number, &mut report[used..]);
                     used += REPORT_LINE;
-                    if line == 1 || matches!(number, refusal::TORN | refusal::COLUMN | refusal::TOO_MANY) {
+                    if line == 1 || matches!(number, refusal::INCOMPLETE | refusal::COLUMN | refusal::TOO_MANY) {
                         output.write_all(&report[..used])?;
                         return output.flush();
                     }

@@ -157,8 +157,8 @@ fn a_short_report_is_refused_last() {
 
 #[test]
 fn ill_formed_tables() {
-    type Spoil = fn(&mut Table);
-    let spoilt: [Spoil; 14] = [
+    type Damage = fn(&mut Table);
+    let damages: [Damage; 14] = [
         |t| t.n = 0,
         |t| t.n = 1,
         |t| t.n = 33,
@@ -174,9 +174,9 @@ fn ill_formed_tables() {
         |t| t.stations[31] = Station::fresh(32),
         |t| (0..3).for_each(|i| t.stations[i].label = row(&[2, 3 + i as u8])),
     ];
-    for spoil in spoilt {
+    for damage in damages {
         let mut table = Table::fresh(3);
-        spoil(&mut table);
+        damage(&mut table);
         let kept = table.clone();
         for (code, station, job) in [(1, 1, 7), (2, 3, 0), (0, 0, 0), (9, 99, 9)] {
             assert_eq!(step(&mut table, code, station, job, &mut [0; 928]), (13, 0));
@@ -233,7 +233,7 @@ fn generated_schedules() {
         assert!((lines / 50..lines / 20).contains(&refused), "{refused} refused, n = {n}");
         let begun = |code| plain.chunks(LINE).filter(|line| line[5] == code).count();
         assert!((3..5).contains(&((begun(b'1') + begun(b'2')) / begun(b'2'))), "the share of scans, n = {n}");
-        for (ending, refused) in [(Ending::Torn, 8), (Ending::Column, 9)] {
+        for (ending, refused) in [(Ending::Incomplete, 8), (Ending::Column, 9)] {
             let report = report(&schedule(n, lines, 5, ending));
             assert_eq!(refusals(&report).last(), Some(&(lines + 2, refused)));
         }

@@ -1,6 +1,6 @@
 //! Boards by index, reached or made up or damaged, and the calls on them.
 
-use crate::draw::{any_step, pick, source, Crew, Step};
+use crate::draw::{any_step, pick, source, Stations, Step};
 use crate::library::{Board, LAST_PHASE};
 use ticket_bench::generate::Random;
 use ticket_bench::plain::{Table, MAX_DIGITS, MAX_STATIONS, REPORT_LINE};
@@ -15,7 +15,7 @@ pub struct Call {
 /// All calls on the board with this index go by one run of numbers.
 pub struct Session {
     random: Random,
-    crew: Crew,
+    stations: Stations,
     /// One step in so many is of any kind.
     any_in: u64,
     pub n: u64,
@@ -168,9 +168,9 @@ impl Session {
             3 if random.one_in(8) => (noise(&mut random), 1, false),
             _ => (noise(&mut random), 1 + random.below(300), true),
         };
-        let crew = Crew::new(&mut random, n);
+        let stations = Stations::new(&mut random, n);
         let any_in = pick(&mut random, &[1 << 40, 16, 4]);
-        Session { random, crew, any_in, n, board, fresh, calls }
+        Session { random, stations, any_in, n, board, fresh, calls }
     }
 
     /// A count for `tickets_fresh`, mostly not one of 2 to 32.
@@ -181,8 +181,8 @@ impl Session {
 
     /// The next call on the board.
     pub fn call(&mut self) -> Call {
-        let Session { random, crew, board, n, .. } = self;
-        let step = if random.one_in(self.any_in) { any_step(random, *n) } else { crew.step(random, &board.phases) };
+        let Session { random, stations, board, n, .. } = self;
+        let step = if random.one_in(self.any_in) { any_step(random, *n) } else { stations.step(random, &board.phases) };
         let exact = *n as usize * REPORT_LINE;
         let room = match random.below(8) {
             0 => exact - 1,

@@ -44,7 +44,7 @@ pub fn after(phase: u8, code: u64) -> u8 {
 }
 
 /// Some of the stations at work, some of them stalling, most between their snap and their update.
-pub struct Crew {
+pub struct Stations {
     at_work: Vec<u64>,
     /// Stalled up to this moment.
     until: Vec<u64>,
@@ -55,8 +55,8 @@ pub struct Crew {
     scan_in: u64,
 }
 
-impl Crew {
-    pub fn new(random: &mut Random, n: u64) -> Crew {
+impl Stations {
+    pub fn new(random: &mut Random, n: u64) -> Stations {
         let few = random.below(3) > 0;
         let size = if few { 1 + random.below(n.min(6)) } else { n };
         let mut stations: Vec<u64> = (1..=n).collect();
@@ -65,7 +65,7 @@ impl Crew {
             stations.swap(i, j);
         }
         stations.truncate(size as usize);
-        Crew {
+        Stations {
             until: vec![0; stations.len()],
             at_work: stations,
             now: 0,

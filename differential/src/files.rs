@@ -1,6 +1,6 @@
 //! Schedule files by index: valid, refused here and there, and damaged.
 
-use crate::draw::{after, any_step, pick, source, Crew, Step};
+use crate::draw::{after, any_step, pick, source, Stations, Step};
 use ticket_bench::generate::Random;
 use ticket_bench::plain::LINE;
 
@@ -44,13 +44,13 @@ fn header(random: &mut Random, n: u64) -> [u8; LINE] {
 
 /// The lines of a file: few are refused, or many, or none.
 fn valid(random: &mut Random, n: u64, lines: u64) -> Vec<u8> {
-    let mut crew = Crew::new(random, n);
+    let mut stations = Stations::new(random, n);
     let refused_in = pick(random, &[1 << 40, 32, 4]);
     let mut phases = [0; 32];
     let mut bytes = Vec::with_capacity((lines as usize + 2) * LINE);
     bytes.extend(line(n, 0, 0));
     for _ in 0..lines {
-        let Step { station, code, job } = if random.one_in(refused_in) { any_step(random, n) } else { crew.step(random, &phases) };
+        let Step { station, code, job } = if random.one_in(refused_in) { any_step(random, n) } else { stations.step(random, &phases) };
         bytes.extend(line(station, code, job));
         // As the line is read, the job aside: a phase that is wrong here only makes the next line a refused one.
         if let Some(phase) = (station as usize).checked_sub(1).and_then(|i| phases.get_mut(i)) {
@@ -61,7 +61,7 @@ fn valid(random: &mut Random, n: u64, lines: u64) -> Vec<u8> {
 }
 
 /// A column with something that is not a number at its right edge, or just is one.
-fn spoil(random: &mut Random, column: &mut [u8]) {
+fn damage_column(random: &mut Random, column: &mut [u8]) {
     let width = column.len();
     column.fill(b' ');
     let last = width - 1;
@@ -104,7 +104,7 @@ fn damage(random: &mut Random, n: u64, bytes: &mut Vec<u8>) {
         5 => bytes.insert(at, pick(random, b" 01\n")),
         6 => {
             let (from, to) = pick(random, &COLUMNS);
-            spoil(random, &mut bytes[any_line + from..any_line + to]);
+            damage_column(random, &mut bytes[any_line + from..any_line + to]);
         }
         7 => bytes[any_line + LINE - 1] = pick(random, b"\r 0\0\x0b"),
         8 => {

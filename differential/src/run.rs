@@ -119,8 +119,8 @@ fn check_file(program: Option<&str>, schedule: &[u8], random: u64, counts: &mut 
     Ok(())
 }
 
-/// Files with all 1,000,000 step lines, and nothing, a line, a torn line or a line with a bad column after them.
-pub const FULL: [Ending; 4] = [Ending::Plain, Ending::OneMore, Ending::Torn, Ending::Column];
+/// Files with all 1,000,000 step lines, and nothing, a line, an incomplete line or a line with a malformed column after them.
+pub const FULL: [Ending; 4] = [Ending::Plain, Ending::OneMore, Ending::Incomplete, Ending::Column];
 
 /// The full files, and so many others.
 pub fn files(seed: u64, files: u64, program: Option<&str>) -> Result<Counts, String> {

@@ -1,6 +1,6 @@
-// Direct calls of the steps, as the command file on standard input asks for them. The file is run twice: its calls get their tables by value, and then
-// from an owner that lends them. A call shows the buffer that it lent, its refusal number and its bytes of report. The file `stdout` beside this
-// folder has what document 01 asks.
+// Direct calls of the steps, as the command file on standard input asks for them. The file is run twice: step calls get their tables by value, and then
+// from an owner that lends them; calls by name get them by value both times. A call shows the buffer that it lent, its refusal number and its bytes of
+// report. The file `stdout` beside this folder has what document 01 asks.
 //
 // A line that starts with # or is empty is shown as it is. Any other is a command: a letter and four columns of 12 bytes, with 0 in those that it
 // does not use. Places and positions count from 0. A bad line ends the run.

@@ -35,7 +35,7 @@ use Rattle.step.specs.Contracts.{recordAfter, due, over, Steps}
 use Rattle.moves.proofs.MoveLaws.{place-below}
 use Rattle.step.proofs.StepLaws.{Made, judged, report-long}
 use Rattle.step.proofs.ReportLaws.{one-line-more}
-use Rattle.parts.specs.Parts.{Parts, parts, phaseOf, entries, stationAt, assembled, Sized, orderOf, Carries}
+use Rattle.parts.specs.Parts.{Parts, parts, phaseOf, entries, recordOf, stationAt, assembled, Sized, orderOf, Carries}
 use Rattle.table.specs.declared.Entry.{Entry}
 use Rattle.table.specs.declared.Phase.{Phase}
 use Rattle.table.specs.declared.Phase.the-variants.{Idle}
@@ -45,9 +45,6 @@ use Rattle.table.specs.declared.Table.{Table}
 use Rattle.step.specs.declared.Reply.{Reply}
 
 -- RECORDS
-
-abbrev recordOf : Lists.List ℕ → ℕ → Lists.List ℕ → ℕ → Lists.List ℕ → Lists.List ℕ → ℕ → Station
-recordOf l j w v e f b = record { label = l; job = j; «pending_label» = w; «pending_job» = v; «scan_result» = entries e f; phase = phaseOf b }
 
 pub at-part : (p : Parts) (k : ℕ) → k < 32 → at (assembled p) k ≡ stationAt p k
 unfolding assembled

@@ -51,16 +51,13 @@ phaseOf b =
 unfoldable pub entries : Lists.List ℕ → Lists.List ℕ → Lists.List Entry
 entries stations jobs = tabulate 32 0 (λ p. entry (getD stations p 0) (getD jobs p 0))
 
--- the record at a place, and the table
+-- the record of a station from its parts, the record at a place, and the table
+abbrev pub recordOf : Lists.List ℕ → ℕ → Lists.List ℕ → ℕ → Lists.List ℕ → Lists.List ℕ → ℕ → Station
+recordOf l j w v e f b = record { label = l; job = j; «pending_label» = w; «pending_job» = v; «scan_result» = entries e f; phase = phaseOf b }
+
 abbrev pub stationAt : Parts → ℕ → Station
-stationAt p i = record {
-  label = getD (p .labels) i [];
-  job = getD (p .jobs) i 0;
-  «pending_label» = getD (p .pendingLabels) i [];
-  «pending_job» = getD (p .pendingJobs) i 0;
-  «scan_result» = entries (getD (p .resultStations) i []) (getD (p .resultJobs) i []);
-  phase = phaseOf (getD (p .phases) i 0);
-}
+stationAt p i = recordOf
+    (getD (p .labels) i []) (getD (p .jobs) i 0) (getD (p .pendingLabels) i []) (getD (p .pendingJobs) i 0) (getD (p .resultStations) i []) (getD (p .resultJobs) i []) (getD (p .phases) i 0)
 
 unfoldable pub assembled : Parts → Table
 assembled p = record { count = p .count; stations = tabulate 32 0 (stationAt p) }

@@ -9,11 +9,10 @@ use Rattle.label.specs.Rows.{rowFits}
 use Rattle.table.specs.Results.{blank, resultFits}
 use Rattle.table.specs.Tables.{at}
 use Rattle.table.specs.WellFormed.{wellFormed}
-use Rattle.parts.specs.Parts.{Parts, parts, phaseOf, entries, assembled}
+use Rattle.parts.specs.Parts.{Parts, parts, entries, assembled}
 use Rattle.table.specs.declared.Phase.{Phase}
 use Rattle.table.specs.declared.Phase.the-variants.{Idle, Snap, Update, End}
 use Rattle.table.specs.declared.Operation.the-variants.{Label, Scan}
-use Rattle.table.specs.declared.Station.{Station}
 use Rattle.table.specs.declared.Table.{Table}
 
 -- the number of a phase
@@ -24,10 +23,6 @@ phaseNumber (Snap Scan) = 2
 phaseNumber Update = 3
 phaseNumber (End Label) = 4
 phaseNumber (End Scan) = 5
-
--- the record of a station from its parts
-abbrev pub recordOf : Lists.List ℕ → ℕ → Lists.List ℕ → ℕ → Lists.List ℕ → Lists.List ℕ → ℕ → Station
-recordOf l j w v e f b = record { label = l; job = j; «pending_label» = w; «pending_job» = v; «scan_result» = entries e f; phase = phaseOf b }
 
 -- the labels and the result of one of n stations fit: `stationFits` on rows
 abbrev pub rowsFit : ℕ → Lists.List ℕ → Lists.List ℕ → Lists.List ℕ → Lists.List ℕ → Bool

@@ -9,9 +9,8 @@ ghost use Rattle.label.specs.Tests.{every, count};
 ghost use Rattle.label.specs.Rows.{rowFits};
 ghost use Rattle.table.specs.Results.{blank, freshEntry, sameEntry, resultFits};
 ghost use Rattle.table.specs.WellFormed.{isFresh};
-ghost use Rattle.parts.specs.Parts.{parts, entries, stationAt};
-ghost use Rattle.ticketing.specs.Apart.{recordOf, rowsFit, known, sound};
-ghost use Rattle.parts.specs.Parts.{freshRow};
+ghost use Rattle.parts.specs.Parts.{parts, entries, recordOf, stationAt, freshRow};
+ghost use Rattle.ticketing.specs.Apart.{rowsFit, known, sound};
 
 // Whether each number is one of a phase.
 fn phases_known(phases: &[u8; 32]) -> bool

@@ -55,7 +55,7 @@ two a b = a ∷ b ∷ []
 unfoldable pub three : {A : Type 0} → A → A → A → Lists.List A
 three a b c = a ∷ b ∷ c ∷ []
 
--- 1 and 2 snap, one of them updates and ends, then 3, 1, 3, 1 take labels
+-- 1 and 2 snap, 1 updates and ends, then 3, 1, 3, 1 take labels
 unfoldable pub stalled : Lists.List Call
 stalled = call 1 1 ∷ call 2 1 ∷ call 1 3 ∷ call 2 3 ∷ call 1 4 ∷ call 1 5 ∷ labelled (3 ∷ 1 ∷ 3 ∷ 1 ∷ [])
 
