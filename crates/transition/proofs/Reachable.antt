@@ -4,6 +4,7 @@ use native.Mathlib.Omega.{arith}
 use native.Mathlib.Nat.{zero-add}
 use mathlib.Core.Path.{_≡_, refl, sym, ap, subst, _∙_}
 use mathlib.Core.Bool.{Bool, true, false, cond}
+use mathlib.Core.List as Lists
 use lib.ListN.{length, getD, replicate, length-replicate, length-set}
 use lib.Seq.{getD-set-same, getD-set-other}
 use lib.Dec.{eqb}
@@ -14,7 +15,7 @@ use Rattle.label.specs.Rows.{row, rowFits, noRing}
 use Rattle.label.proofs.RowLaws.{digit-row, fresh-row, label-fits, no-ring-of}
 use Rattle.table.specs.Results.{blank, freshEntry, sameEntry, resultFits}
 use Rattle.table.proofs.ResultLaws.{stored-fits, fresh-fits, same-entry}
-use Rattle.label.proofs.Facts.{both, within-of, every-all, getD-tabulate}
+use Rattle.label.proofs.Facts.{both, within-of, every-all, length-tabulate, getD-tabulate}
 use Rattle.label.proofs.Order.{Within, next-label-within}
 use Rattle.simulation.specs.Calls.{Call, place, Move}
 use Rattle.simulation.proofs.Judged.{Verdict, turned, own, own-place, verdict}
@@ -27,15 +28,21 @@ use Rattle.table.specs.Tables.{freshStation, freshTable, at, labels, store, sta
 use Rattle.table.specs.WellFormed.{stationFits, isFresh, wellFormed}
 use Rattle.table.specs.Tables.{pendingAfter, scanOf}
 use Rattle.transition.specs.Steps.{carryOut, move, stepOf}
+use Rattle.transition.specs.PaperRule.{choice}
 use Rattle.transition.proofs.View.{view, Led, new-behind, carried-count, step-carries, view-carried, at-fresh, view-fresh}
 use Rattle.table.specs.declared.Station.{Station}
 use Rattle.table.specs.declared.Table.{Table}
 
 -- TABLES
 
+-- a row of 31 digits that holds a label for n stations
+pub record Row (n : ℕ) (l : Lists.List ℕ) : Type 0 where
+  pub width : length l ≡ 31
+  pub fits : rowFits 31 (n - 1) l ≡ true
+
 pub record Fits (n : ℕ) (s : Station) : Type 0 where
-  pub row : rowFits 31 (n - 1) (s .label) ≡ true
-  pub pendingRow : rowFits 31 (n - 1) (s .«pending_label») ≡ true
+  pub row : Row n (s .label)
+  pub pendingRow : Row n (s .«pending_label»)
   pub result : resultFits 32 n (s .«scan_result») ≡ true
 
 -- all of 13 but for the ring
@@ -49,7 +56,7 @@ pub record Good (t : Table) : Type 0 where
 good-passes : (t : Table) → Good t → noRing (t .count - 1) (labels t) ≡ true → wellFormed t ≡ true
 unfolding wellFormed stationFits
 good-passes t g r = both (both (both (within-of 2 32 (t .count) (g .low) (g .high))
-    (every-all (t .count) _ (λ i l. let s = g .each i l in both (both (s .row) (s .pendingRow)) (s .result))))
+    (every-all (t .count) _ (λ i l. let s = g .each i l in both (both (s .row .fits) (s .pendingRow .fits)) (s .result))))
     (every-all (32 - t .count) _ (λ i l. g .rest (t .count + i) (omega arith) (omega (arith, g .high))))) r
 
 store-good : (t : Table) (k : ℕ) (s : Station) → Good t → k < t .count → Fits (t .count) s → Good (store t k s)
@@ -71,6 +78,9 @@ store-good t k s g l h = record {
 ones : (w m : ℕ) → rowFits w m (replicate w 1) ≡ true
 ones w m = label-fits w m (replicate w 1) (λ p. 1) (fresh-row w) (λ p. (omega arith, omega arith)) (λ p l. refl)
 
+fresh-row-fits : (n : ℕ) → Row n (replicate 31 1)
+fresh-row-fits n = record { width = length-replicate {A = ℕ} 31 1; fits = ones 31 (n - 1) }
+
 fresh-fresh : (n : ℕ) → isFresh n (freshStation n) ≡ true
 unfolding isFresh freshStation
 fresh-fresh n = both (both (both (both (both (ones 31 0) refl) (ones 31 0)) refl) (every-all 32 _ (λ p l. same p l))) refl
@@ -84,7 +94,7 @@ fresh-good n p q = record {
   low = p;
   high = q;
   places = length-replicate 32 (freshStation n);
-  each = λ i m. subst (Fits n) (sym (at-fresh n i)) (record { row = ones 31 (n - 1); pendingRow = ones 31 (n - 1); result = fresh-fits 32 n q });
+  each = λ i m. subst (Fits n) (sym (at-fresh n i)) (record { row = fresh-row-fits n; pendingRow = fresh-row-fits n; result = fresh-fits 32 n q });
   rest = λ i m o. subst (λ x. isFresh n x ≡ true) (sym (at-fresh n i)) (fresh-fresh n);
 }
 
@@ -98,30 +108,33 @@ module _ (t : Table) (r : Reached t) where
   sized : t .count ≡ suc (t .count - 1)
   sized = let l = r .good .low in omega arith
 
-  newest-is : newestOf t ≡ r .ready .z
+  pub newest-is : newestOf t ≡ r .ready .z
   unfolding newestOf
   newest-is = newest-labels (t .count) (t .count - 1) sized (view t) (r .N) (r .ready)
 
   pub reached-led : Led t
   reached-led = record { low = r .good .low; high = r .good .high; places = r .good .places; lead = rw newest-is (omega (arith, sized, r .ready .inv .newest .station)) }
 
-  -- the ring is ruled out by the numbers
-  ring-free : noRing (t .count - 1) (labels t) ≡ true
-  ring-free = no-ring-of (t .count - 1) (labels t) (λ i j k p li lj lk lp ij jk a b c.
-      no-ring (r .ready .inv .sync) false false false i j k p li lj lk (λ q. omega (arith, ap (λ m. labels t m p) q)) (λ q. omega (arith, ap (λ m. labels t m p) q))
-      (λ q. omega (arith, ap (λ m. labels t m p) q)) lp ij jk a b c)
+  -- no choice of a current or a pending label for each station closes a ring: the numbers rule it out
+  pub choice-ring-free : (x : ℕ → Bool) → noRing (t .count - 1) (choice t x) ≡ true
+  choice-ring-free x = no-ring-of (t .count - 1) (choice t x) (λ i j k p li lj lk lp ij jk a b c.
+      no-ring (r .ready .inv .sync) (x i) (x j) (x k) i j k p li lj lk (λ q. omega (arith, ap (λ m. choice t x m p) q)) (λ q. omega (arith, ap (λ m. choice t x m p) q))
+      (λ q. omega (arith, ap (λ m. choice t x m p) q)) lp ij jk a b c)
 
   -- so 13 is never met
   pub reached-passes : wellFormed t ≡ true
-  reached-passes = good-passes t (r .good) ring-free
+  reached-passes = good-passes t (r .good) (choice-ring-free (λ i. false))
 
   module _ (c : Call) where
-    pending-fits : place c < t .count → rowFits 31 (t .count - 1) (pendingAfter t (place c)) ≡ true
-    unfolding pendingAfter
-    pending-fits l = by-here (λ b. rowFits 31 (t .count - 1) (cond b (at t (place c) .«pending_label») (row 31 (newLabel (t .count - 1) 1 (labels t) (newestOf t) (place c)))) ≡ true)
+    pending-fits : place c < t .count → Row (t .count) (pendingAfter t (place c))
+    unfolding pendingAfter row
+    pending-fits l = by-here (λ b. Row (t .count) (cond b (at t (place c) .«pending_label») (row 31 (newLabel (t .count - 1) 1 (labels t) (newestOf t) (place c)))))
         (newestOf t) (place c)
         (λ e. r .good .each (place c) l .pendingRow)
-        (λ d. label-fits 31 (t .count - 1) (row 31 _) _ (digit-row 31 _ (λ p h. new-behind t reached-led c l d p (omega (arith, r .good .high)))) new-digits (new-behind t reached-led c l d))
+        (λ d. record {
+          width = length-tabulate 31 0 _;
+          fits = label-fits 31 (t .count - 1) (row 31 _) _ (digit-row 31 _ (λ p h. new-behind t reached-led c l d p (omega (arith, r .good .high)))) new-digits (new-behind t reached-led c l d);
+        })
       where
         new-digits : Within 1 (newLabel (t .count - 1) 1 (labels t) (newestOf t) (place c))
         new-digits = unfold newLabel in next-label-within (omega arith) (r .ready .inv .digits false (newestOf t) (omega (arith, reached-led .lead))) _

@@ -1,3 +1,4 @@
 pub mod Steps
 pub mod Demand
 pub mod Samples
+pub mod PaperRule
