@@ -9,16 +9,18 @@ use mathlib.Core.List.{[], _∷_, _++_, map, append-nil, append-assoc}
 use lib.ListN.{length, getD, take, drop}
 use lib.Dec.{eqb, ltb}
 use borrow.Author.Tests.{ne-eqb}
-use Rattle.label.specs.Tests.{within}
+use Rattle.label.specs.Tests.{within, All}
 use Rattle.label.proofs.Facts.{within-true}
 use Rattle.columns.specs.Reading.{columnRead}
 use Rattle.columns.specs.declared.Column.{Column}
 use Rattle.columns.specs.declared.Column.the-variants.{Value, Bad}
-use Rattle.simulation.specs.Calls.{Call}
-use Rattle.table.specs.Tables.{freshTable}
-use Rattle.transition.specs.Steps.{stepOf}
+use Rattle.simulation.specs.Calls.{Call, place}
+use Rattle.simulation.proofs.Judged.{not-short}
+use Rattle.table.specs.Tables.{freshTable, at}
+use Rattle.transition.specs.Steps.{move, stepOf}
 use Rattle.transition.specs.Demand.{run, seen, Demand3}
 use Rattle.moves.specs.Moves.{refusalNumber, called}
+use Rattle.transition.proofs.View.{step-carries, carried-count}
 use Rattle.transition.proofs.Reachable.{Reached, reached-passes, stepped-reached, reached-fresh}
 use Rattle.transition.proofs.Theorem as Theorem
 use Rattle.schedule.specs.Lines.{stepRead, lineRead}
@@ -30,6 +32,7 @@ use Rattle.moves.specs.declared.Refusal.the-variants.{Accepted, StationCount, U
 use Rattle.schedule.specs.declared.Line.{Line}
 use Rattle.schedule.specs.declared.Line.the-variants.{Step, Refused}
 use Rattle.schedule.specs.declared.Session.{Session}
+use Rattle.table.specs.declared.Table.{Table}
 
 -- A LINE THAT IS REFUSED WHEN IT IS READ has a number
 
@@ -134,6 +137,24 @@ report-open : (n : ℕ) → 2 ≤ n → n ≤ 32 → (ls : Lists.List (Lists.Lis
     → headerPrinted s ++ runLines s ls .bytes ≡ printedCalls (stepCalls 1 ls) (map seen (run (freshTable n) (stepCalls 1 ls))) ++ ending 1 ls
 report-open n p q ls s e = rw e (played ls (session 1 Accepted (freshTable n)) (record { going = refl; reached = reached-fresh n p q }))
 
+-- ROOM: with that for 32 report lines no call is refused by 7
+
+never-short : (cs : Lists.List Call) → All (λ c. c .room ≡ 928) cs → (t : Table) → Reached t → All (λ a. a .refusal ≢ 7) (run t cs)
+unfolding run move
+never-short [] h t r = tt
+never-short (c ∷ cs) h t r =
+    let e = ap (λ a. a .refusal) (step-carries t c (reached-passes t r)) ∙ carried-count t c (move t c) .1 in
+    (λ z. not-short (t .count) (at t (place c) .phase) c (omega (arith, r .good .high, h .0)) (sym e ∙ z), never-short cs (h .1) (stepOf t c .table) (stepped-reached t r c))
+
+lines-roomy : (lines : ℕ) (ls : Lists.List (Lists.List ℕ)) → All (λ c. c .room ≡ 928) (stepCalls lines ls)
+unfolding stepCalls
+lines-roomy lines [] = tt
+lines-roomy lines (l ∷ ls) = go (nextLine lines l) (lines-roomy (lines + 1) ls)
+  where
+    go : (w : Line) → All (λ c. c .room ≡ 928) (stepCalls (lines + 1) ls) → All (λ c. c .room ≡ 928) (callThen lines w (stepCalls (lines + 1) ls))
+    go (Refused r) h = tt
+    go (Step st k j) h = (refl, h)
+
 -- DEMAND 3 OF A FILE, for every list of bytes whose header is accepted
 pub file-demand : (bs : Lists.List ℕ) → isFinal (headerOf (take 18 bs)) ≡ false → FileDemand bs (headerOf (take 18 bs) .table .count)
 unfolding fileReport
@@ -141,6 +162,7 @@ file-demand bs e = record {
   demand = d;
   report = report-open n (o .low) (o .high) (stepLines bs) (headerOf (take 18 bs)) (o .made)
       ∙ ap (λ x. printedCalls (stepCalls 1 (stepLines bs)) x ++ ending 1 (stepLines bs)) (d .same);
+  never7 = never-short (stepCalls 1 (stepLines bs)) (lines-roomy 1 (stepLines bs)) (freshTable n) (reached-fresh n (o .low) (o .high));
 }
   where
     n : ℕ

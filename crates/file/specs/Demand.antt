@@ -2,14 +2,17 @@
 -- report is what the unbounded table prints for them.
 use Prim.Native.Nat.{ℕ, _+_}
 use mathlib.Core.Path.{_≡_}
+use mathlib.Core.Logic.{_≢_}
 use mathlib.Core.List as Lists
 use mathlib.Core.List.{[], _∷_, _++_, map}
 use lib.ListN.{drop}
+use Rattle.label.specs.Tests.{All}
 use Rattle.simulation.specs.Calls.{Call}
 use Rattle.simulation.specs.Machine as Machine
 use Rattle.simulation.specs.Machine.{Seen, runᵘ}
+use Rattle.table.specs.Tables.{freshTable}
 use Rattle.moves.specs.Moves.{refusalNumber, called}
-use Rattle.transition.specs.Demand.{Demand3}
+use Rattle.transition.specs.Demand.{run, Demand3}
 use Rattle.schedule.specs.Sessions.{nextLine}
 use Rattle.file.specs.Files.{cut, pieces, refusalLine, printed, fileReport}
 use Rattle.schedule.specs.declared.Line.{Line}
@@ -43,8 +46,10 @@ printedCalls (c ∷ cs) (s ∷ ss) = printed (c .line) (s .refusal) (s .bytes) +
 abbrev pub stepLines : Lists.List ℕ → Lists.List (Lists.List ℕ)
 stepLines bs = let rest = drop 18 bs in cut (pieces rest) rest
 
+-- for a file with an accepted header of n stations; no line of it is refused by 7 (01, "The schedule file and the report")
 pub record FileDemand (bs : Lists.List ℕ) (n : ℕ) : Type 0 where
   pub demand : Demand3 n (stepCalls 1 (stepLines bs))
   pub report : fileReport bs
       ≡ printedCalls (stepCalls 1 (stepLines bs)) (map (Machine.seen n) (runᵘ n (Machine.fresh 0 n) (demand .advances) (stepCalls 1 (stepLines bs))))
       ++ ending 1 (stepLines bs)
+  pub never7 : All (λ a. a .refusal ≢ 7) (run (freshTable n) (stepCalls 1 (stepLines bs)))
