@@ -11,21 +11,18 @@ use Rattle.simulation.specs.Calls.{Call}
 use Rattle.simulation.specs.Machine as Machine
 use Rattle.simulation.specs.Machine.{Seen, runᵘ}
 use Rattle.table.specs.Tables.{freshTable}
-use Rattle.moves.specs.Moves.{refusalNumber, called}
+use Rattle.moves.specs.Moves.{refusalNumber}
 use Rattle.transition.specs.Demand.{run, Demand3}
 use Rattle.schedule.specs.Sessions.{nextLine}
+use Rattle.schedule.specs.Demand.{callThen}
 use Rattle.file.specs.Files.{cut, pieces, refusalLine, printed, fileReport}
 use Rattle.schedule.specs.declared.Line.{Line}
 use Rattle.schedule.specs.declared.Line.the-variants.{Step, Refused}
 
 -- the lines that follow `lines` others, as step calls with their line numbers, each with room for a whole scan result
-abbrev pub callThen : ℕ → Line → Lists.List Call → Lists.List Call
-callThen lines (Refused r) rest = []
-callThen lines (Step station code job) rest = called (lines + 1) code station job 928 ∷ rest
-
 unfoldable pub stepCalls : ℕ → Lists.List (Lists.List ℕ) → Lists.List Call
 stepCalls lines [] = []
-stepCalls lines (l ∷ ls) = callThen lines (nextLine lines l) (stepCalls (lines + 1) ls)
+stepCalls lines (l ∷ ls) = callThen lines 928 (nextLine lines l) (stepCalls (lines + 1) ls)
 
 -- the report line of the refusal that ends the reading, if one does
 abbrev pub endThen : ℕ → Line → Lists.List ℕ → Lists.List ℕ
