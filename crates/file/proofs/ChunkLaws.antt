@@ -27,7 +27,7 @@ use Rattle.schedule.specs.Sessions.{session, headerOf, isFinal, refused, nextLi
 use Rattle.file.specs.Files.{cut, pieces, printed, headerPrinted, runLines, fileReport}
 use Rattle.file.specs.Contracts.{Prints, behind, ahead, Reports}
 use Rattle.schedule.proofs.SessionLaws.{serve-next, next-within}
-use Rattle.file.proofs.FileTheorem.{Numbered, next-numbered, Opened, opened}
+use Rattle.schedule.proofs.SessionLaws.{Numbered, next-numbered, Opened, opened}
 use Rattle.schedule.specs.declared.Line.the-variants.{Step, Refused}
 use Rattle.schedule.specs.declared.Session.{Session}
 use Rattle.file.specs.declared.Progress.{Progress}

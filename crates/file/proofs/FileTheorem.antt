@@ -3,85 +3,39 @@ use Prim.Native.Nat.{ℕ, _+_, _≤_}
 use native.Mathlib.Omega.{arith}
 use mathlib.Core.Path.{_≡_, refl, sym, ap, _∙_}
 use mathlib.Core.Logic.{_≢_}
-use mathlib.Core.Bool.{Bool, true, false, not, _&&_, cond, true≢false}
+use mathlib.Core.Bool.{true, false}
 use mathlib.Core.List as Lists
 use mathlib.Core.List.{[], _∷_, _++_, map, append-nil, append-assoc}
-use lib.ListN.{length, getD, take, drop}
-use lib.Dec.{eqb, ltb}
+use lib.ListN.{take}
 use borrow.Author.Tests.{ne-eqb}
-use Rattle.label.specs.Tests.{within}
-use Rattle.label.proofs.Facts.{within-true}
-use Rattle.columns.specs.Reading.{columnRead}
-use Rattle.columns.specs.declared.Column.{Column}
-use Rattle.columns.specs.declared.Column.the-variants.{Value, Bad}
-use Rattle.simulation.specs.Calls.{Call}
-use Rattle.table.specs.Tables.{freshTable}
-use Rattle.transition.specs.Steps.{stepOf}
+use Rattle.label.specs.Tests.{All}
+use Rattle.simulation.specs.Calls.{Call, place}
+use Rattle.simulation.proofs.Judged.{not-short}
+use Rattle.table.specs.Tables.{freshTable, at}
+use Rattle.transition.specs.Steps.{move, stepOf}
 use Rattle.transition.specs.Demand.{run, seen, Demand3}
 use Rattle.moves.specs.Moves.{refusalNumber, called}
+use Rattle.transition.proofs.View.{step-carries, carried-count}
 use Rattle.transition.proofs.Reachable.{Reached, reached-passes, stepped-reached, reached-fresh}
 use Rattle.transition.proofs.Theorem as Theorem
-use Rattle.schedule.specs.Lines.{stepRead, lineRead}
-use Rattle.schedule.specs.Sessions.{session, closed, byHeader, headerOf, isFinal, nextLine, stepLine, serveOf}
+use Rattle.schedule.specs.Sessions.{session, headerOf, isFinal, nextLine, stepLine}
+use Rattle.schedule.specs.Demand.{callThen}
+use Rattle.schedule.proofs.SessionLaws.{Numbered, next-numbered, Live, live-final, live-serve, next-live, Opened, opened}
 use Rattle.file.specs.Files.{refusalLine, printed, runLines, headerPrinted, fileReport}
-use Rattle.file.specs.Demand.{callThen, stepCalls, endThen, ending, printedCalls, stepLines, FileDemand}
-use Rattle.moves.specs.declared.Refusal.{Refusal}
-use Rattle.moves.specs.declared.Refusal.the-variants.{Accepted, StationCount, UnknownStep, JobOutOfRange, TooManyLines, IncompleteLine}
+use Rattle.file.specs.Demand.{stepCalls, endThen, ending, printedCalls, stepLines, FileDemand}
+use Rattle.moves.specs.declared.Refusal.the-variants.{Accepted}
 use Rattle.schedule.specs.declared.Line.{Line}
 use Rattle.schedule.specs.declared.Line.the-variants.{Step, Refused}
 use Rattle.schedule.specs.declared.Session.{Session}
-
--- A LINE THAT IS REFUSED WHEN IT IS READ has a number
-
-abbrev pub Numbered : Line → Type 0
-Numbered (Refused r) = refusalNumber r ≢ 0
-Numbered (Step s k j) = Unit {0}
-
-read-numbered : (x y z : Column) → Numbered (stepRead x y z)
-read-numbered Bad y z = omega arith
-read-numbered (Value a) Bad z = omega arith
-read-numbered (Value a) (Value b) Bad = omega arith
-read-numbered (Value a) (Value b) (Value d) = tt
-
-line-numbered : (l : Lists.List ℕ) → Numbered (lineRead l)
-unfolding lineRead
-line-numbered l = go (eqb (length l) 18 && eqb (getD l 17 0) 10)
-  where
-    go : (b : Bool) → Numbered (cond b (stepRead (columnRead (take 3 l)) (columnRead (take 3 (drop 3 l))) (columnRead (take 11 (drop 6 l)))) (Refused IncompleteLine))
-    go true = read-numbered (columnRead (take 3 l)) (columnRead (take 3 (drop 3 l))) (columnRead (take 11 (drop 6 l)))
-    go false = omega arith
-
-pub next-numbered : (lines : ℕ) (l : Lists.List ℕ) → Numbered (nextLine lines l)
-next-numbered lines l = go (ltb 1000000 lines)
-  where
-    go : (b : Bool) → Numbered (cond b (Refused TooManyLines) (lineRead l))
-    go true = omega arith
-    go false = line-numbered l
+use Rattle.table.specs.declared.Table.{Table}
 
 -- THE RUN OF THE LINES
-
--- a session that goes on, on a table that is reached from a fresh one
-pub record Live (s : Session) : Type 0 where
-  pub going : s .refusal ≡ Accepted
-  pub reached : Reached (s .table)
-
-module _ (s : Session) (v : Live s) where
-  live-final : isFinal s ≡ false
-  live-final = ap (λ (r : Refusal). not (eqb (refusalNumber r) 0)) (v .going)
-
-  live-serve : (l : Lists.List ℕ) (room : ℕ) → serveOf s l room ≡ stepLine s room (nextLine (s .lines) l)
-  unfolding serveOf
-  live-serve l room = rw (live-final, reached-passes (s .table) (v .reached)) refl
 
 -- after a final refusal nothing is printed
 stopped-run : (s : Session) (ls : Lists.List (Lists.List ℕ)) → isFinal s ≡ true → runLines s ls .bytes ≡ []
 unfolding runLines
 stopped-run s [] e = refl
 stopped-run s (l ∷ ls) e = rw e refl
-
--- a step keeps the session live
-next-live : (s : Session) → Live s → (c : Call) (lines : ℕ) → Live (session lines (s .refusal) (stepOf (s .table) c .table))
-next-live s v c lines = record { going = v .going; reached = stepped-reached (s .table) (v .reached) c }
 
 -- what the lines print is what their calls print, one after the other, and then the refusal that ended the reading
 abbrev Played : Session → Lists.List (Lists.List ℕ) → Type 0
@@ -94,7 +48,7 @@ played (l ∷ ls) s v = rw (live-final s v, live-serve s v l 928) (go (nextLine 
   where
     go : (w : Line) → Numbered w → ((s′ : Session) → Live s′ → Played s′ ls)
         → printed (s .lines + 1) (stepLine s 928 w .refusal) (stepLine s 928 w .bytes) ++ runLines (stepLine s 928 w .session) ls .bytes
-        ≡ printedCalls (callThen (s .lines) w (stepCalls (s .lines + 1) ls)) (map seen (run (s .table) (callThen (s .lines) w (stepCalls (s .lines + 1) ls))))
+        ≡ printedCalls (callThen (s .lines) 928 w (stepCalls (s .lines + 1) ls)) (map seen (run (s .table) (callThen (s .lines) 928 w (stepCalls (s .lines + 1) ls))))
         ++ endThen (s .lines) w (ending (s .lines + 1) ls)
     go (Refused r) n ih = rw (ne-eqb (refusalNumber r) 0 n, stopped-run (session (s .lines) r (s .table)) ls (rw (ne-eqb (refusalNumber r) 0 n) refl)) (append-nil (refusalLine (s .lines + 1) (refusalNumber r)))
     go (Step st k j) n ih =
@@ -104,35 +58,27 @@ played (l ∷ ls) s v = rw (live-final s v, live-serve s v l 928) (go (nextLine 
         ap (λ b. printed (s .lines + 1) (a .refusal) (a .bytes) ++ b) (ih (session (s .lines + 1) (s .refusal) (a .table)) (next-live s v c (s .lines + 1)))
         ∙ sym (append-assoc (printed (s .lines + 1) (a .refusal) (a .bytes)) (printedCalls rest (map seen (run (a .table) rest))) (ending (s .lines + 1) ls))
 
--- THE HEADER
-
--- an accepted header makes the fresh table of its count
-pub record Opened (s : Session) : Type 0 where
-  pub low : 2 ≤ s .table .count
-  pub high : s .table .count ≤ 32
-  pub made : s ≡ session 1 Accepted (freshTable (s .table .count))
-
-header-open : (w : Line) → Numbered w → isFinal (byHeader w) ≡ false → Opened (byHeader w)
-unfolding freshTable
-header-open (Refused r) n e = absurd (true≢false (sym (rw (ne-eqb (refusalNumber r) 0 n) refl) ∙ e))
-header-open (Step k code job) n e = go (eqb code 0) (within 2 32 k) refl (eqb job 0) e
-  where
-    made : Bool → Bool → Bool → Session
-    made a b d = cond (not a) (closed UnknownStep) (cond (not b) (closed StationCount) (cond (not d) (closed JobOutOfRange) (session 1 Accepted (freshTable k))))
-
-    go : (a b : Bool) → within 2 32 k ≡ b → (d : Bool) → isFinal (made a b d) ≡ false → Opened (made a b d)
-    go false b q d h = absurd (true≢false h)
-    go true false q d h = absurd (true≢false h)
-    go true true q false h = absurd (true≢false h)
-    go true true q true h = let v = within-true 2 32 k q in record { low = v .0; high = v .1; made = refl }
-
-pub opened : (l : Lists.List ℕ) → isFinal (headerOf l) ≡ false → Opened (headerOf l)
-unfolding headerOf
-opened l e = header-open (lineRead l) (line-numbered l) e
-
 report-open : (n : ℕ) → 2 ≤ n → n ≤ 32 → (ls : Lists.List (Lists.List ℕ)) (s : Session) → s ≡ session 1 Accepted (freshTable n)
     → headerPrinted s ++ runLines s ls .bytes ≡ printedCalls (stepCalls 1 ls) (map seen (run (freshTable n) (stepCalls 1 ls))) ++ ending 1 ls
 report-open n p q ls s e = rw e (played ls (session 1 Accepted (freshTable n)) (record { going = refl; reached = reached-fresh n p q }))
+
+-- ROOM: with that for 32 report lines no call is refused by 7
+
+never-short : (cs : Lists.List Call) → All (λ c. c .room ≡ 928) cs → (t : Table) → Reached t → All (λ a. a .refusal ≢ 7) (run t cs)
+unfolding run move
+never-short [] h t r = tt
+never-short (c ∷ cs) h t r =
+    let e = ap (λ a. a .refusal) (step-carries t c (reached-passes t r)) ∙ carried-count t c (move t c) .1 in
+    (λ z. not-short (t .count) (at t (place c) .phase) c (omega (arith, r .good .high, h .0)) (sym e ∙ z), never-short cs (h .1) (stepOf t c .table) (stepped-reached t r c))
+
+lines-roomy : (lines : ℕ) (ls : Lists.List (Lists.List ℕ)) → All (λ c. c .room ≡ 928) (stepCalls lines ls)
+unfolding stepCalls
+lines-roomy lines [] = tt
+lines-roomy lines (l ∷ ls) = go (nextLine lines l) (lines-roomy (lines + 1) ls)
+  where
+    go : (w : Line) → All (λ c. c .room ≡ 928) (stepCalls (lines + 1) ls) → All (λ c. c .room ≡ 928) (callThen lines 928 w (stepCalls (lines + 1) ls))
+    go (Refused r) h = tt
+    go (Step st k j) h = (refl, h)
 
 -- DEMAND 3 OF A FILE, for every list of bytes whose header is accepted
 pub file-demand : (bs : Lists.List ℕ) → isFinal (headerOf (take 18 bs)) ≡ false → FileDemand bs (headerOf (take 18 bs) .table .count)
@@ -141,6 +87,7 @@ file-demand bs e = record {
   demand = d;
   report = report-open n (o .low) (o .high) (stepLines bs) (headerOf (take 18 bs)) (o .made)
       ∙ ap (λ x. printedCalls (stepCalls 1 (stepLines bs)) x ++ ending 1 (stepLines bs)) (d .same);
+  never7 = never-short (stepCalls 1 (stepLines bs)) (lines-roomy 1 (stepLines bs)) (freshTable n) (reached-fresh n (o .low) (o .high));
 }
   where
     n : ℕ

@@ -1,3 +1,4 @@
 pub mod Lines
 pub mod Sessions
 pub mod Contracts
+pub mod Demand

@@ -212,3 +212,37 @@ decided-well-formed t r c d D = reached-passes (store t (d .place) (d .«record�
 pub empty-buffer : (t : Table) (c : Call) (t′ : Table) (r : Reply) (buffer : Lists.List ℕ) → Steps t c [] t′ r buffer → length buffer ≡ 0 → Steps t c [] t′ r []
 empty-buffer t c t′ r [] s e = s
 empty-buffer t c t′ r (x ∷ l) s e = absurd (omega arith)
+
+-- A REFUSED CALL CHANGES NOTHING, AN ALLOWED ONE IS ACCEPTED (01, "When a step is turned down")
+
+refused-carried : (t : Table) (c : Call) (w : Calls.Move) → numberOf w ≢ 0 → carryOut t c w ≡ refuse t (numberOf w)
+unfolding carryOut
+refused-carried t c (Calls.Move.refused x) h = refl
+refused-carried t c Calls.Move.beginsLabel h = absurd (h refl)
+refused-carried t c Calls.Move.beginsScan h = absurd (h refl)
+refused-carried t c Calls.Move.snapsLabel h = absurd (h refl)
+refused-carried t c Calls.Move.snapsScan h = absurd (h refl)
+refused-carried t c Calls.Move.updates h = absurd (h refl)
+refused-carried t c Calls.Move.endsLabel h = absurd (h refl)
+refused-carried t c Calls.Move.endsScan h = absurd (h refl)
+
+-- the refusal number of a call: 13, or that of what it amounts to
+abbrev pub numberFor : Table → Call → ℕ
+numberFor t c = cond (wellFormed t) (numberOf (move t c)) 13
+
+step-numbered : (t : Table) (c : Call) → (stepOf t c .refusal ≡ numberFor t c) × (numberFor t c ≢ 0 → stepOf t c ≡ refuse t (numberFor t c))
+step-numbered t c = go (wellFormed t) refl
+  where
+    go : (b : Bool) → wellFormed t ≡ b → (stepOf t c .refusal ≡ cond b (numberOf (move t c)) 13) × (cond b (numberOf (move t c)) 13 ≢ 0 → stepOf t c ≡ refuse t (cond b (numberOf (move t c)) 13))
+    go true e = let s = step-carries t c e in (ap (λ x. x .refusal) s ∙ carried-count t c (move t c) .1, λ h. s ∙ refused-carried t c (move t c) h)
+    go false e = let s : stepOf t c ≡ refuse t 13 = unfold stepOf in rw (e, stepOf) refl in (ap (λ x. x .refusal) s, λ h. s)
+
+-- a call that keeps its contract has that number; if it is not 0, table and buffer stay as they are and nothing is written
+module _ {t : Table} {c : Call} {buffer : Lists.List ℕ} {t′ : Table} {r : Reply} {buffer′ : Lists.List ℕ} (s : Steps t c buffer t′ r buffer′) where
+  pub call-number : refusalNumber (r .refusal) ≡ numberFor t c
+  call-number = s .refusal ∙ step-numbered t c .0
+
+  pub refused-unchanged : refusalNumber (r .refusal) ≢ 0 → (t′ ≡ t) × ((r .written ≡ 0) × (buffer′ ≡ buffer))
+  refused-unchanged h =
+      let e = step-numbered t c .1 (λ z. h (call-number ∙ z)) in
+      (s .table ∙ ap (λ x. x .table) e, (s .written ∙ ap (λ x. length (x .bytes)) e, s .report ∙ ap (λ x. over (x .bytes) buffer) e))

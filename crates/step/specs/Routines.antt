@@ -37,8 +37,10 @@ Sequence t (x ∷ xs) = Steps t (callOf x) (x .buffer) (x .table) (x .reply) (x 
 abbrev pub answered : Made → Answer
 answered x = record { table = x .table; refusal = refusalNumber (x .reply .refusal); bytes = take (x .reply .written) (x .buffer′) }
 
--- with the advances of demand 3 the unbounded table shows what the caller sees, and every buffer keeps what was not written
+-- with the advances of demand 3 the unbounded table shows what the caller sees; each reply counts the bytes that this table writes; and every buffer
+-- keeps what was not written
 pub record RoutinesDemand (n : ℕ) (xs : Lists.List Made) : Type 0 where
   pub demand : Demand3 n (map callOf xs)
   pub same : map (λ x. seen (answered x)) xs ≡ map (Machine.seen n) (runᵘ n (Machine.fresh 0 n) (demand .advances) (map callOf xs))
+  pub counted : map (λ x. x .reply .written) xs ≡ map (λ a. length (a .bytes)) (runᵘ n (Machine.fresh 0 n) (demand .advances) (map callOf xs))
   pub kept : All (λ x. x .buffer′ ≡ over (answered x .bytes) (x .buffer)) xs

@@ -42,7 +42,7 @@ numbered r h = eqb-true _ r (every-at 14 (λ x. eqb (refusalNumber (refusalOf x)
 step-number : (t : Table) (c : Call) → wellFormed t ≡ true → stepOf t c .refusal ≤ 13
 unfolding move
 step-number t c ok = subst (λ (r : ℕ). r ≤ 13) (sym (ap (λ a. a .refusal) (step-carries t c ok) ∙ carried-count t c (move t c) .1))
-    (all-judged (λ m. numberOf m ≤ 13) (λ r h. omega arith) (t .count) (at t (Calls.place c) .phase) c (omega arith) (omega arith) (omega arith) (omega arith) (omega arith) (omega arith) (λ e. omega arith))
+    (all-judged (λ m. numberOf m ≤ 13) (λ r h d. omega arith) (t .count) (at t (Calls.place c) .phase) c (omega arith) (omega arith) (omega arith) (omega arith) (omega arith) (omega arith) (λ e. omega arith) (λ e. omega arith))
 
 -- parts that are whole, with known phases, and that make the table t
 record Makes (t : Table) (p : Parts) : Type 0 where
