@@ -1,9 +1,9 @@
 -- A step line served on the parts of a table that is reached from a fresh one.
-use Prim.Native.Nat.{ℕ, _+_, _*_, _≤_, _<_}
+use Prim.Native.Nat.{ℕ, _≤_, _<_}
 use native.Mathlib.Omega.{arith}
 use mathlib.Core.Path.{_≡_, refl, sym, ap, subst, _∙_}
 use mathlib.Core.Logic.{_≢_}
-use mathlib.Core.Bool.{Bool, true, false, true≢false}
+use mathlib.Core.Bool.{true, false, true≢false}
 use mathlib.Core.List as Lists
 use mathlib.Core.List.{[]}
 use lib.ListN.{length, getD, replicate}
@@ -17,7 +17,7 @@ use Rattle.table.specs.WellFormed.{wellFormed}
 use Rattle.transition.specs.Steps.{stepOf}
 use Rattle.transition.proofs.Reachable.{Reached, reached-passes, stepped-reached, reached-fresh}
 use Rattle.moves.specs.Moves.{refusalNumber, called, reportSize, placeOf}
-use Rattle.step.specs.Contracts.{recordAfter, due, over, Steps}
+use Rattle.step.specs.Contracts.{over, Steps}
 use Rattle.parts.specs.Parts.{Parts, parts, phaseOf, freshRow, freshParts, assembled, orderOf, Ready, Carries}
 use Rattle.parts.proofs.PartLaws.{counted, parts-orderly, inside, asked, served}
 use Rattle.parts.proofs.Fresh.{fresh-parts, fresh-sized}

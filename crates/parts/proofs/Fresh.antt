@@ -11,7 +11,7 @@ use Rattle.label.specs.Tests.{tabulate}
 use Rattle.label.proofs.Facts.{getD-tabulate, tabulate-same, replicate-tabulate}
 use Rattle.table.specs.Results.{entry, blank, freshEntry}
 use Rattle.table.specs.Tables.{freshStation, freshTable}
-use Rattle.parts.specs.Parts.{parts, phaseOf, entries, stationAt, assembled, freshRow, freshParts, Sized}
+use Rattle.parts.specs.Parts.{phaseOf, entries, stationAt, assembled, freshRow, freshParts, Sized}
 use Rattle.table.specs.declared.Station.{Station}
 
 -- a row that repeats one element

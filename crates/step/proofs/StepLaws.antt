@@ -26,7 +26,6 @@ use Rattle.simulation.proofs.Judged.{roomy, Own, Verdict, turned, own, verdict}
 use Rattle.moves.specs.Moves.{refusalNumber, moveOf, called, recordMoved, reportSize, placeOf}
 use Rattle.step.specs.Contracts.{recordAfter, due, over, Decides, Steps}
 use Rattle.transition.proofs.View.{step-carries, carried-count}
-use Rattle.transition.proofs.Reachable.{Reached, reached-passes, stepped-reached}
 use Rattle.moves.proofs.MoveLaws.{place-below, has-room}
 use Rattle.step.proofs.ReportLaws.{length-report-lines}
 use Rattle.step.specs.declared.Decision.{Decision}
@@ -63,9 +62,9 @@ pub moved-made : (t : Table) (k job : ℕ) (s : Station) {v : Station} (w : Call
 moved-made t k job s w made stands a b = made ∙ ap (λ (x : Station). recordMoved x job w) stands ∙ moved-after t k job w a b
 
 -- a call on no station is judged alike in every phase
-judge-stranger : (n : ℕ) (p q : Phase) (c : Call) → within 1 n (c .station) ≡ false → judge n p c ≡ judge n q c
+judge-unknown : (n : ℕ) (p q : Phase) (c : Call) → within 1 n (c .station) ≡ false → judge n p c ≡ judge n q c
 unfolding judge
-judge-stranger n p q c e = rw e refl
+judge-unknown n p q c e = rw e refl
 
 module _ (t : Table) (c : Call) where
   abbrev here : ℕ
@@ -80,7 +79,7 @@ module _ (t : Table) (c : Call) where
     where
       go : (b : Bool) → within 1 (t .count) (c .station) ≡ b → judge (t .count) (at t (cond b (c .station - 1) 0) .phase) c ≡ judge (t .count) (at t (place c) .phase) c
       go true e = refl
-      go false e = judge-stranger (t .count) (at t 0 .phase) (at t (place c) .phase) c e
+      go false e = judge-unknown (t .count) (at t 0 .phase) (at t (place c) .phase) c e
 
   -- what is stored, and what is reported, by the move
   unchanged : store t here (at t here) ≡ t
@@ -201,13 +200,6 @@ pub carried-out : (t : Table) (c : Call) (buffer : Lists.List ℕ) (d : Decision
 carried-out t c buffer d r buffer′ D e w b =
     record { table = D .table; refusal = ap refusalNumber e ∙ D .refusal; written = w ∙ D .written; report = b ∙ ap (λ x. over x buffer) (sym (D .bytes)) }
 
--- what a decision stores on a reached table leaves one that is reached, and so well-formed again
-pub decided-reached : (t : Table) → Reached t → (c : Call) (d : Decision) → Decides t c d → Reached (store t (d .place) (d .«record»))
-decided-reached t r c d D = subst Reached (sym (D .table)) (stepped-reached t r c)
-
-pub decided-well-formed : (t : Table) → Reached t → (c : Call) (d : Decision) → Decides t c d → wellFormed (store t (d .place) (d .«record»)) ≡ true
-decided-well-formed t r c d D = reached-passes (store t (d .place) (d .«record»)) (decided-reached t r c d D)
-
 -- an empty buffer stays empty
 pub empty-buffer : (t : Table) (c : Call) (t′ : Table) (r : Reply) (buffer : Lists.List ℕ) → Steps t c [] t′ r buffer → length buffer ≡ 0 → Steps t c [] t′ r []
 empty-buffer t c t′ r [] s e = s
@@ -236,6 +228,9 @@ step-numbered t c = go (wellFormed t) refl
     go : (b : Bool) → wellFormed t ≡ b → (stepOf t c .refusal ≡ cond b (numberOf (move t c)) 13) × (cond b (numberOf (move t c)) 13 ≢ 0 → stepOf t c ≡ refuse t (cond b (numberOf (move t c)) 13))
     go true e = let s = step-carries t c e in (ap (λ x. x .refusal) s ∙ carried-count t c (move t c) .1, λ h. s ∙ refused-carried t c (move t c) h)
     go false e = let s : stepOf t c ≡ refuse t 13 = unfold stepOf in rw (e, stepOf) refl in (ap (λ x. x .refusal) s, λ h. s)
+
+pub step-kept : (t : Table) (c : Call) → stepOf t c .refusal ≢ 0 → stepOf t c .table ≡ t
+step-kept t c h = let e = step-numbered t c in ap (λ x. x .table) (e .1 (λ z. h (e .0 ∙ z)))
 
 -- a call that keeps its contract has that number; if it is not 0, table and buffer stay as they are and nothing is written
 module _ {t : Table} {c : Call} {buffer : Lists.List ℕ} {t′ : Table} {r : Reply} {buffer′ : Lists.List ℕ} (s : Steps t c buffer t′ r buffer′) where

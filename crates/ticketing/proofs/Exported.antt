@@ -20,7 +20,7 @@ use Rattle.transition.proofs.View.{step-carries, carried-count}
 use Rattle.moves.specs.Moves.{refusalNumber}
 use Rattle.step.specs.Contracts.{over, Steps}
 use Rattle.step.specs.Routines as Routines
-use Rattle.step.proofs.StepLaws.{ill-formed}
+use Rattle.step.proofs.StepLaws.{ill-formed, step-kept}
 use Rattle.step.proofs.Routines.{routines-demand}
 use Rattle.parts.specs.Parts.{Parts, assembled}
 use Rattle.parts.proofs.Fresh.{fresh-parts}
@@ -29,7 +29,7 @@ use Rattle.ticketing.specs.Contracts.{Whole, Starts, Turns}
 use Rattle.parts.specs.Parts.{freshParts}
 use Rattle.ticketing.specs.Exported.{Made, callOf, Sequence, refusalOf, routine, ExportedDemand}
 use Rattle.ticketing.proofs.ApartLaws.{assembled-apart, apart-whole, apart-known, assembled-long, stepped-long, fresh-whole, fresh-known}
-use Rattle.ticketing.proofs.TurnLaws.{refused-kept, turn-unsound, turn-sound}
+use Rattle.ticketing.proofs.TurnLaws.{turn-unsound, turn-sound}
 use Rattle.table.specs.declared.Table.{Table}
 
 -- a refusal's number is that of its name
@@ -79,7 +79,7 @@ module _ (p : Parts) (x : Made) (w : Whole p) (k : known (p .phases) ≡ true) (
         where
           pick : (b : Bool) → eqb (a .refusal) 0 ≡ b → Makes (a .table) (cond b (apart (a .table)) p)
           pick true q = record { whole = apart-whole (a .table); phases = apart-known (a .table); table = assembled-apart (a .table) (stepped-long t (assembled-long p) e (callOf x)) }
-          pick false q = record { whole = w; phases = k; table = sym (refused-kept t (callOf x) e (eqb-false (a .refusal) 0 q)) }
+          pick false q = record { whole = w; phases = k; table = sym (step-kept t (callOf x) (eqb-false (a .refusal) 0 q)) }
       go false e =
           let s = turn-unsound p (callOf x) (unfold sound in right-no (known (p .phases)) e) in
           let q : x .parts ≡ p = u .parts ∙ ap (λ y. y .parts) s in

@@ -16,8 +16,8 @@ use Rattle.simulation.specs.Calls as Calls
 use Rattle.simulation.specs.Calls.{Call}
 use Rattle.table.specs.WellFormed.{wellFormed}
 use Rattle.transition.specs.Steps as Steps
-use Rattle.transition.specs.Steps.{carryOut, move, stepOf}
-use Rattle.transition.proofs.View.{step-carries}
+use Rattle.transition.specs.Steps.{stepOf}
+use Rattle.step.proofs.StepLaws.{step-kept}
 use Rattle.moves.specs.Moves.{refusalNumber, moveOf}
 use Rattle.moves.proofs.Move.{the-type}
 use Rattle.step.specs.Contracts.{over}
@@ -26,7 +26,6 @@ use Rattle.file.specs.Files.{fileReport}
 use Rattle.ticketing.specs.Apart.{apart, known, sound}
 use Rattle.ticketing.specs.Contracts.{Whole, Starts, turnOf, Turns, Serves, ReportsFile}
 use Rattle.ticketing.proofs.ApartLaws.{apart-assembled, phased}
-use Rattle.table.specs.declared.Table.{Table}
 use Rattle.moves.specs.declared.Move.{Move}
 use Rattle.moves.specs.declared.Move.the-variants.{Refused, BeginLabel, BeginScan, SnapLabel, SnapScan, Update, EndLabel, EndScan}
 use Rattle.step.specs.declared.Reply.{Reply}
@@ -50,21 +49,6 @@ no-order SnapScan h e = miss (0 ∷ 1 ∷ 2 ∷ 5 ∷ 6 ∷ 7 ∷ []) 4 tt h
 no-order Update h e = true≢false (sym e)
 no-order EndLabel h e = true≢false (sym e)
 no-order EndScan h e = true≢false (sym e)
-
--- a refused call leaves a well-formed table as it is
-carried-kept : (t : Table) (c : Call) (w : Calls.Move) → carryOut t c w .refusal ≢ 0 → carryOut t c w .table ≡ t
-unfolding carryOut
-carried-kept t c (Calls.Move.refused x) h = refl
-carried-kept t c Calls.Move.beginsLabel h = absurd (h refl)
-carried-kept t c Calls.Move.beginsScan h = absurd (h refl)
-carried-kept t c Calls.Move.snapsLabel h = absurd (h refl)
-carried-kept t c Calls.Move.snapsScan h = absurd (h refl)
-carried-kept t c Calls.Move.updates h = absurd (h refl)
-carried-kept t c Calls.Move.endsLabel h = absurd (h refl)
-carried-kept t c Calls.Move.endsScan h = absurd (h refl)
-
-pub refused-kept : (t : Table) (c : Call) → wellFormed t ≡ true → stepOf t c .refusal ≢ 0 → stepOf t c .table ≡ t
-refused-kept t c ok h = let e = step-carries t c ok in ap (λ x. x .table) e ∙ carried-kept t c (move t c) (λ z. h (ap (λ x. x .refusal) e ∙ z))
 
 pub sound-parts : (p : Parts) → sound p ≡ true → Phased p × (wellFormed (assembled p) ≡ true)
 unfolding sound
@@ -107,7 +91,7 @@ module _ (p : Parts) (c : Call) where
 
       kept : (b : Bool) → eqb (t .refusal) 0 ≡ b → apart (t .table) ≡ cond b (apart (t .table)) p
       kept true q = refl
-      kept false q = ap apart (refused-kept (assembled p) c (known′ .1) (eqb-false (t .refusal) 0 q)) ∙ apart-assembled p whole (known′ .0)
+      kept false q = ap apart (step-kept (assembled p) c (eqb-false (t .refusal) 0 q)) ∙ apart-assembled p whole (known′ .0)
 
 -- a whole schedule, with room for its report and without
 pub file-unserved : (bs buffer : Lists.List ℕ) (r : Answer) → length buffer / 928 < length bs / 18 + 2 → r .refusal ≡ 7 → r .written ≡ 0 → ReportsFile bs buffer r buffer
