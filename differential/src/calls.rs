@@ -1,9 +1,10 @@
 //! Boards by index, reached or made up or damaged, and the calls on them.
 
+use crate::boards::{self, LAST_PHASE};
 use crate::draw::{any_step, pick, source, Stations, Step};
-use crate::library::{Board, LAST_PHASE};
 use ticket_bench::generate::Random;
 use ticket_bench::plain::{Table, MAX_DIGITS, MAX_STATIONS, REPORT_LINE};
+use tickets::Board;
 
 /// A step, the length of its report area, and the byte that fills it before.
 pub struct Call {
@@ -26,7 +27,7 @@ pub struct Session {
 }
 
 pub fn noise(random: &mut Random) -> Board {
-    let mut board = Board::of(&Table::fresh(MAX_STATIONS));
+    let mut board = boards::board(&Table::fresh(MAX_STATIONS));
     board.count = 2 + random.below(31);
     board.labels.iter_mut().flatten().for_each(|b| *b = random.word() as u8);
     board.jobs.iter_mut().for_each(|b| *b = random.word() as u32);
@@ -57,7 +58,7 @@ fn label(random: &mut Random, n: usize, tree: u64, stray_in: u64) -> [u8; MAX_DI
 
 /// A well-formed board that no steps need to reach.
 fn made_up(random: &mut Random, n: usize) -> Board {
-    let mut board = Board::of(&Table::fresh(n));
+    let mut board = boards::board(&Table::fresh(n));
     let tree = random.word();
     let stray_in = pick(random, &[2, 4, 16, 64]);
     for i in 0..n {

@@ -1,9 +1,9 @@
 //! The static library against the plain program, byte for byte. README.md says what is covered.
 
+mod boards;
 mod calls;
 mod draw;
 mod files;
-mod library;
 mod run;
 
 use std::process::ExitCode;

@@ -1,15 +1,16 @@
 //! Runs both sides, compares, and counts the refusal numbers that came up.
 
+use crate::boards;
 use crate::calls::{noise, Call, Session};
 use crate::draw::source;
 use crate::files::file;
-use crate::library::{self, Answer, Board};
 use std::fmt::Debug;
 use std::fs::{self, File};
 use std::io;
 use std::process::{Command, Stdio};
 use ticket_bench::generate::{schedule, Ending};
 use ticket_bench::plain::{self, refusal, Table, LINE, MAX_STATIONS, MAX_STEPS, REPORT_LINE};
+use tickets::{Answer, Board};
 
 /// How often each refusal number was the plain program's answer, 0 for a call or a report line that is not refused.
 pub struct Counts {
@@ -56,11 +57,11 @@ fn check_library(schedule: &[u8], expected: &[u8], random: u64) -> Result<bool, 
     let short = !full && random >> 8 & 3 == 0;
     if short {
         let less = if random >> 10 & 1 == 0 { room - 1 } else { (random >> 16) as usize % room };
-        let answer = library::report(schedule, &mut area[..less]);
+        let answer = tickets::report_into(schedule, &mut area[..less]);
         same("answer to less room", &answer, &Answer { refusal: refusal::SHORT_REPORT, written: 0 })?;
         same("whether less room is kept", &kept(&area), &true)?;
     }
-    let answer = library::report(schedule, &mut area[..room]);
+    let answer = tickets::report_into(schedule, &mut area[..room]);
     same("refusal", &answer.refusal, &0)?;
     let (report, rest) = area.split_at(room.min(answer.written as usize));
     same_bytes("report", report, expected)?;
@@ -147,13 +148,13 @@ fn check_call(board: &mut Board, call: &Call, counts: &mut Counts) -> Result<(),
     let Call { step, room, fill } = call;
     let mut area = vec![*fill; room + BEHIND];
     let mut expected_area = area.clone();
-    let answer = board.step(step.code, step.station, step.job, &mut area[..*room]);
+    let answer = board.answer(step.code, step.station, step.job, &mut area[..*room]);
     // A phase without a meaning has no plain table, and is refused by 13 with nothing changed.
-    let (expected, expected_board) = match before.table() {
+    let (expected, expected_board) = match boards::table(&before) {
         None => (Answer { refusal: refusal::ILL_FORMED, written: 0 }, before.clone()),
         Some(mut table) => {
             let (number, bytes) = plain::step(&mut table, step.code, step.station, step.job, &mut expected_area[..*room]);
-            (Answer { refusal: number, written: bytes as u64 }, Board::of(&table))
+            (Answer { refusal: number, written: bytes as u64 }, boards::board(&table))
         }
     };
     counts.add(expected.refusal);
@@ -166,7 +167,7 @@ fn check_call(board: &mut Board, call: &Call, counts: &mut Counts) -> Result<(),
 /// A fresh table written over any board by both sides.
 fn check_fresh(board: &mut Board, n: u64, counts: &mut Counts) -> Result<(), String> {
     let (expected, expected_board) = match n {
-        2..=32 => (0, Board { count: board.count, ..Board::of(&Table::fresh(n as usize)) }),
+        2..=32 => (0, Board { count: board.count, ..boards::board(&Table::fresh(n as usize)) }),
         _ => (refusal::COUNT, board.clone()),
     };
     counts.add(expected);

@@ -56,10 +56,12 @@ pub struct Board {
     pub phases: [u8; MAX_STATIONS],
 }
 
+/// What an exported function answers: the number of the refusal, 0 for none, and how many bytes of report were written.
 #[repr(C)]
-struct Answer {
-    refusal: u64,
-    written: u64,
+#[derive(Clone, Copy, PartialEq, Eq, Debug)]
+pub struct Answer {
+    pub refusal: Refusal,
+    pub written: u64,
 }
 
 // No padding, so every byte is a number's; the C header has the same layout.
@@ -104,12 +106,17 @@ extern "C" {
     fn tickets_report(schedule: *const u8, schedule_len: usize, report: *mut u8, report_len: usize) -> Answer;
 }
 
+/// Writes the report of a whole schedule file to the front of a buffer. One that is too short for any report of so many lines is refused by 7.
+pub fn report_into(schedule: &[u8], report: &mut [u8]) -> Answer {
+    // SAFETY: the function is declared as the library exports it; it takes any bytes, and writes at most `report.len()` to the buffer, which does not
+    // overlap the schedule.
+    unsafe { tickets_report(schedule.as_ptr(), schedule.len(), report.as_mut_ptr(), report.len()) }
+}
+
 /// The report of a whole schedule file. The memory that it takes is that of the report; room for more is asked for, and not touched.
 pub fn report(schedule: &[u8]) -> Vec<u8> {
     let mut report = vec![0; (schedule.len() / 18 + 2) * MAX_STATIONS * REPORT_LINE];
-    // SAFETY: the function is declared as the library exports it; it takes any bytes, and writes at most `report.len()` to the buffer, which does not
-    // overlap the schedule.
-    let answer = unsafe { tickets_report(schedule.as_ptr(), schedule.len(), report.as_mut_ptr(), report.len()) };
+    let answer = report_into(schedule, &mut report);
     assert!(answer.refusal == 0, "there is room for every report");
     report.truncate(answer.written as usize);
     report
@@ -128,23 +135,26 @@ impl Board {
             pending_labels: [[0; MAX_DIGITS]; MAX_STATIONS],
             phases: [0; MAX_STATIONS],
         };
+        match board.freshen(n) {
+            0 => Ok(board),
+            refusal => Err(refusal),
+        }
+    }
+
+    /// Writes the fresh table of n stations over the arrays, whatever they hold, and keeps the count; another n than 2 to 32 is refused by 1.
+    pub fn freshen(&mut self, n: u64) -> Refusal {
         // SAFETY: the function is declared as the library exports it; it takes any number and any content of the arrays.
-        let refusal = unsafe {
+        unsafe {
             tickets_fresh(
                 n,
-                &mut board.labels,
-                &mut board.jobs,
-                &mut board.pending_labels,
-                &mut board.pending_jobs,
-                &mut board.result_stations,
-                &mut board.result_jobs,
-                &mut board.phases,
+                &mut self.labels,
+                &mut self.jobs,
+                &mut self.pending_labels,
+                &mut self.pending_jobs,
+                &mut self.result_stations,
+                &mut self.result_jobs,
+                &mut self.phases,
             )
-        };
-        if refusal == 0 {
-            Ok(board)
-        } else {
-            Err(refusal)
         }
     }
 
@@ -152,9 +162,17 @@ impl Board {
     ///
     /// The end of a scan writes a line of 29 bytes for each station, oldest first; no other step writes any.
     pub fn step(&mut self, code: u64, station: u64, job: u64, report: &mut [u8]) -> Result<usize, Refusal> {
+        match self.answer(code, station, job, report) {
+            Answer { refusal: 0, written } => Ok(written as usize),
+            Answer { refusal, .. } => Err(refusal),
+        }
+    }
+
+    /// The same, with the answer as it stands.
+    pub fn answer(&mut self, code: u64, station: u64, job: u64, report: &mut [u8]) -> Answer {
         // SAFETY: the function is declared as the library exports it; it takes any numbers and any content of the arrays and of the buffer, which are
         // lent for the call and do not overlap. It writes at most `report.len()` bytes to the buffer.
-        let answer = unsafe {
+        unsafe {
             tickets_step(
                 self.count,
                 &mut self.labels,
@@ -170,11 +188,6 @@ impl Board {
                 report.as_mut_ptr(),
                 report.len(),
             )
-        };
-        if answer.refusal == 0 {
-            Ok(answer.written as usize)
-        } else {
-            Err(answer.refusal)
         }
     }
 }
