@@ -68,7 +68,7 @@ fn scan_column(s: &[u8]) -> Column
     with_digit(v, s[last])
 }
 
-// Four bytes as one number, which tells four blanks from all others.
+// Four bytes as one number; 538976288, with 32 in each byte, is that of four blanks.
 fn joined(a: u8, b: u8, c: u8, d: u8) -> u64
     ensures { λ r. ⌜ r ≡ a + b * 256 + c * 65536 + d * 16777216 ⌝ }
     ensures { λ r. ⌜ r < 4294967296 ⌝ }
@@ -77,7 +77,7 @@ fn joined(a: u8, b: u8, c: u8, d: u8) -> u64
     a as u64 + b as u64 * 256 + c as u64 * 65536 + d as u64 * 16777216
 }
 
-// Whether the first 8 bytes are blanks. They are compared as two numbers, which the compiler makes one.
+// Whether the first 8 bytes are blanks. As one number, with 32 in each byte, they are compared at once.
 fn blank_front(s: &[u8]) -> bool
     requires { ⌜ 8 ≤ length (now s) ⌝ }
     ensures { λ r. ⌜ r ≡ blanks 8 (now (s .entry)) ⌝ }
