@@ -1,7 +1,7 @@
 // What a step call amounts to, its refusal, and what it makes of the calling station's record.
 ghost use mathlib.Core.Path.{_≡_};
 ghost use Prim.Native.Nat.{_≤_};
-ghost use Rattle.simulation.specs.Calls.{beginsLabel, jobFits, judge, fromIdle, fromSnap, fromUpdate, fromEnd, byCode, numberOf};
+ghost use Rattle.simulation.specs.Calls.{unless, beginsLabel, jobFits, judge, fromIdle, fromSnap, fromUpdate, fromEnd, byCode, numberOf};
 ghost use Rattle.transition.specs.Steps.{inPhase, begun, snapped, scanned, updated};
 ghost use Rattle.moves.specs.Moves.{refusalNumber, moveOf, called, recordMoved, reportSize, placeOf};
 use table::Entry;
@@ -134,13 +134,22 @@ fn ends(p: Phase, fits: bool) -> Move
     }
 }
 
-// What a known step amounts to for a station in this phase, of n stations.
-fn by_code(n: usize, code: u64, room: usize, p: Phase) -> Move
+// What a known step of one of n stations amounts to: its job is judged first, and then the phase.
+fn by_code(n: usize, code: u64, job: u64, room: usize, p: Phase) -> Move
     requires { ⌜ n ≤ 32 ⌝ }
-    ensures { λ r. ⌜ moveOf r ≡ byCode n code room p ⌝ }
+    ensures { λ r. ⌜ moveOf r ≡ unless (jobFits code job) 11 (byCode n code room p) ⌝ }
 {
     if code == 1 {
+        if job < 1 {
+            return Move::Refused(Refusal::JobOutOfRange);
+        }
+        if 4294967295 < job {
+            return Move::Refused(Refusal::JobOutOfRange);
+        }
         return begins(Move::BeginLabel, p);
+    }
+    if job != 0 {
+        return Move::Refused(Refusal::JobOutOfRange);
     }
     if code == 2 {
         return begins(Move::BeginScan, p);
@@ -152,16 +161,6 @@ fn by_code(n: usize, code: u64, room: usize, p: Phase) -> Move
         return updates(p);
     }
     ends(p, n * 29 <= room)
-}
-
-// Whether a job is in its range for the step.
-fn job_fits(code: u64, job: u64) -> bool
-    ensures { λ r. ⌜ r ≡ jobFits code job ⌝ }
-{
-    if code == 1 {
-        return 1 <= job && job <= 4294967295;
-    }
-    job == 0
 }
 
 // What a call amounts to for a station in this phase, of n stations.
@@ -181,10 +180,7 @@ pub fn judge(n: usize, p: Phase, code: u64, station: u64, job: u64, room: usize)
     if (n as u64) < station {
         return Move::Refused(Refusal::UnknownStation);
     }
-    if !job_fits(code, job) {
-        return Move::Refused(Refusal::JobOutOfRange);
-    }
-    by_code(n, code, room, p)
+    by_code(n, code, job, room, p)
 }
 
 // The refusal of a move.
