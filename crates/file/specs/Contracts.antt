@@ -10,7 +10,7 @@ use Rattle.transition.specs.Steps.{stepOf}
 use Rattle.transition.proofs.Reachable.{Reached}
 use Rattle.moves.specs.Moves.{refusalNumber}
 use Rattle.step.specs.Contracts.{over}
-use Rattle.parts.specs.Parts.{Parts, assembled, Sized, orderOf}
+use Rattle.parts.specs.Parts.{Parts, assembled, Sized, Phased, orderOf}
 use Rattle.schedule.specs.Sessions.{session}
 use Rattle.file.specs.Files.{cut, printed, runLines}
 use Rattle.schedule.specs.declared.Session.{Session}
@@ -27,9 +27,10 @@ isUpdate Move.updates = true
 isUpdate Move.endsLabel = false
 isUpdate Move.endsScan = false
 
--- the parts of a table that is reached from a fresh one, with its scan order
+-- the parts of a table that is reached from a fresh one, each phase by its own number, with its scan order
 pub record Runnable (p : Parts) (order : Lists.List ℕ) : Type 0 where
   pub sized : Sized p
+  pub phased : Phased p
   pub reached : Reached (assembled p)
   pub isOrder : order ≡ orderOf (p .count) (p .labels)
 
