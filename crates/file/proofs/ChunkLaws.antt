@@ -1,10 +1,11 @@
 -- The lines of a part of the file, one after the other: what one line more gives, and what stands in the output buffer meanwhile.
 use mathlib.Core.Path.{_≡_, refl, sym, ap, subst, _∙_}
-use mathlib.Core.Logic.{_≢_, _⊎_, inl, inr, ⊎-elim}
+use mathlib.Core.Logic.{_≢_, _⊎_, inl, inr, ⊎-elim, by-cases}
 use mathlib.Core.Bool.{Bool, true, false, not, cond}
 use mathlib.Core.List as Lists
 use mathlib.Core.List.{[], _∷_, _++_, append-assoc, append-nil}
-use Prim.Native.Nat.{ℕ, suc, _+_, _-_, _*_, _≤_, _<_}
+use Prim.Native.Nat.{ℕ, _+_, _-_, _*_, _/_, _≤_, _<_, min}
+use native.Mathlib.Decide.{decLt}
 use native.Mathlib.Omega.{arith}
 use lib.ListN.{length, take, drop, length-append, length-take, length-drop, take-append-drop, drop-of-length-le}
 use lib.Seq.{take-at, drop-at, drop-append-le, drop-drop, length-take-le, take-all}
@@ -23,9 +24,10 @@ use Rattle.transition.proofs.Reachable.{Reached, reached-passes}
 use Rattle.moves.specs.declared.Refusal.{Refusal}
 use Rattle.moves.specs.declared.Refusal.the-variants.{Accepted}
 use Rattle.parts.specs.Parts.{Parts, assembled}
-use Rattle.schedule.specs.Sessions.{session, headerOf, isFinal, refused, nextLine, stepLine}
+use Rattle.schedule.specs.Sessions.{session, headerOf, Served, isFinal, nextLine, stepLine}
 use Rattle.file.specs.Files.{cut, pieces, printed, headerPrinted, runLines, fileReport}
-use Rattle.file.specs.Contracts.{Prints, behind, ahead, Reports}
+use Rattle.file.specs.Contracts.{Prints, readLines, Reports}
+use Rattle.file.proofs.Cuts.{behind, final-run, run-append, cut-add}
 use Rattle.schedule.proofs.SessionLaws.{serve-next, next-within}
 use Rattle.schedule.proofs.SessionLaws.{Numbered, next-numbered, Opened, opened}
 use Rattle.schedule.specs.declared.Line.the-variants.{Step, Refused}
@@ -38,30 +40,23 @@ next-refused lines l r e = subst Numbered e (next-numbered lines l)
 
 -- RUNS
 
--- nothing follows a final refusal
-pub final-run : (s : Session) (ls : Lists.List (Lists.List ℕ)) → refusalNumber (s .refusal) ≢ 0 → runLines s ls ≡ refused s (refusalNumber (s .refusal))
-unfolding runLines
-final-run s [] d = refl
-final-run s (l ∷ ls) d = rw (ne-eqb _ _ d) refl
-
 -- what a step line prints, and the table that it leaves
 abbrev pub shownOf : Table → Call → Lists.List ℕ
 shownOf t c = let a = stepOf t c in printed (c .line) (a .refusal) (a .bytes)
 
-module _ (s : Session) (l : Lists.List ℕ) (ls : Lists.List (Lists.List ℕ)) (live : refusalNumber (s .refusal) ≡ 0) (reached : Reached (s .table)) where
-  run-next : runLines s (l ∷ ls) ≡ behind (printed (s .lines + 1) (stepLine s 928 (nextLine (s .lines) l) .refusal) (stepLine s 928 (nextLine (s .lines) l) .bytes))
-      (runLines (stepLine s 928 (nextLine (s .lines) l) .session) ls)
+module _ (s : Session) (l : Lists.List ℕ) (live : refusalNumber (s .refusal) ≡ 0) (reached : Reached (s .table)) where
+  run-line : let o = stepLine s 928 (nextLine (s .lines) l) in
+      runLines s (l ∷ []) ≡ record { session = o .session; refusal = refusalNumber (o .session .refusal); bytes = printed (s .lines + 1) (o .refusal) (o .bytes) }
   unfolding runLines
-  run-next = rw (eq-eqb _ _ live, serve-next s l 928 live (reached-passes (s .table) reached) _ refl) refl
+  run-line = rw (eq-eqb _ _ live, serve-next s l 928 live (reached-passes (s .table) reached) _ refl, append-nil) refl
 
   run-refused : (r : Refusal) → nextLine (s .lines) l ≡ Refused r
-      → runLines s (l ∷ ls) ≡ record { session = session (s .lines) r (s .table); refusal = refusalNumber r; bytes = printed (s .lines + 1) (refusalNumber r) [] }
-  run-refused r e =
-      run-next ∙ rw (e, final-run (session (s .lines) r (s .table)) ls (next-refused (s .lines) l r e), append-nil) refl
+      → runLines s (l ∷ []) ≡ record { session = session (s .lines) r (s .table); refusal = refusalNumber r; bytes = printed (s .lines + 1) (refusalNumber r) [] }
+  run-refused r e = run-line ∙ rw e refl
 
   run-step : (station code job : ℕ) → nextLine (s .lines) l ≡ Step station code job → let c = called (s .lines + 1) code station job 928 in
-      runLines s (l ∷ ls) ≡ behind (shownOf (s .table) c) (runLines (session (s .lines + 1) (s .refusal) (stepOf (s .table) c .table)) ls)
-  run-step station code job e = run-next ∙ rw e refl
+      runLines s (l ∷ []) ≡ record { session = session (s .lines + 1) (s .refusal) (stepOf (s .table) c .table); refusal = refusalNumber (s .refusal); bytes = shownOf (s .table) c }
+  run-step station code job e = run-line ∙ rw e refl
 
 -- BUFFERS
 
@@ -107,49 +102,62 @@ printed-refusal number refusal = go (eqb refusal 0)
 
 -- PLACES
 
+-- how many lines a part of the file has from a place on
+abbrev pub ahead : Lists.List ℕ → ℕ → ℕ
+ahead chunk at = (length chunk - at + 17) / 18
+
+-- a place where a line starts, or the end
+abbrev Starts : Lists.List ℕ → ℕ → Type 0
+Starts chunk at = at ≡ min (18 * readLines at) (length chunk)
+
+start-ahead : (chunk : Lists.List ℕ) (at : ℕ) → Starts chunk at → readLines at + ahead chunk at ≡ pieces chunk
+start-ahead chunk at w = omega (arith, w)
+
 module _ (chunk : Lists.List ℕ) (at : ℕ) (h : at < length chunk) where
   abbrev line : Lists.List ℕ
   line = take 18 (drop at chunk)
 
-  line-long : ((18 ≤ length chunk - at) × (length line ≡ 18)) ⊎ ((length chunk - at < 18) × (length line ≡ length chunk - at))
-  line-long = go (leb 18 (length chunk - at)) refl
-    where
-      go : (b : Bool) → leb 18 (length chunk - at) ≡ b → ((18 ≤ length chunk - at) × (length line ≡ 18)) ⊎ ((length chunk - at < 18) × (length line ≡ length chunk - at))
-      go true e = let m = leb-true 18 (length chunk - at) e in inl (m, length-take-le 18 (drop at chunk) (rw length-drop m))
-      go false e = let m = leb-false 18 (length chunk - at) e in inr (m, ap length (take-all 18 (drop at chunk) (rw length-drop (omega arith))) ∙ length-drop at chunk)
+  line-long : length line ≡ min 18 (length chunk - at)
+  line-long = length-take 18 (drop at chunk) ∙ ap (min 18) (length-drop at chunk)
 
-  line-within : (at + length line ≤ length chunk) × (0 < length line) × (ahead chunk at ≡ suc (ahead chunk (at + length line)))
-  line-within = ⊎-elim (λ w. (omega arith, omega arith, omega arith)) (λ w. (omega arith, omega arith, omega arith)) line-long
+  line-within : (at + length line ≤ length chunk) × (0 < length line)
+  line-within = (omega (arith, line-long), omega (arith, line-long))
 
-  line-drop : drop 18 (drop at chunk) ≡ drop (at + length line) chunk
-  line-drop = ⊎-elim whole short line-long
-    where
-      whole : (18 ≤ length chunk - at) × (length line ≡ 18) → drop 18 (drop at chunk) ≡ drop (at + length line) chunk
-      whole w = drop-drop 18 at chunk ∙ ap (λ (k : ℕ). drop (at + k) chunk) (sym (w .1))
+  module _ (w : Starts chunk at) where
+    line-next : readLines (at + length line) ≡ readLines at + 1
+    line-next = omega (arith, line-long, w)
 
-      short : (length chunk - at < 18) × (length line ≡ length chunk - at) → drop 18 (drop at chunk) ≡ drop (at + length line) chunk
-      short w = drop-of-length-le (drop at chunk) {i = 18} (rw length-drop (omega arith)) ∙ sym (drop-of-length-le chunk {i = at + length line} (omega arith))
+    line-starts : Starts chunk (at + length line)
+    line-starts = omega (arith, line-long, w)
 
-  cut-line : cut (ahead chunk at) (drop at chunk) ≡ line ∷ cut (ahead chunk (at + length line)) (drop (at + length line) chunk)
-  unfolding cut
-  cut-line = rw (line-within .2, line-drop) refl
+    line-cut : cut (readLines (at + length line)) chunk ≡ cut (readLines at) chunk ++ (line ∷ [])
+    unfolding cut
+    line-cut =
+        let e : 18 * readLines at ≡ at = omega (arith, w) in
+        ap (λ k. cut k chunk) line-next ∙ cut-add (readLines at) 1 chunk ∙ ap (λ k. cut (readLines at) chunk ++ (take 18 (drop k chunk) ∷ [])) e
 
 -- THE LOOP
 
+-- after k lines none is refused for good, and there is room for another
+abbrev Goes : Session → Lists.List ℕ → ℕ → ℕ → Type 0
+Goes s chunk room k = (runLines s (cut k chunk) .refusal ≡ 0) × (length (runLines s (cut k chunk) .bytes) + 928 ≤ room)
+
 pub record Sofar (s : Session) (chunk out₀ : Lists.List ℕ) (t : Table) (lines written at : ℕ) (out : Lists.List ℕ) : Type 0 where
-  pub within : at ≤ length chunk
+  pub whole : Starts chunk at
   pub room : written ≤ length out₀
-  pub short : written + 928 * ahead chunk at ≤ 928 * pieces chunk
-  pub counted : lines + ahead chunk at ≡ s .lines + pieces chunk
+  pub short : written ≤ 928 * readLines at
+  pub counted : lines ≡ s .lines + readLines at
   pub low : s .lines ≤ 1000001 → lines ≤ 1000001
   pub bytes : Lists.List ℕ
   pub long : written ≡ length bytes
   pub area : out ≡ over bytes out₀
-  pub runs : runLines s (cut (pieces chunk) chunk) ≡ behind bytes (runLines (session lines Accepted t) (cut (ahead chunk at) (drop at chunk)))
+  pub runs : runLines s (cut (readLines at) chunk) ≡ record { session = session lines Accepted t; refusal = 0; bytes = bytes }
+  pub goes : (k : ℕ) → k < readLines at → Goes s chunk (length out₀) k
 
 pub sofar-start : (lines : ℕ) (t : Table) (chunk out : Lists.List ℕ) → Sofar (session lines Accepted t) chunk out t lines 0 0 out
+unfolding cut runLines
 sofar-start lines t chunk out = record {
-  within = omega arith;
+  whole = omega arith;
   room = omega arith;
   short = omega arith;
   counted = omega arith;
@@ -157,7 +165,8 @@ sofar-start lines t chunk out = record {
   bytes = [];
   long = refl;
   area = refl;
-  runs = let e : pieces chunk ≡ ahead chunk 0 = omega arith in ap (λ (k : ℕ). runLines (session lines Accepted t) (cut k chunk)) e;
+  runs = refl;
+  goes = λ k l. absurd (omega (arith, l));
 }
 
 module _ {s : Session} {chunk out₀ : Lists.List ℕ} {t : Table} {lines written at : ℕ} {out : Lists.List ℕ} (f : Sofar s chunk out₀ t lines written at out) where
@@ -167,18 +176,22 @@ module _ {s : Session} {chunk out₀ : Lists.List ℕ} {t : Table} {lines writte
   pub inside : written ≤ length out
   inside = omega (arith, as-long, f .room)
 
+  pub place-within : at ≤ length chunk
+  place-within = omega (arith, f .whole)
+
   -- all lines are served, or there is no room for another
   pub sofar-end : (r : Progress) → r .lines ≡ lines → r .refusal ≡ Accepted → r .read ≡ at → r .written ≡ written → (length chunk ≤ at) ⊎ (length out - written < 928)
       → Reports s chunk t r out₀ out
   sofar-end r e v u w h = record {
-    within = rw u (f .within);
+    whole = rw u (f .whole);
     bytes = f .bytes;
+    runs = rw (e, v, u) (f .runs);
     written = w ∙ f .long;
     report = f .area;
-    runs = rw (e, v, u) (f .runs);
+    goes = rw u (f .goes);
+    stops = inr (⊎-elim (λ x. inl (omega (arith, u, place-within))) (λ x. inr (omega (arith, w, as-long, f .room))) h);
     short = rw (u, w) (f .short);
     counted = λ z. rw (u, e) (f .counted, f .low);
-    stops = inr (⊎-elim (λ x. inl (omega (arith, u, f .within))) (λ x. inr (omega (arith, w, as-long, f .room))) h);
   }
 
   module _ (h : at < length chunk) (free : 928 ≤ length out - written) where
@@ -186,12 +199,31 @@ module _ {s : Session} {chunk out₀ : Lists.List ℕ} {t : Table} {lines writte
     room-here = omega (arith, inside)
 
     pub at-next : (l : Lists.List ℕ) → l ≡ take 18 (drop at chunk) → (at + length l ≤ length chunk) × (0 < length l)
-    at-next l p = rw p (line-within chunk at h .0, line-within chunk at h .1)
+    at-next l p = rw p (line-within chunk at h)
 
     module _ (reached : Reached t) (l : Lists.List ℕ) (p : l ≡ take 18 (drop at chunk)) (k : ℕ) (e : k ≡ 928) where
       -- what is put in behind the bytes so far
       put : (x : Lists.List ℕ) → length x ≤ 928 → putMid written k out (over x (midOf written k out)) ≡ over (f .bytes ++ x) out₀
       put x short = rw (f .area, e, f .long) (put-over (f .bytes) x out₀ 928 short (omega (arith, f .long, as-long, room-here)))
+
+      -- one line more
+      starts-on : Starts chunk (at + length l)
+      starts-on = rw p (line-starts chunk at h (f .whole))
+
+      lines-on : readLines (at + length l) ≡ readLines at + 1
+      lines-on = rw p (line-next chunk at h (f .whole))
+
+      runs-on : (o : Served) → runLines (session lines Accepted t) (l ∷ []) ≡ o → runLines s (cut (readLines (at + length l)) chunk) ≡ behind (f .bytes) o
+      runs-on o q =
+          ap (runLines s) (rw p (line-cut chunk at h (f .whole)))
+          ∙ run-append (cut (readLines at) chunk) (l ∷ []) s
+          ∙ ap (λ x. behind (x .bytes) (runLines (x .session) (l ∷ []))) (f .runs)
+          ∙ ap (behind (f .bytes)) q
+
+      goes-on : (j : ℕ) → j < readLines (at + length l) → Goes s chunk (length out₀) j
+      goes-on j b = by-cases (decLt j (readLines at)) (f .goes j)
+          (λ n. let q : j ≡ readLines at = omega (arith, b, n, lines-on) in
+          rw (q, f .runs) (refl, omega (arith, f .long, as-long, room-here)))
 
       -- a line that is refused for good
       pub sofar-stop : (r : Refusal) (n : ℕ) (x : Lists.List ℕ) (o : Progress) → nextLine lines l ≡ Refused r → n ≡ length (printed (lines + 1) (refusalNumber r) [])
@@ -201,20 +233,16 @@ module _ {s : Session} {chunk out₀ : Lists.List ℕ} {t : Table} {lines writte
           let bytes = printed (lines + 1) (refusalNumber r) [] in
           let d = next-refused lines l r a in
           let low : length bytes ≤ 29 = printed-refusal (lines + 1) (refusalNumber r) in
-          let rest = cut (ahead chunk (at + length l)) (drop (at + length l) chunk) in
           record {
-            within = rw y (at-next l p .0);
+            whole = rw y starts-on;
             bytes = f .bytes ++ bytes;
+            runs = rw (u, v, y) (runs-on _ (run-refused (session lines Accepted t) l refl reached r a));
             written = omega (arith, w, b, f .long, length-append (f .bytes) bytes);
             report = rw c (put bytes (omega (arith, low)));
-            runs =
-                f .runs
-                ∙ ap (λ ls. behind (f .bytes) (runLines (session lines Accepted t) ls)) (cut-line chunk at h)
-                ∙ ap (behind (f .bytes)) (run-refused (session lines Accepted t) (take 18 (drop at chunk)) _ refl reached r (rw p at a))
-                ∙ rw (u, v, y, final-run (session lines r t) rest d, append-nil) refl;
-            short = rw (y, p) (omega (arith, w, b, low, f .short, line-within chunk at h));
-            counted = λ z. absurd (d (sym (ap refusalNumber v) ∙ z));
+            goes = rw y goes-on;
             stops = inl (λ z. d (sym (ap refusalNumber v) ∙ z));
+            short = rw y (omega (arith, w, b, low, f .short, lines-on));
+            counted = λ z. absurd (d (sym (ap refusalNumber v) ∙ z));
           }
 
       -- a line that is served
@@ -226,28 +254,45 @@ module _ {s : Session} {chunk out₀ : Lists.List ℕ} {t : Table} {lines writte
           let mid : length (midOf written k out) ≡ 928 = length-take-le k (drop written out) (rw length-drop (omega (arith, e, room-here))) ∙ e in
           let few : length (shownOf t c) ≤ 928 = omega (arith, over-short (shownOf t c) (midOf written k out) x w y, mid) in
           record {
-            within = at-next l p .0;
+            whole = starts-on;
             room = omega (arith, v, few, as-long, room-here);
-            short = rw p (omega (arith, v, few, f .short, line-within chunk at h));
-            counted = rw p (omega (arith, f .counted, line-within chunk at h));
+            short = omega (arith, v, few, f .short, lines-on);
+            counted = omega (arith, f .counted, lines-on);
             low = λ _. omega (arith, next-within lines l station code job a);
             bytes = f .bytes ++ shownOf t c;
             long = omega (arith, v, f .long, length-append (f .bytes) (shownOf t c));
             area = rw w (put (shownOf t c) few);
-            runs =
-                f .runs
-                ∙ ap (λ ls. behind (f .bytes) (runLines (session lines Accepted t) ls)) (cut-line chunk at h)
-                ∙ ap (behind (f .bytes)) (run-step (session lines Accepted t) (take 18 (drop at chunk)) _ refl reached station code job (rw p at a))
-                ∙ rw (u, p, append-assoc) refl;
+            runs = rw u (runs-on _ (run-step (session lines Accepted t) l refl reached station code job a));
+            goes = goes-on;
           }
 
 -- WHAT A CALLER HAS OF IT
 
 module _ {s : Session} {chunk : Lists.List ℕ} {t : Table} {r : Progress} {buffer buffer′ : Lists.List ℕ} (f : Reports s chunk t r buffer buffer′) where
+  reports-within : r .read ≤ length chunk
+  reports-within = omega (arith, f .whole)
+
+  reports-ahead : readLines (r .read) + ahead chunk (r .read) ≡ pieces chunk
+  reports-ahead = start-ahead chunk (r .read) (f .whole)
+
+  -- the run of all lines is what is printed, and behind that the run of the rest from the session left
+  reports-rest : runLines s (cut (pieces chunk) chunk)
+      ≡ behind (f .bytes) (runLines (session (r .lines) (r .refusal) t) (cut (ahead chunk (r .read)) (drop (r .read) chunk)))
+  reports-rest =
+      ap (λ k. runLines s (cut k chunk)) (sym reports-ahead)
+      ∙ ap (runLines s) (cut-add (readLines (r .read)) (ahead chunk (r .read)) chunk)
+      ∙ run-append (cut (readLines (r .read)) chunk) (cut (ahead chunk (r .read)) (drop (18 * readLines (r .read)) chunk)) s
+      ∙ ap (λ o. behind (o .bytes) (runLines (o .session) (cut (ahead chunk (r .read)) (drop (18 * readLines (r .read)) chunk)))) (f .runs)
+      ∙ ap (λ b. behind (f .bytes) (runLines (session (r .lines) (r .refusal) t) (cut (ahead chunk (r .read)) b))) same
+    where
+      same : drop (18 * readLines (r .read)) chunk ≡ drop (r .read) chunk
+      same = by-cases (decLt (r .read) (length chunk)) (λ l. let e : 18 * readLines (r .read) ≡ r .read = omega (arith, l, f .whole) in ap (λ k. drop k chunk) e)
+          (λ n. drop-of-length-le chunk {i = 18 * readLines (r .read)} (omega (arith, n, f .whole)) ∙ sym (drop-of-length-le chunk {i = r .read} (omega (arith, n))))
+
   -- with room for all lines, the whole run is printed
   pub reports-all : 928 * pieces chunk ≤ length buffer → Printed (r .written) (runLines s (cut (pieces chunk) chunk) .bytes) buffer buffer′
   unfolding cut runLines
-  reports-all h = rw (ap (λ o. o .bytes) (f .runs) ∙ ap (λ (x : Lists.List ℕ). f .bytes ++ x) none ∙ append-nil (f .bytes)) (f .written, f .report)
+  reports-all h = rw (ap (λ o. o .bytes) reports-rest ∙ ap (λ (x : Lists.List ℕ). f .bytes ++ x) none ∙ append-nil (f .bytes)) (f .written, f .report)
     where
       rest : Lists.List (Lists.List ℕ)
       rest = cut (ahead chunk (r .read)) (drop (r .read) chunk)
@@ -257,7 +302,7 @@ module _ {s : Session} {chunk : Lists.List ℕ} {t : Table} {r : Progress} {buff
 
       none : runLines (session (r .lines) (r .refusal) t) rest .bytes ≡ []
       none = ⊎-elim (λ d. ap (λ o. o .bytes) (final-run (session (r .lines) (r .refusal) t) rest d))
-          (⊎-elim over-now (λ x. over-now (omega (arith, x, h, f .short, f .within))))
+          (⊎-elim over-now (λ x. over-now (omega (arith, x, h, f .short, f .whole, reports-ahead))))
           (f .stops)
 
   pub reports-inside : r .written ≤ length buffer′
@@ -265,21 +310,39 @@ module _ {s : Session} {chunk : Lists.List ℕ} {t : Table} {r : Progress} {buff
 
   -- with room for a line, something is read
   reports-on : 0 < length chunk → 928 ≤ length buffer → refusalNumber (r .refusal) ≡ 0 → 0 < r .read
-  reports-on h m z = ⊎-elim (λ d. absurd (d z)) (⊎-elim (λ e. omega (arith, e)) (λ x. go (leb 1 (r .read)) refl x)) (f .stops)
-    where
-      go : (b : Bool) → leb 1 (r .read) ≡ b → length buffer < r .written + 928 → 0 < r .read
-      go true e x = omega (arith, leb-true 1 (r .read) e)
-      go false e x = absurd (omega (arith, leb-false 1 (r .read) e, x, m, f .short))
+  reports-on h m z = ⊎-elim (λ d. absurd (d z)) (⊎-elim (λ e. omega (arith, e)) (λ x. omega (arith, x, m, f .short))) (f .stops)
 
   -- what stands from a place on in a larger part, served further: the place to go on from, and the lines counted
   pub part-on : (whole : Lists.List ℕ) (at total : ℕ) → at < length whole → length chunk ≡ length whole - at → s .lines + ahead whole at ≡ total → s .lines ≤ 1000001
       → 928 ≤ length buffer → refusalNumber (r .refusal) ≡ 0
       → (0 < r .read) × (at + r .read ≤ length whole) × (r .lines + ahead whole (at + r .read) ≡ total) × (r .lines ≤ 1000001)
   part-on whole at total h e q low m z =
-      let w : at + r .read ≤ length whole = omega (arith, f .within) in
+      let w : at + r .read ≤ length whole = omega (arith, reports-within) in
       let k : ahead chunk (r .read) ≡ ahead whole (at + r .read) = omega (arith, w) in
       let n = f .counted z in
-      (reports-on (omega arith) m z, w, omega (arith, n .0, k), n .1 low)
+      (reports-on (omega arith) m z, w, omega (arith, n .0, k, reports-ahead), n .1 low)
+
+  -- no more lines can be read
+  reports-most : (k : ℕ) → k ≤ pieces chunk → ((j : ℕ) → j < k → Goes s chunk (length buffer) j) → k ≤ readLines (r .read)
+  reports-most k b g = by-cases (decLt (readLines (r .read)) k) (λ l. absurd (go l (subst (λ o. (o .refusal ≡ 0) × (length (o .bytes) + 928 ≤ length buffer)) (f .runs) (g _ l))))
+      (λ n. omega (arith, n))
+    where
+      go : readLines (r .read) < k → (refusalNumber (r .refusal) ≡ 0) × (length (f .bytes) + 928 ≤ length buffer) → ⊥
+      go l w = ⊎-elim (λ d. d (w .0)) (⊎-elim (λ e. omega (arith, e, l, b)) (λ x. omega (arith, x, w .1, f .written))) (f .stops)
+
+-- the outcome is given by the session, the part and the buffer: two are the same
+pub reports-one : {s : Session} {chunk buffer : Lists.List ℕ} {t t′ : Table} {r r′ : Progress} {b b′ : Lists.List ℕ} → Reports s chunk t r buffer b
+    → Reports s chunk t′ r′ buffer b′ → (t ≡ t′) × (r ≡ r′) × (b ≡ b′)
+reports-one {s} {chunk} {buffer} {t} {t′} {r} {r′} {b} {b′} f g =
+    let few : readLines (r .read) ≤ readLines (r′ .read) = reports-most g (readLines (r .read)) (omega (arith, reports-ahead f)) (f .goes) in
+    let many : readLines (r′ .read) ≤ readLines (r .read) = reports-most f (readLines (r′ .read)) (omega (arith, reports-ahead g)) (g .goes) in
+    let read : r .read ≡ r′ .read = omega (arith, few, many, f .whole, g .whole) in
+    let e = sym (f .runs) ∙ ap (λ k. runLines s (cut (readLines k) chunk)) read ∙ g .runs in
+    let written : r .written ≡ r′ .written = f .written ∙ ap (λ o. length (o .bytes)) e ∙ sym (g .written) in (
+      ap (λ o. o .session .table) e,
+      λ i. record { lines = e i .session .lines; refusal = e i .session .refusal; read = read i; written = written i },
+      f .report ∙ ap (λ o. over (o .bytes) buffer) e ∙ sym (g .report),
+    )
 
 -- THE ENDS OF A FILE
 

@@ -3,20 +3,29 @@ use Prim.Native.Nat.{ℕ, zero, suc, _+_, _*_, _≤_}
 use native.Mathlib.Nat.{zero-add}
 use native.Mathlib.Omega.{arith}
 use mathlib.Core.Path.{_≡_, refl, sym, ap, _∙_}
+use mathlib.Core.Logic.{_≢_}
 use mathlib.Core.Bool.{Bool, true, false, true≢false}
 use mathlib.Core.List as Lists
 use mathlib.Core.List.{[], _∷_, _++_, append-assoc, append-nil}
 use lib.ListN.{length, take, drop, length-append, length-drop}
-use borrow.Author.Tests.{eq-eqb}
-use lib.Seq.{take-append-le, drop-append-le, take-at, drop-at, take-all}
+use borrow.Author.Tests.{eq-eqb, ne-eqb}
+use lib.Seq.{take-append-le, drop-append-le, drop-drop, take-at, drop-at, take-all}
 use Rattle.moves.specs.Moves.{refusalNumber}
-use Rattle.schedule.specs.Sessions.{headerOf, refused, isFinal, serveOf}
+use Rattle.schedule.specs.Sessions.{headerOf, Served, refused, isFinal, serveOf}
 use Rattle.file.specs.Files.{cut, pieces, printed, runLines, headerPrinted, fileReport}
-use Rattle.file.specs.Contracts.{behind}
-use Rattle.file.proofs.ChunkLaws.{final-run}
 use Rattle.schedule.specs.declared.Session.{Session}
 
 -- LINES IN TWO GROUPS: the second goes on with the session that the first leaves
+
+-- a run with these bytes printed before it
+abbrev pub behind : Lists.List ℕ → Served → Served
+behind bytes o = record { session = o .session; refusal = o .refusal; bytes = bytes ++ o .bytes }
+
+-- nothing follows a final refusal
+pub final-run : (s : Session) (ls : Lists.List (Lists.List ℕ)) → refusalNumber (s .refusal) ≢ 0 → runLines s ls ≡ refused s (refusalNumber (s .refusal))
+unfolding runLines
+final-run s [] d = refl
+final-run s (l ∷ ls) d = rw (ne-eqb _ _ d) refl
 
 run-final : (s : Session) (ls : Lists.List (Lists.List ℕ)) → isFinal s ≡ true → runLines s ls ≡ refused s (refusalNumber (s .refusal))
 run-final s ls e = final-run s ls (λ z. true≢false (sym e ∙ rw (eq-eqb (refusalNumber (s .refusal)) 0 z) refl))
@@ -26,7 +35,7 @@ run-on : (s : Session) (l : Lists.List ℕ) (ls : Lists.List (Lists.List ℕ)) �
 unfolding runLines
 run-on s l ls e = rw e refl
 
-run-append : (ls ms : Lists.List (Lists.List ℕ)) (s : Session) → runLines s (ls ++ ms) ≡ behind (runLines s ls .bytes) (runLines (runLines s ls .session) ms)
+pub run-append : (ls ms : Lists.List (Lists.List ℕ)) (s : Session) → runLines s (ls ++ ms) ≡ behind (runLines s ls .bytes) (runLines (runLines s ls .session) ms)
 unfolding runLines
 run-append [] ms s = refl
 run-append (l ∷ ls) ms s = go (isFinal s) refl (run-append ls ms)
@@ -43,6 +52,14 @@ run-append (l ∷ ls) ms s = go (isFinal s) refl (run-append ls ms)
         ∙ sym (ap (λ x. behind (x .bytes) (runLines (x .session) ms)) (run-on s l ls e))
 
 -- BYTES IN TWO GROUPS, the first of whole lines
+
+pub cut-add : (k j : ℕ) (bs : Lists.List ℕ) → cut (k + j) bs ≡ cut k bs ++ cut j (drop (18 * k) bs)
+unfolding cut
+cut-add zero j bs = ap (λ i. cut i bs) (zero-add j)
+cut-add (suc k) j bs =
+    let n : suc k + j ≡ suc (k + j) = omega arith in
+    let m : 18 + 18 * k ≡ 18 * suc k = omega arith in
+    rw n (ap (λ l. take 18 bs ∷ l) (cut-add k j (drop 18 bs) ∙ ap (λ b. cut k (drop 18 bs) ++ cut j b) (drop-drop (18 * k) 18 bs ∙ ap (λ i. drop i bs) m)))
 
 cut-append : (k j : ℕ) (a b : Lists.List ℕ) → length a ≡ 18 * k → cut (k + j) (a ++ b) ≡ cut k a ++ cut j b
 unfolding cut

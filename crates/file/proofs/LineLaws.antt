@@ -6,7 +6,7 @@ use mathlib.Core.Logic.{_≢_}
 use mathlib.Core.Bool.{true, false, true≢false}
 use mathlib.Core.List as Lists
 use mathlib.Core.List.{[]}
-use lib.ListN.{length, getD, replicate}
+use lib.ListN.{length, getD, replicate, getD-replicate}
 use borrow.Author.Tests.{eq-eqb, ne-eqb}
 use Rattle.label.specs.Rows.{digit}
 use Rattle.rows.specs.Held.{Orderly, OrderedBefore}
@@ -89,7 +89,7 @@ module _ {p : Parts} {order : Lists.List ℕ} (f : Runnable p order) where
       line-kept x = f .isOrder ∙ rw (n, g .labels (no-update w x)) refl
 
       pub line-reordered : {order′ : Lists.List ℕ} → order′ ≡ orderOf (p′ .count) (p′ .labels) → Runnable p′ order′
-      line-reordered x = record { sized = g .sized; reached = line-reached; isOrder = x }
+      line-reordered x = record { sized = g .sized; phased = g .phased (f .phased); reached = line-reached; isOrder = x }
 
       -- what an accepted line prints, and a refused one
       pub line-accepted : refusalNumber (r .refusal) ≡ 0 → Prints p c buffer p′ (r .written) buffer′
@@ -115,7 +115,7 @@ module _ (n : ℕ) (low : 2 ≤ n) (high : n ≤ 32) where
 
   pub fresh-runnable : {row order : Lists.List ℕ} → row ≡ freshRow n → order ≡ orderOf n (freshParts n .labels)
       → Runnable (parts n (freshParts n .labels) (freshParts n .jobs) (freshParts n .pendingLabels) (freshParts n .pendingJobs) (replicate 32 row) (freshParts n .resultJobs) (freshParts n .phases)) order
-  fresh-runnable e o = rw e (record { sized = fresh-sized n; reached = fresh-reached; isOrder = o })
+  fresh-runnable e o = rw e (record { sized = fresh-sized n; phased = λ i l. omega (arith, getD-replicate {A = ℕ} 32 i 0 0 l); reached = fresh-reached; isOrder = o })
 
   pub fresh-assembled : {row : Lists.List ℕ} → row ≡ freshRow n
       → assembled (parts n (freshParts n .labels) (freshParts n .jobs) (freshParts n .pendingLabels) (freshParts n .pendingJobs) (replicate 32 row) (freshParts n .resultJobs) (freshParts n .phases)) ≡ freshTable n

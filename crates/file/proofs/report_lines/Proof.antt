@@ -12,7 +12,7 @@ use Rattle.parts.specs.Parts.{parts, assembled}
 use Rattle.schedule.specs.Sessions.{session}
 use Rattle.schedule.proofs.SessionLaws.{next-within}
 use Rattle.file.specs.Contracts.{Runnable}
-use Rattle.file.proofs.ChunkLaws.{Sofar, sofar-start, sofar-end, sofar-more, sofar-stop, as-long, inside, room-here, at-next, printed-refusal, prints-short}
+use Rattle.file.proofs.ChunkLaws.{Sofar, sofar-start, sofar-end, sofar-more, sofar-stop, as-long, inside, place-within, room-here, at-next, printed-refusal, prints-short}
 use Rattle.file.proofs.report_lines.Statement.{statement}
 use Rattle.file.proofs.report_lines.Tie as tie
 
@@ -40,7 +40,7 @@ returns c =
     (sofar-end (l .inv .0) _ refl refl refl refl (inr (c .if1 .taken)), l .inv .1)
 
 line-at-requires : tie.Need-line-at-requires Inv-loop μ-loop
-line-at-requires c κs = omega (arith, c .before .before .loop .inv .0 .within)
+line-at-requires c κs = place-within (c .before .before .loop .inv .0)
 
 next-line-requires : tie.Need-next-line-requires Inv-loop μ-loop
 next-line-requires c κs = search needs

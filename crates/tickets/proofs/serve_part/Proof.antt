@@ -7,8 +7,8 @@ use lib.ListN.{length, length-take, length-drop}
 use lib.Seq.{length-take-le}
 use Rattle.parts.specs.Parts.{parts}
 use Rattle.file.specs.Files.{pieces}
-use Rattle.file.specs.Contracts.{Runnable, ahead}
-use Rattle.file.proofs.ChunkLaws.{reports-inside, part-on}
+use Rattle.file.specs.Contracts.{Runnable}
+use Rattle.file.proofs.ChunkLaws.{ahead, reports-inside, part-on}
 use Rattle.tickets.proofs.serve_part.Statement.{statement}
 use Rattle.tickets.proofs.serve_part.Tie as tie
 
