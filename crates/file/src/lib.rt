@@ -88,7 +88,7 @@ fn is_update(m: Move) -> bool
     }
 }
 
-// Brings the scan order up to date after a move of the station at a place: it is another if the move is an update.
+// Brings the scan order up to date after a move of the station at a place. Only an update can change it.
 fn refresh(updated: bool, labels: &[[u8; 31]; 32], n: usize, order: &mut [usize; 32], place: usize)
     requires { ⌜ Orderly n (now labels) ⌝ }
     requires { ⌜ place < n ⌝ }
