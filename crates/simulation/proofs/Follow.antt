@@ -1,301 +1,423 @@
--- Why the unbounded machine answers as another one does: what it takes of that one's labels, and the theorem for whole sequences (the paper's section 6;
--- document 01, "What demand 3 compares"). Nothing here knows what a label is.
-use Prim.Native.Nat.{ℕ, zero, suc, _+_, _≤_, _<_}
-use native.Mathlib.Nat.{le-refl, add-assoc, zero-add}
+-- Why the unbounded machine, given the numbers that are found beside another one, answers as that one does: what it takes of that one's labels, and
+-- the theorem for whole sequences (the paper's section 6; 01, "What demand 3 compares"). Nothing here knows what a label is, or how a board judges: only
+-- that judging reads no label, and that what a call does to the labels is one of the steps that the labels are able to take.
+use Prim.Native.Nat.{ℕ, zero, _+_, _≤_}
+use native.Mathlib.Nat.{le-refl}
 use native.Mathlib.Omega.{arith}
 use mathlib.Core.Path.{_≡_, refl, sym, ap, ap₂, subst, _∙_, fun-ext}
-use mathlib.Core.Logic.{_≢_}
-use mathlib.Core.Bool.{Bool, true, false, cond}
+use mathlib.Core.Logic.{_≢_, _⊎_, inl, inr}
+use mathlib.Core.Bool.{Bool, true, false, _&&_, _||_, cond}
 use mathlib.Core.List as Lists
-use mathlib.Core.List.{[], _∷_, _++_, map}
-use lib.ListN.{length, length-append, getD, drop, replicate, length-replicate}
-use lib.Seq.{drop-at}
-use borrow.Author.Tests.{eq-eqb, ne-eqb}
+use mathlib.Core.List.{[], _∷_, _++_, map, map-map, map-id, map-append, append-assoc, append-nil, List·Memᴰ, Memᴰ·cast, Memᴰ·append-left, Memᴰ·append-right}
+use lib.ListN.{length, length-append, length-map, getD, drop, replicate, length-replicate}
+use lib.Seq.{drop-nil}
+use lib.Dec.{eqb}
+use borrow.Author.Tests.{eqb-true, eq-eqb, ne-eqb}
 use Rattle.label.specs.Tests.{newest, All}
-use Rattle.label.proofs.Facts.{Same, ordered-same}
-use Rattle.simulation.specs.Calls.{Call, place, Move, labelSnap}
-use Rattle.simulation.proofs.Judged.{accepted-place}
-use Rattle.simulation.specs.Machine.{Holder, State, Rules, numbers, Answer, fresh, store, served, scanned, stands, pendingAfter, scanOf, carryOut, move, step, seen, run, snaps, runᵘ, snapsᵘ, Bounded}
-use Rattle.simulation.proofs.Entries.{Entries, by-here}
-use Rattle.simulation.proofs.Sync.{Rising}
+use Rattle.label.proofs.Facts.{tf, by-here, all-append, all-replicate, all-weaken, map-replicate, member-replicate, first-replicate, drop-replicate, Same, newest-same, ordered-same}
+use Rattle.simulation.specs.Calls.{Rest, Call}
+use Rattle.simulation.specs.Machine.{Board, Labelling, put, copy, Rules, numbers, stands, pendingAfter, LabelStep, stay, snap, update, labelStep, relabelled, labelSnap, carryOut, State, Answer, answer, fresh, step, snapsOf, run, snaps, seen, Bounded}
+use Rattle.simulation.specs.Numbering.{numbered, LabelSnap, met, labelSnaps, Fit, Fits, Gapless, advance, advances, through, Slot, number, shift, Renumbering, besideOnly, placed, renumber, renumbered}
+use Rattle.simulation.proofs.Sync.{Rising, rising-le, rising-before, byNumber}
+use Rattle.simulation.proofs.Numbers.{shift-rising, shift-zero, Upto, Sits, sits-above, Old, Span, span-same, span-placed}
+use Rattle.simulation.proofs.Advances.{met-length, run-advances, advances-whole, fit-weaken}
 
 -- THE TWO MACHINES SIDE BY SIDE: the unbounded one is the other with numbers ν in the place of labels
 
-abbrev pub cast : {A : Type 0} → ℕ → ℕ → Holder A → Holder ℕ
-cast a b h = record { label = a; job = h .job; pending = b; pendingJob = h .pendingJob; result = h .result; phase = h .phase }
+abbrev pub shadow : {A : Type 0} → Labelling ℕ → State A → State ℕ
+shadow ν s = record { labels = ν; rest = s .rest }
 
-abbrev pub shadow : {A : Type 0} → Entries ℕ → State A → State ℕ
-shadow ν s i = cast (ν false i) (ν true i) (s i)
-
-abbrev pub like : {A : Type 0} → Entries ℕ → Answer A → Answer ℕ
+abbrev pub like : {A : Type 0} → Labelling ℕ → Answer A → Answer ℕ
 like ν a = record { state = shadow ν (a .state); refusal = a .refusal; bytes = a .bytes }
 
-abbrev pub through : (ℕ → ℕ) → Entries ℕ → Entries ℕ
-through f N x i = f (N x i)
+-- rules that read no number run without any
+module _ {A : Type 0} (B : Board) (n : ℕ) (r : Rules A) (s : State A) (c : Call) (cs : Lists.List Call) where
+  pub run-cons : let a = step B n r s c in run B n (λ _. r) s [] (c ∷ cs) ≡ a ∷ run B n (λ _. r) (a .state) [] cs
+  unfolding run
+  run-cons = rw (drop-nil {A = ℕ} (snapsOf B n s c)) refl
 
-pub store-shadow : {A : Type 0} (ν ν′ : Entries ℕ) (s : State A) (k : ℕ) (h : Holder A) (h′ : Holder ℕ) → h′ ≡ cast (ν′ false k) (ν′ true k) h
-    → ((x : Bool) (i : ℕ) → i ≢ k → ν x i ≡ ν′ x i) → store (shadow ν s) k h′ ≡ shadow ν′ (store s k h)
-store-shadow ν ν′ s k h h′ p same = fun-ext (λ i. by-here (λ b. cond b h′ (shadow ν s i) ≡ cast (ν′ false i) (ν′ true i) (cond b h (s i))) k i
-    (λ e. p ∙ ap (λ j. cast (ν′ false j) (ν′ true j) h) (sym e))
-    (λ d. ap₂ (λ a b. cast a b (s i)) (same false i d) (same true i d)))
+  pub snaps-cons : snaps B n (λ _. r) s [] (c ∷ cs) ≡ snapsOf B n s c + snaps B n (λ _. r) (step B n r s c .state) [] cs
+  unfolding snaps
+  snaps-cons = rw (drop-nil {A = ℕ} (snapsOf B n s c)) refl
 
--- a snap's pending label, once the newest station is known
-module _ {A : Type 0} (n : ℕ) (r : Rules A) (s : State A) (k z : ℕ) (e : newest n (stands r s) ≡ z) where
-  pub pend-stays : k ≡ z → pendingAfter n r s k ≡ s k .pending
-  unfolding pendingAfter
-  pend-stays q = rw (e, eq-eqb k z q) refl
+through-put : (f : ℕ → ℕ) (N : Labelling ℕ) (k v : ℕ) → put (through f N) k (f v) ≡ through f (put N k v)
+through-put f N k v = fun-ext (λ x. fun-ext (λ i. go (x && eqb i k) x i))
+  where
+    go : (b x : Bool) (i : ℕ) → cond b (f v) (f (N x i)) ≡ f (cond b v (N x i))
+    go true x i = refl
+    go false x i = refl
 
-  pub pend-new : k ≢ z → pendingAfter n r s k ≡ r .new (λ i. s i .label) z k
+-- a snap by process k, once the newest process is known
+module _ {A : Type 0} (n : ℕ) (r : Rules A) (l : Labelling A) (k z : ℕ) (e : newest n (stands r l) ≡ z) where
+  pub pend-new : k ≢ z → pendingAfter n r l k ≡ r .new (l false) z k
   unfolding pendingAfter
   pend-new d = rw (e, ne-eqb k z d) refl
 
-module _ {A : Type 0} (s : State A) (N : Entries ℕ) (c : Call) where
-  -- the same record with its numbers on the other side
-  pub stored : (f : ℕ → ℕ) (h : Holder A) (h′ : Holder ℕ) (bytes : Lists.List ℕ) → h′ ≡ cast (f (N false (place c))) (f (N true (place c))) h
-      → served (shadow (through f N) s) (place c) h′ bytes ≡ like (through f N) (served s (place c) h bytes)
-  stored f h h′ bytes e = ap (λ t. record { state = t; refusal = 0; bytes = bytes }) (store-shadow (through f N) (through f N) s (place c) h h′ e (λ x i d. refl))
-
-fresh-shadow : {A : Type 0} (a : A) (n u : ℕ) → u ≡ 0 → shadow (λ x i. u) (fresh a n) ≡ fresh 0 n
-unfolding fresh
-fresh-shadow a n u e = rw e refl
-
-all-append : (l m : Lists.List ℕ) → All (λ a. 1 ≤ a) l → All (λ a. 1 ≤ a) m → All (λ a. 1 ≤ a) (l ++ m)
-all-append [] m p q = q
-all-append (x ∷ l) m p q = (p .0, all-append l m (p .1) q)
-
-all-replicate : (k a : ℕ) → 1 ≤ a → All (λ a. 1 ≤ a) (replicate k a)
-all-replicate zero a h = tt
-all-replicate (suc k) a h = (h, all-replicate k a h)
-
-first-advance : (k a : ℕ) (l : Lists.List ℕ) → k ≡ 1 → getD (replicate k a ++ l) 0 0 ≡ a
-first-advance zero a l e = absurd (omega arith)
-first-advance (suc k) a l e = refl
-
--- n processes with the rules r, and what is known of a state with the numbers N beside it
-module _ {A : Type 0} (n : ℕ) (r : Rules A) (R : State A → Entries ℕ → Type 0) where
-  -- what a call does, where it amounts to the move w: the old numbers go through g, and the advance is known once the later renumbering f is
-  pub record Stepped (s : State A) (N : Entries ℕ) (c : Call) (w : Move) : Type 0 where
-    pub N′ : Entries ℕ
-    pub g : ℕ → ℕ
-    pub rising : Rising g
-    pub zero : g 0 ≡ 0
-    pub slow : (x : ℕ) → g x ≤ x + labelSnap w
-    pub ready : R (carryOut n r s c w .state) N′
-    pub small : (b : ℕ) → ((x : Bool) (i : ℕ) → i < n → N x i ≤ b) → (x : Bool) (i : ℕ) → i < n → N′ x i ≤ b + labelSnap w
-    pub advance : (ℕ → ℕ) → ℕ
-    pub forward : (f : ℕ → ℕ) → Rising f → 1 ≤ advance f
-    pub follow : (f : ℕ → ℕ) → Rising f → (v : ℕ) → (labelSnap w ≡ 1 → v ≡ advance f)
-        → carryOut n (numbers v) (shadow (through (λ x. f (g x)) N) s) c w ≡ like (through f N′) (carryOut n r s c w)
-
--- what it takes: a relation R between states and numbers that holds at the start, orders the stations by either alike, does not look past the labels,
--- and is kept, over renumbered entries, by a label snap and by an update
-pub record Simulable {A : Type 0} (n : ℕ) (r : Rules A) (a : A) : Type 1 where
-  pub R : State A → Entries ℕ → Type 0
-  pub start : R (fresh a n) (λ x i. 0)
-  pub order : (s : State A) (N : Entries ℕ) → R s N → (f : ℕ → ℕ) → Rising f → (v : ℕ) → Same n (stands r s) (stands (numbers v) (shadow (through f N) s))
-  pub kept : (s : State A) (N : Entries ℕ) → R s N → (k : ℕ) (h : Holder A) → h .label ≡ s k .label → h .pending ≡ s k .pending → R (store s k h) N
-  pub snap : (s : State A) (N : Entries ℕ) → R s N → (c : Call) → place c < n → Stepped n r R s N c Move.snapsLabel
-  pub update : (s : State A) (N : Entries ℕ) → R s N → (c : Call) → place c < n → Stepped n r R s N c Move.updates
-
--- ---- a move that leaves the labels alone
-module _ {A : Type 0} {n : ℕ} {r : Rules A} (R : State A → Entries ℕ → Type 0) (s : State A) (N : Entries ℕ) (c : Call) where
-  -- a move that changes neither labels nor numbers
-  pub quiet : (w : Move) → R (carryOut n r s c w .state) N
-      → ((f : ℕ → ℕ) → Rising f → (v : ℕ) → carryOut n (numbers v) (shadow (through f N) s) c w ≡ like (through f N) (carryOut n r s c w))
-      → Stepped n r R s N c w
-  quiet w ready h = record {
-    N′ = N;
-    g = λ x. x;
-    rising = λ x y l. l;
-    zero = refl;
-    slow = λ x. omega arith;
-    ready = ready;
-    small = λ b f x j l. omega (arith, f x j l);
-    advance = λ f. 1;
-    forward = λ f rise. omega arith;
-    follow = λ f rise v e. h f rise v;
-  }
-
-module _ {A : Type 0} {n : ℕ} {r : Rules A} {a₀ : A} (L : Simulable n r a₀) where
-  module _ (s : State A) (N : Entries ℕ) (i : L .R s N) (c : Call) where
-    kept : (h : Holder A) → h .label ≡ s (place c) .label → h .pending ≡ s (place c) .pending → L .R (store s (place c) h) N
-    kept h p q = L .kept s N i (place c) h p q
-
-    scan-same : (f : ℕ → ℕ) → Rising f → (v : ℕ) → scanOf n (numbers v) (shadow (through f N) s) ≡ scanOf n r s
-    unfolding scanOf
-    scan-same f rise v = sym (ap (map _) (ordered-same n n _ _ (le-refl n) (L .order s N i f rise v)))
-
-    step-beginsLabel : Stepped n r (L .R) s N c Move.beginsLabel
-    unfolding carryOut
-    step-beginsLabel = quiet (L .R) s N c Move.beginsLabel (kept _ refl refl) (λ f rise v. stored s N c f _ _ [] refl)
-
-    step-beginsScan : Stepped n r (L .R) s N c Move.beginsScan
-    unfolding carryOut
-    step-beginsScan = quiet (L .R) s N c Move.beginsScan (kept _ refl refl) (λ f rise v. stored s N c f _ _ [] refl)
-
-    step-endsLabel : Stepped n r (L .R) s N c Move.endsLabel
-    unfolding carryOut
-    step-endsLabel = quiet (L .R) s N c Move.endsLabel (kept _ refl refl) (λ f rise v. stored s N c f _ _ [] refl)
-
-    step-endsScan : Stepped n r (L .R) s N c Move.endsScan
-    unfolding carryOut
-    step-endsScan = quiet (L .R) s N c Move.endsScan (kept _ refl refl) (λ f rise v. stored s N c f _ _ _ refl)
-
-    step-refused : (x : ℕ) → Stepped n r (L .R) s N c (Move.refused x)
-    unfolding carryOut
-    step-refused x = quiet (L .R) s N c (Move.refused x) i (λ f rise v. refl)
-
-    step-snapsScan : Stepped n r (L .R) s N c Move.snapsScan
-    unfolding carryOut
-    step-snapsScan = quiet (L .R) s N c Move.snapsScan (kept _ refl refl) (λ f rise v. stored s N c f _ _ []
-        (ap (scanned (shadow (through f N) s (place c))) (scan-same f rise v)))
-
-  pub stepped : (s : State A) (N : Entries ℕ) (c : Call) → L .R s N → (w : Move) → move n s c ≡ w → Stepped n r (L .R) s N c w
-  unfolding move
-  stepped s N c i (Move.refused x) e = step-refused s N i c x
-  stepped s N c i Move.beginsLabel e = step-beginsLabel s N i c
-  stepped s N c i Move.beginsScan e = step-beginsScan s N i c
-  stepped s N c i Move.snapsLabel e = L .snap s N i c (accepted-place n (s (place c) .phase) c _ e tt)
-  stepped s N c i Move.snapsScan e = step-snapsScan s N i c
-  stepped s N c i Move.updates e = L .update s N i c (accepted-place n (s (place c) .phase) c _ e tt)
-  stepped s N c i Move.endsLabel e = step-endsLabel s N i c
-  stepped s N c i Move.endsScan e = step-endsScan s N i c
-
-  -- THE WHOLE SEQUENCE
-
-  -- a renumbering f with which the unbounded machine follows to the end
-  pub record Sim (s : State A) (N : Entries ℕ) (cs : Lists.List Call) : Type 0 where
-    pub f : ℕ → ℕ
-    pub rising : Rising f
-    pub zero : f 0 ≡ 0
-    pub slow : (x : ℕ) → f x ≤ x + snaps n r s cs
-    pub advances : Lists.List ℕ
-    pub whole : All (λ a. 1 ≤ a) advances
-    pub each : length advances ≡ snaps n r s cs
-    pub eachᵘ : snaps n r s cs ≡ snapsᵘ n (shadow (through f N) s) advances cs
-    pub same : map (seen n) (run n r s cs) ≡ map (seen n) (runᵘ n (shadow (through f N) s) advances cs)
-    pub bound : (b : ℕ) → ((x : Bool) (i : ℕ) → i < n → N x i ≤ b) → All (Bounded n (b + snaps n r s cs)) (runᵘ n (shadow (through f N) s) advances cs)
-
-  run-cons : (s : State A) (c : Call) (cs : Lists.List Call) → let a = carryOut n r s c (move n s c) in run n r s (c ∷ cs) ≡ a ∷ run n r (a .state) cs
-  unfolding run step
-  run-cons s c cs = refl
-
-  snaps-cons : (s : State A) (c : Call) (cs : Lists.List Call)
-      → snaps n r s (c ∷ cs) ≡ labelSnap (move n s c) + snaps n r (carryOut n r s c (move n s c) .state) cs
-  unfolding snaps step
-  snaps-cons s c cs = refl
-
-  -- the unbounded machine judges alike, by its own phases
-  runᵘ-cons : (ν : Entries ℕ) (s : State A) (a : Answer ℕ) (al al′ : Lists.List ℕ) (c : Call) (cs : Lists.List Call)
-      → carryOut n (numbers (getD al 0 0)) (shadow ν s) c (move n s c) ≡ a → drop (labelSnap (move n s c)) al ≡ al′
-      → runᵘ n (shadow ν s) al (c ∷ cs) ≡ a ∷ runᵘ n (a .state) al′ cs
-  unfolding runᵘ step move
-  runᵘ-cons ν s a al al′ c cs p q = rw (p, q) refl
-
-  snapsᵘ-cons : (ν : Entries ℕ) (s : State A) (a : Answer ℕ) (al al′ : Lists.List ℕ) (c : Call) (cs : Lists.List Call)
-      → carryOut n (numbers (getD al 0 0)) (shadow ν s) c (move n s c) ≡ a → drop (labelSnap (move n s c)) al ≡ al′
-      → snapsᵘ n (shadow ν s) al (c ∷ cs) ≡ labelSnap (move n s c) + snapsᵘ n (a .state) al′ cs
-  unfolding snapsᵘ step move
-  snapsᵘ-cons ν s a al al′ c cs p q = rw (p, q) refl
-
-  extend : (c : Call) (cs : Lists.List Call) (s : State A) (N : Entries ℕ) (S : Stepped n r (L .R) s N c (move n s c))
-      → Sim (carryOut n r s c (move n s c) .state) (S .N′) cs → Sim s N (c ∷ cs)
-  extend c cs s N S R = record {
-    f = f;
-    rising = λ x y h. R .rising _ _ (S .rising x y h);
-    zero = ap (R .f) (S .zero) ∙ R .zero;
-    slow = λ x. rw sc (omega (arith, R .slow (S .g x), S .slow x));
-    advances = al;
-    whole = all-append (replicate ℓ adv) (R .advances) (all-replicate ℓ adv (S .forward (R .f) (R .rising))) (R .whole);
-    each = rw (length-append, length-replicate, sc, R .each) refl;
-    eachᵘ = rw (sc, snapsᵘ-cons ν s (like ν′ a) al (R .advances) c cs followed dropped) (ap (λ y. ℓ + y) (R .eachᵘ));
-    same = rw (run-cons s c cs, runs) (ap (λ l. seen n a ∷ l) (R .same));
-    bound = λ b small. rw (runs, sc, ← add-assoc b ℓ (snaps n r (a .state) cs)) (
-      (λ i l. (
-        omega (arith, R .slow (S .N′ false i), S .small b small false i l),
-        omega (arith, R .slow (S .N′ true i), S .small b small true i l),
-      )),
-      R .bound (b + ℓ) (S .small b small),
-    );
-  }
+  -- the newest process's snap changes nothing
+  pub snap-stays : k ≡ z → put l k (pendingAfter n r l k) ≡ l
+  unfolding pendingAfter
+  snap-stays q = rw (e, eq-eqb k z q) (fun-ext go)
     where
-      a : Answer A
-      a = carryOut n r s c (move n s c)
+      go : (x : Bool) → put l k (l true k) x ≡ l x
+      go false = refl
+      go true = fun-ext (λ i. by-here (λ b. cond b (l true k) (l true i) ≡ l true i) k i (λ f. ap (l true) (sym f)) (λ _. refl))
 
-      ℓ : ℕ
-      ℓ = labelSnap (move n s c)
+-- WHAT IT TAKES OF LABELS: a way to find slots, and a relation R between labels and numbers that holds at the start, orders the processes by either
+-- alike, and is kept by each snap, with the slot found, and each update that is `Able`
+pub record Simulable {A : Type 0} (n : ℕ) (r : Rules A) (a : A) (Able : LabelStep → Type 0) : Type 1 where
+  pub slot : (ℕ → A) → (ℕ → ℕ) → ℕ → ℕ → A → Slot
+  pub R : Labelling A → Labelling ℕ → Type 0
+  pub start : R (λ x i. a) (λ x i. 0)
+  pub order : (l : Labelling A) (N : Labelling ℕ) → R l N → Same n (stands r l) (byNumber (N false))
+  pub snaps : (l : Labelling A) (N : Labelling ℕ) → R l N → (k z : ℕ) → Able (snap k) → newest n (stands r l) ≡ z → k ≢ z
+      → let new = r .new (l false) z k in
+      let p = slot (l true) (N true) (N false z) k new in
+      Sits n N (N false z) p × R (put l k new) (placed N k p .beside)
+  pub updates : (l : Labelling A) (N : Labelling ℕ) → R l N → (k : ℕ) → Able (update k) → R (copy l k) (copy N k)
 
-      f : ℕ → ℕ
-      f x = R .f (S .g x)
+module _ {A : Type 0} {n : ℕ} {r : Rules A} {a₀ : A} {Able : LabelStep → Type 0} (L : Simulable n r a₀ Able) where
+  -- ONE STEP
 
-      ν : Entries ℕ
-      ν = through f N
+  -- the labels take the step w, and the numbers go by e: what that owes, whatever renumbering f is to come
+  pub record Stepped (l : Labelling A) (N : Labelling ℕ) (w : LabelStep) (e : Renumbering) : Type 0 where
+    pub rising : Rising (e .shift)
+    pub zero : e .shift 0 ≡ 0
+    pub ready : L .R (relabelled n r l w) (e .beside)
+    pub span : (b : ℕ) → Upto n N b → Span n (labelSnap w) e b
+    pub follow : (f : ℕ → ℕ) → Rising f → (v : ℕ) → (1 ≤ labelSnap w → v ≡ f (e .number))
+        → relabelled n (numbered v) (through (λ x. f (e .shift x)) N) w ≡ through f (e .beside)
+    pub fit : (f : ℕ → ℕ) → Rising f → f 0 ≡ 0 → (most : ℕ) → f (e .number) ≤ most → (v : ℕ) → (1 ≤ labelSnap w → v ≡ f (e .number))
+        → All (Fit most) (met n (through (λ x. f (e .shift x)) N) w v)
 
-      ν′ : Entries ℕ
-      ν′ = through (R .f) (S .N′)
+  module _ (l : Labelling A) (N : Labelling ℕ) (i : L .R l N) where
+    -- numbers in any rising renumbering order the processes as the labels do
+    order : (f : ℕ → ℕ) → Rising f → (v : ℕ) → Same n (stands r l) (stands (numbered v) (through f N))
+    order f rise v x y lx ly = L .order l N i x y lx ly ∙ rising-before rise (N false x) x (N false y) y
 
-      adv : ℕ
-      adv = S .advance (R .f)
+    newest-alike : (f : ℕ → ℕ) → Rising f → (v : ℕ) → newest n (stands (numbered v) (through f N)) ≡ newest n (stands r l)
+    newest-alike f rise v = sym (newest-same n _ _ (order f rise v))
 
-      al : Lists.List ℕ
-      al = replicate ℓ adv ++ R .advances
+    stays : Stepped l N stay (besideOnly N)
+    unfolding relabelled met
+    stays = record { rising = λ x y h. h; zero = refl; ready = i; span = λ b h. span-same h; follow = λ f rise v e. refl; fit = λ f rise z most h v e. tt }
 
-      sc : snaps n r s (c ∷ cs) ≡ ℓ + snaps n r (a .state) cs
-      sc = snaps-cons s c cs
+    updated : (k : ℕ) → Able (update k) → Stepped l N (update k) (besideOnly (copy N k))
+    unfolding relabelled met
+    updated k a = record {
+      rising = λ x y h. h;
+      zero = refl;
+      ready = L .updates l N i k a;
+      span = λ b h. span-same (λ x j u. h (x || eqb j k) j u);
+      follow = λ f rise v e. refl;
+      fit = λ f rise z most h v e. tt;
+    }
 
-      followed : carryOut n (numbers (getD al 0 0)) (shadow ν s) c (move n s c) ≡ like ν′ a
-      followed = S .follow (R .f) (R .rising) (getD al 0 0) (first-advance ℓ adv (R .advances))
+    -- a snap for a label by the newest: its pending label stays, and it is given 0
+    snap-newest : (k : ℕ) → k ≡ newest n (stands r l) → Stepped l N (snap k) (besideOnly N)
+    unfolding relabelled met
+    snap-newest k q = record {
+      rising = λ x y h. h;
+      zero = refl;
+      ready = subst (λ t. L .R t N) (sym (snap-stays n r l k _ refl q)) i;
+      span = λ b h. span-same h;
+      follow = λ f rise v _. snap-stays n (numbered v) (through f N) k _ (newest-alike f rise v) q;
+      fit = λ f rise z most _ v e.
+          (record { newest = λ _. e (omega arith) ∙ z; other = λ h. absurd (tf (eq-eqb k _ (q ∙ sym (newest-alike f rise v))) h) }, tt);
+    }
 
-      dropped : drop ℓ al ≡ R .advances
-      dropped = drop-at (replicate ℓ adv) (R .advances) ℓ (length-replicate ℓ adv)
+    -- and by another: its number is put into its slot
+    slot-here : ℕ → Slot
+    slot-here k = let z = newest n (stands r l) in L .slot (l true) (N true) (N false z) k (r .new (l false) z k)
 
-      runs : runᵘ n (shadow ν s) al (c ∷ cs) ≡ like ν′ a ∷ runᵘ n (shadow ν′ (a .state)) (R .advances) cs
-      runs = runᵘ-cons ν s (like ν′ a) al (R .advances) c cs followed dropped
+    module _ (k : ℕ) (a : Able (snap k)) (d : k ≢ newest n (stands r l)) where
+      found : let z = newest n (stands r l) in Sits n N (N false z) (slot-here k) × L .R (put l k (r .new (l false) z k)) (placed N k (slot-here k) .beside)
+      unfolding slot-here
+      found = L .snaps l N i k (newest n (stands r l)) a refl d
 
-  pub simulate : (cs : Lists.List Call) (s : State A) (N : Entries ℕ) → L .R s N → Sim s N cs
-  unfolding run runᵘ snaps snapsᵘ
-  simulate [] s N i = record {
-    f = λ x. x;
-    rising = λ x y h. h;
-    zero = refl;
-    slow = λ x. omega arith;
-    advances = [];
-    whole = tt;
-    each = refl;
-    eachᵘ = refl;
-    same = refl;
-    bound = λ b h. tt;
-  }
-  simulate (c ∷ cs) s N i =
-      let S = stepped s N c i (move n s c) refl in
-      extend c cs s N S (simulate cs (carryOut n r s c (move n s c) .state) (S .N′) (S .ready))
+      snap-placed : Stepped l N (snap k) (placed N k (slot-here k))
+      unfolding relabelled met
+      snap-placed = record {
+        rising = shift-rising p;
+        zero = shift-zero p;
+        ready = subst (λ t. L .R (put l k t) (placed N k p .beside)) (sym (pend-new n r l k _ refl d)) (found .1);
+        span = λ b h. span-placed n N (N false (newest n (stands r l))) k p (found .0) b h;
+        follow = λ f rise v e. ap (put (through (λ x. f (shift p x)) N) k) (pend-new n (numbered v) (through (λ x. f (shift p x)) N) k _ (alike f rise v) d ∙ e (omega arith))
+            ∙ through-put f (through (shift p) N) k (number p);
+        fit = λ f rise zero most h v e. (
+          record {
+            newest = λ q. absurd (d (eqb-true k _ q ∙ alike f rise v));
+            other = λ _. rw (e (omega arith), alike f rise (f (number p))) (rise _ _ (sits-above n N (N false (newest n (stands r l))) p (found .0)), h);
+          },
+          tt,
+        );
+      }
+        where
+          p : Slot
+          p = slot-here k
 
-  -- what the call leaves is again such a state
-  pub step-keeps : (s : State A) (N : Entries ℕ) (c : Call) → L .R s N → (N′ : Entries ℕ) × L .R (step n r s c .state) N′
-  unfolding step
-  step-keeps s N c i = let S = stepped s N c i (move n s c) refl in (S .N′, S .ready)
+          alike : (f : ℕ → ℕ) → Rising f → (v : ℕ) → newest n (stands (numbered v) (through (λ x. f (shift p x)) N)) ≡ newest n (stands r l)
+          alike f rise = newest-alike (λ x. f (shift p x)) (λ x y h. rise _ _ (shift-rising p x y h))
+
+    pub stepped : (w : LabelStep) → Able w → Stepped l N w (renumber n r (L .slot) l N w)
+    unfolding renumber slot-here
+    stepped stay a = stays
+    stepped (snap k) a = by-here (λ b. Stepped l N (snap k) (cond b (besideOnly N) (placed N k (slot-here k)))) (newest n (stands r l)) k (snap-newest k) (snap-placed k a)
+    stepped (update k) a = updated k a
+
+  -- THE WHOLE SEQUENCE, on a board whose calls ask of the labels what they are able to do
+  module _ (B : Board) (able : (o : Rest) (c : Call) → Able (labelStep (B .judge n o c))) where
+    -- what a call makes of the numbers
+    renumbering : State A → Labelling ℕ → Call → Renumbering
+    renumbering s N c = renumber n r (L .slot) (s .labels) N (labelStep (B .judge n (s .rest) c))
+
+    call-stepped : (s : State A) (N : Labelling ℕ) (c : Call) → L .R (s .labels) N → Stepped (s .labels) N (labelStep (B .judge n (s .rest) c)) (renumbering s N c)
+    unfolding renumbering
+    call-stepped s N c i = stepped (s .labels) N i _ (able (s .rest) c)
+
+    -- what the call leaves is again so
+    pub step-keeps : (s : State A) (N : Labelling ℕ) (c : Call) → L .R (s .labels) N → (N′ : Labelling ℕ) × L .R (step B n r s c .state .labels) N′
+    unfolding step
+    step-keeps s N c i = (_, call-stepped s N c i .ready)
+
+    -- the unbounded machine judges alike, by its own rest, and so answers alike
+    module _ (s : State A) (N : Labelling ℕ) (c : Call) (i : L .R (s .labels) N) (e : Renumbering) (S : Stepped (s .labels) N (labelStep (B .judge n (s .rest) c)) e) where
+      follows : (f : ℕ → ℕ) → Rising f → (v : ℕ) → (1 ≤ snapsOf B n s c → v ≡ f (e .number))
+          → step B n (numbered v) (shadow (through (λ x. f (e .shift x)) N) s) c ≡ like (through f (e .beside)) (step B n r s c)
+      unfolding step snapsOf
+      follows f rise v h = ap₂ (λ (order : Lists.List ℕ) (l : Labelling ℕ). answer c l (carryOut order (s .rest) (B .judge n (s .rest) c)))
+          (sym (ordered-same n n _ _ (le-refl n) (order (s .labels) N i (λ x. f (e .shift x)) (λ x y u. rise _ _ (S .rising x y u)) v)))
+          (S .follow f rise v h)
+
+    -- what later calls make of a number in use, and the numbers that they are given in the end
+    later : Lists.List Call → State A → Labelling ℕ → ℕ → ℕ
+    later [] s N x = x
+    later (c ∷ cs) s N x = let e = renumbering s N c in later cs (step B n r s c .state) (e .beside) (e .shift x)
+
+    given : Lists.List Call → State A → Labelling ℕ → Lists.List ℕ
+    given [] s N = []
+    given (c ∷ cs) s N =
+        let s′ = step B n r s c .state in
+        let e = renumbering s N c in
+        replicate (snapsOf B n s c) (later cs s′ (e .beside) (e .number)) ++ given cs s′ (e .beside)
+
+    -- one pass finds them
+    renumbered-is : (cs : Lists.List Call) (s : State A) (N : Labelling ℕ) (l : Lists.List ℕ) → renumbered n r (L .slot) B s N l cs ≡ map (later cs s N) l ++ given cs s N
+    unfolding renumbered later given renumbering
+    renumbered-is [] s N l = sym (append-nil (map (λ x. x) l) ∙ map-id l)
+    renumbered-is (c ∷ cs) s N l = renumbered-is cs s′ (e .beside) (map (e .shift) l ++ replicate ℓ (e .number))
+        ∙ ap (λ t. t ++ given cs s′ (e .beside)) (map-append f (map (e .shift) l) (replicate ℓ (e .number)) ∙ ap₂ _++_ (map-map f (e .shift) l) (map-replicate f ℓ (e .number)))
+        ∙ append-assoc (map (λ x. f (e .shift x)) l) (replicate ℓ (f (e .number))) (given cs s′ (e .beside))
+      where
+        ℓ : ℕ
+        ℓ = snapsOf B n s c
+
+        s′ : State A
+        s′ = step B n r s c .state
+
+        e : Renumbering
+        e = renumbering s N c
+
+        f : ℕ → ℕ
+        f = later cs s′ (e .beside)
+
+    -- where the numbers up to b were in use: the numbers that the calls leave in use are those up to `most`
+    pub record Spans (s : State A) (N : Labelling ℕ) (cs : Lists.List Call) (f : ℕ → ℕ) (ns : Lists.List ℕ) (b : ℕ) : Type 0 where
+      pub most : ℕ
+      pub few : most ≤ b + snaps B n (λ _. r) s [] cs
+      pub old : f b ≤ most
+      pub upto : All (λ v. v ≤ most) ns
+      pub reach : (x : ℕ) → 1 ≤ x → x ≤ most → Old b f x ⊎ List·Memᴰ x ns
+      pub bound : All (Bounded n most) (run B n numbered (shadow (through f N) s) ns cs)
+      pub fit : All (Fit most) (labelSnaps B n (shadow (through f N) s) ns cs)
+
+    -- the numbers ns, with which the unbounded machine follows to the end if those in use go through f before
+    pub record Sim (s : State A) (N : Labelling ℕ) (cs : Lists.List Call) (f : ℕ → ℕ) (ns : Lists.List ℕ) : Type 0 where
+      pub rising : Rising f
+      pub zero : f 0 ≡ 0
+      pub each : length ns ≡ snaps B n (λ _. r) s [] cs
+      pub one : length ns ≡ length (labelSnaps B n (shadow (through f N) s) ns cs)
+      pub same : map (seen n) (run B n (λ _. r) s [] cs) ≡ map (seen n) (run B n numbered (shadow (through f N) s) ns cs)
+      pub spans : (b : ℕ) → Upto n N b → Spans s N cs f ns b
+
+    module _ (ν : Labelling ℕ) (s : State A) (a : Answer ℕ) (ns ns′ : Lists.List ℕ) (c : Call) (cs : Lists.List Call)
+        (p : step B n (numbered (getD ns 0 0)) (shadow ν s) c ≡ a) (q : drop (snapsOf B n s c) ns ≡ ns′) where
+      run-fed : run B n numbered (shadow ν s) ns (c ∷ cs) ≡ a ∷ run B n numbered (a .state) ns′ cs
+      unfolding run snapsOf
+      run-fed = rw (p, q) refl
+
+      met-fed : labelSnaps B n (shadow ν s) ns (c ∷ cs) ≡ met n ν (labelStep (B .judge n (s .rest) c)) (getD ns 0 0) ++ labelSnaps B n (a .state) ns′ cs
+      unfolding labelSnaps snapsOf
+      met-fed = rw (p, q) refl
+
+    extend : (c : Call) (cs : Lists.List Call) (s : State A) (N : Labelling ℕ) → L .R (s .labels) N → (e : Renumbering) → Stepped (s .labels) N (labelStep (B .judge n (s .rest) c)) e
+        → (f : ℕ → ℕ) (ns : Lists.List ℕ) → Sim (step B n r s c .state) (e .beside) cs f ns
+        → Sim s N (c ∷ cs) (λ x. f (e .shift x)) (replicate (snapsOf B n s c) (f (e .number)) ++ ns)
+    extend c cs s N i e S f ns T = record {
+      rising = λ x y h. T .rising _ _ (S .rising x y h);
+      zero = ap f (S .zero) ∙ T .zero;
+      each = rw (snaps-cons B n r s c cs, length-append, length-replicate) (ap (λ k. ℓ + k) (T .each));
+      one = rw met-here (length-append (replicate ℓ v) ns ∙ ap₂ _+_ (length-replicate ℓ v ∙ sym met-one) (T .one) ∙ sym (length-append x xs));
+      same = rw (run-cons B n r s c cs, runs) (ap (λ l. seen n a ∷ l) (T .same));
+      spans = λ b h. let U = S .span b h in spans b U (T .spans (U .b′) (U .upto));
+    }
+      where
+        a : Answer A
+        a = step B n r s c
+
+        ℓ : ℕ
+        ℓ = snapsOf B n s c
+
+        v : ℕ
+        v = f (e .number)
+
+        ν : Labelling ℕ
+        ν = through (λ y. f (e .shift y)) N
+
+        ν′ : Labelling ℕ
+        ν′ = through f (e .beside)
+
+        nums : Lists.List ℕ
+        nums = replicate ℓ v ++ ns
+
+        x : Lists.List LabelSnap
+        x = met n ν (labelStep (B .judge n (s .rest) c)) (getD nums 0 0)
+
+        xs : Lists.List LabelSnap
+        xs = labelSnaps B n (shadow ν′ (a .state)) ns cs
+
+        met-one : length x ≡ ℓ
+        met-one = unfold snapsOf in met-length n ν (getD nums 0 0) (labelStep (B .judge n (s .rest) c))
+
+        first : 1 ≤ ℓ → getD nums 0 0 ≡ v
+        first = first-replicate ℓ v 0 ns
+
+        followed : step B n (numbered (getD nums 0 0)) (shadow ν s) c ≡ like ν′ a
+        followed = follows s N c i e S f (T .rising) (getD nums 0 0) first
+
+        runs : run B n numbered (shadow ν s) nums (c ∷ cs) ≡ like ν′ a ∷ run B n numbered (shadow ν′ (a .state)) ns cs
+        runs = run-fed ν s (like ν′ a) nums ns c cs followed (drop-replicate ℓ v ns)
+
+        met-here : labelSnaps B n (shadow ν s) nums (c ∷ cs) ≡ x ++ xs
+        met-here = met-fed ν s (like ν′ a) nums ns c cs followed (drop-replicate ℓ v ns)
+
+        -- the numbers in use after the call, and after the rest
+        spans : (b : ℕ) (U : Span n (labelSnap (labelStep (B .judge n (s .rest) c))) e b) → Spans (a .state) (e .beside) cs f ns (U .b′) → Spans s N (c ∷ cs) (λ y. f (e .shift y)) nums b
+        spans b U W = record {
+          most = W .most;
+          few = rw (snaps-cons B n r s c cs) (omega (arith, W .few, few));
+          old = below (e .shift b) (U .old);
+          upto = all-append (λ y. y ≤ W .most) (replicate ℓ v) ns (all-replicate (λ y. y ≤ W .most) ℓ v (λ _. below (e .number) (U .given))) (W .upto);
+          reach = λ y l u. reached y (W .reach y l u);
+          bound = rw runs ((λ x j l. below (e .beside x j) (U .upto x j l)), W .bound);
+          fit = rw met-here (all-append (Fit (W .most)) x xs (fits (W .most) (below (e .number) (U .given))) (W .fit));
+        }
+          where
+            few : U .b′ ≤ b + ℓ
+            few = unfold snapsOf in U .few
+
+            fits : (most : ℕ) → f (e .number) ≤ most → All (Fit most) x
+            fits most h = S .fit f (T .rising) (T .zero) most h (getD nums 0 0) (unfold snapsOf in first)
+
+            below : (y : ℕ) → y ≤ U .b′ → f y ≤ W .most
+            below y h = omega (arith, rising-le (T .rising) y (U .b′) h, W .old)
+
+            shifted : (y : ℕ) → Old b (e .shift) y ⊎ ((1 ≤ labelSnap (labelStep (B .judge n (s .rest) c))) × (y ≡ e .number)) → Old b (λ y. f (e .shift y)) (f y) ⊎ List·Memᴰ (f y) nums
+            shifted y (inl (o, l, u, h)) = inl (o, l, u, ap f h)
+            shifted y (inr (h, q)) = inr (Memᴰ·append-left {s = replicate ℓ v} ns (Memᴰ·cast (ap f q) (member-replicate ℓ v (unfold snapsOf in h))))
+
+            reached : (y : ℕ) → Old (U .b′) f y ⊎ List·Memᴰ y ns → Old b (λ y. f (e .shift y)) y ⊎ List·Memᴰ y nums
+            reached y (inl (o, l, u, h)) = rw h (shifted o (U .reach o l u))
+            reached y (inr h) = inr (Memᴰ·append-right (replicate ℓ v) h)
+
+    simulate : (cs : Lists.List Call) (s : State A) (N : Labelling ℕ) → L .R (s .labels) N → Sim s N cs (later cs s N) (given cs s N)
+    unfolding run snaps labelSnaps later given
+    simulate [] s N i = record {
+      rising = λ x y h. h;
+      zero = refl;
+      each = refl;
+      one = refl;
+      same = refl;
+      spans = λ b h. record { most = b; few = omega arith; old = omega arith; upto = tt; reach = λ x l u. inl (x, l, u, refl); bound = tt; fit = tt };
+    }
+    simulate (c ∷ cs) s N i =
+        let S = call-stepped s N c i in
+        extend c cs s N i _ S _ _ (simulate cs (step B n r s c .state) _ (unfold step in S .ready))
+
+-- THE NUMBERS, for every sequence of calls from the fresh states: one for each accepted snap for a label, 0 where its process is the newest, else above
+-- the top number; with them both machines show the same; without 0 they are 1, 2, .. without a gap; and no number exceeds the count of such snaps
+pub record Numbers {A : Type 0} (B : Board) (n : ℕ) (r : Rules A) (a : A) (cs : Lists.List Call) (ns : Lists.List ℕ) : Type 0 where
+  pub each : length ns ≡ snaps B n (λ _. r) (fresh a n) [] cs
+  pub fits : Fits B n (snaps B n (λ _. r) (fresh a n) [] cs) (fresh 0 n) ns cs
+  pub same : map (seen n) (run B n (λ _. r) (fresh a n) [] cs) ≡ map (seen n) (run B n numbered (fresh 0 n) ns cs)
+  pub bound : All (Bounded n (snaps B n (λ _. r) (fresh a n) [] cs)) (run B n numbered (fresh 0 n) ns cs)
+  pub gapless : Gapless ns
+
+-- THE SEQUENCE THEOREM: the numbers found are such numbers
+pub finds : {A : Type 0} {n : ℕ} {r : Rules A} {a : A} {Able : LabelStep → Type 0} (L : Simulable n r a Able) (B : Board)
+    → ((o : Rest) (c : Call) → Able (labelStep (B .judge n o c))) → (cs : Lists.List Call)
+    → Numbers B n r a cs (renumbered n r (L .slot) B (fresh a n) (λ x i. 0) [] cs)
+finds {A} {n} {r} {a} L B able cs = subst (Numbers B n r a cs) (sym (renumbered-is L B able cs (fresh a n) (λ x i. 0) [])) (record {
+  each = S .each;
+  fits = record {
+    one = S .one ∙ ap (λ s. length (labelSnaps B n s ns cs)) begin;
+    each = subst (λ s. All (Fit most) (labelSnaps B n s ns cs)) begin (all-weaken (fit-weaken few) (labelSnaps B n u ns cs) (T .fit));
+  };
+  same = S .same ∙ ap (λ s. map (seen n) (run B n numbered s ns cs)) begin;
+  bound = subst (λ s. All (Bounded n most) (run B n numbered s ns cs)) begin
+      (all-weaken {P = Bounded n (T .most)} {Q = Bounded n most} (λ y h x j l. omega (arith, few, h x j l)) (run B n numbered u ns cs) (T .bound));
+  gapless = record { most = T .most; upto = T .upto; each = λ v l u. given-only v (T .reach v l u) };
+})
+  where
+    ns : Lists.List ℕ
+    ns = given L B able cs (fresh a n) (λ x i. 0)
+
+    f : ℕ → ℕ
+    f = later L B able cs (fresh a n) (λ x i. 0)
+
+    u : State ℕ
+    u = shadow (λ x i. f 0) (fresh a n)
+
+    S : Sim L B able (fresh a n) (λ x i. 0) cs f ns
+    S = simulate L B able cs (fresh a n) (λ x i. 0) (L .start)
+
+    T : Spans L B able (fresh a n) (λ x i. 0) cs f ns 0
+    T = S .spans 0 (λ x i l. omega arith)
+
+    most : ℕ
+    most = snaps B n (λ _. r) (fresh a n) [] cs
+
+    few : T .most ≤ most
+    few = omega (arith, T .few)
+
+    begin : u ≡ fresh 0 n
+    begin = rw (S .zero) refl
+
+    given-only : (v : ℕ) → Old 0 f v ⊎ List·Memᴰ v ns → List·Memᴰ v ns
+    given-only v (inl (y, l, u, h)) = absurd (omega arith)
+    given-only v (inr h) = h
 
 -- THE SIMULATION: for every sequence of calls there are advances with which the two machines, from their fresh states, answer alike
-pub record Simulates {A : Type 0} (n : ℕ) (r : Rules A) (a : A) (cs : Lists.List Call) : Type 0 where
+pub record Simulates {A : Type 0} (B : Board) (n : ℕ) (r : Rules A) (a : A) (cs : Lists.List Call) : Type 0 where
   pub advances : Lists.List ℕ
   pub whole : All (λ a. 1 ≤ a) advances
-  pub each : length advances ≡ snaps n r (fresh a n) cs
-  pub eachᵘ : length advances ≡ snapsᵘ n (fresh 0 n) advances cs
-  pub same : map (seen n) (run n r (fresh a n) cs) ≡ map (seen n) (runᵘ n (fresh 0 n) advances cs)
-  pub bound : All (Bounded n (snaps n r (fresh a n) cs)) (runᵘ n (fresh 0 n) advances cs)
+  pub each : length advances ≡ snaps B n (λ _. r) (fresh a n) [] cs
+  pub eachᵘ : length advances ≡ snaps B n numbers (fresh 0 n) advances cs
+  pub same : map (seen n) (run B n (λ _. r) (fresh a n) [] cs) ≡ map (seen n) (run B n numbers (fresh 0 n) advances cs)
+  pub bound : All (Bounded n (snaps B n (λ _. r) (fresh a n) [] cs)) (run B n numbers (fresh 0 n) advances cs)
 
-pub simulates : {A : Type 0} {n : ℕ} {r : Rules A} {a : A} → Simulable n r a → (cs : Lists.List Call) → Simulates n r a cs
-simulates {A} {n} {r} {a} L cs = record {
-  advances = S .advances;
-  whole = S .whole;
-  each = S .each;
-  eachᵘ = S .each ∙ S .eachᵘ ∙ ap (λ t. snapsᵘ n t (S .advances) cs) begin;
-  same = S .same ∙ ap (λ t. map (seen n) (runᵘ n t (S .advances) cs)) begin;
-  bound = subst (λ t. All (Bounded n (snaps n r (fresh a n) cs)) (runᵘ n t (S .advances) cs)) begin (rw zero-add at (S .bound 0 (λ x i l. omega arith)));
+pub simulates : {A : Type 0} {B : Board} {n : ℕ} {r : Rules A} {a : A} {cs : Lists.List Call} {ns : Lists.List ℕ} → Numbers B n r a cs ns → Simulates B n r a cs
+simulates {A} {B} {n} {r} {a} {cs} {ns} N = record {
+  advances = advances B n (fresh 0 n) ns cs;
+  whole = advances-whole _ l (N .fits .each);
+  each = length-map l advance ∙ sym (N .fits .one) ∙ N .each;
+  eachᵘ = length-map l advance ∙ sym (R .1);
+  same = N .same ∙ ap (map (seen n)) (sym (R .0));
+  bound = rw (R .0) (N .bound);
 }
   where
-    S : Sim L (fresh a n) (λ x i. 0) cs
-    S = simulate L cs (fresh a n) (λ x i. 0) (L .start)
+    l : Lists.List LabelSnap
+    l = labelSnaps B n (fresh 0 n) ns cs
 
-    begin : shadow (λ x i. S .f 0) (fresh a n) ≡ fresh 0 n
-    begin = fresh-shadow a n (S .f 0) (S .zero)
+    R : (run B n numbers (fresh 0 n) (advances B n (fresh 0 n) ns cs) cs ≡ run B n numbered (fresh 0 n) ns cs)
+        × (snaps B n numbers (fresh 0 n) (advances B n (fresh 0 n) ns cs) cs ≡ length l)
+    R = run-advances B n _ cs (fresh 0 n) ns (N .fits .each)

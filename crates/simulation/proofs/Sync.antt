@@ -8,9 +8,9 @@ use native.Mathlib.Omega.{arith}
 use Rattle.label.proofs.Digits.{Tri, lt, eq, gt, compare}
 use Rattle.label.specs.Labels.{Label, below, labelBefore}
 use Rattle.label.proofs.Order.{Agree, Lt, Lt-irrefl, Lt-asym, Le, le-not-gt, before-less, before-more, before-same}
-use Rattle.simulation.proofs.Entries.{Entries, put, by-put, copy}
+use Rattle.simulation.proofs.Labellings.{by-put}
 use lib.Dec.{eqb, ltb}
-use Rattle.simulation.specs.Machine.{numberBefore}
+use Rattle.simulation.specs.Machine.{Labelling, put, copy, numberBefore}
 use Rattle.label.specs.Tests.{every, newest}
 use Rattle.label.proofs.Facts.{tf, every-all, every-at, First, first}
 use borrow.Author.Tests.{ltb-false, lt-ltb, le-ltb, eq-eqb, ne-eqb, not-true}
@@ -71,12 +71,12 @@ module _ {m : ℕ} {a b : Label} {u v : ℕ} where
   sync-before i j (same e h) = rw (e, h) (before-same m b i j ∙ sym (number-same v i j))
   sync-before i j (more l h) = before-more m a i b j l ∙ sym (number-more u i v j h)
 
--- entries of two stations are in step
-abbrev pub Synced : (m : ℕ) → Entries Label → Entries ℕ → Type 0
+-- the labels of two stations are in step
+abbrev pub Synced : (m : ℕ) → Labelling Label → Labelling ℕ → Type 0
 Synced m L N = (x y : Bool) (i j : ℕ) → i ≤ m → j ≤ m → i ≢ j → Sync m (L x i) (N x i) (L y j) (N y j)
 
--- so entries of three stations never close a ring: agree before p, and have the digits 3, 4, 5 there (the paper's I, by its Lemma 4.2)
-pub no-ring : {m : ℕ} {L : Entries Label} {N : Entries ℕ} → Synced m L N → (x y w : Bool) (i j l p : ℕ) → i ≤ m → j ≤ m → l ≤ m
+-- so labels of three stations never close a ring: agree before p, and have the digits 3, 4, 5 there (the paper's I, by its Lemma 4.2)
+pub no-ring : {m : ℕ} {L : Labelling Label} {N : Labelling ℕ} → Synced m L N → (x y w : Bool) (i j l p : ℕ) → i ≤ m → j ≤ m → l ≤ m
     → i ≢ j → j ≢ l → l ≢ i → p < m → Agree p (L x i) (L y j) → Agree p (L y j) (L w l) → L x i p ≡ 3 → L y j p ≡ 4 → L w l p ≡ 5 → ⊥
 no-ring sync x y w i j l p bi bj bl ij jl li b s t three four five = omega (
   arith,
@@ -89,6 +89,14 @@ no-ring sync x y w i j l p bi bj bl ij jl li b s t three four five = omega (
 abbrev pub Rising : (ℕ → ℕ) → Type 0
 Rising g = (x y : ℕ) → x < y → g x < g y
 
+pub rising-before : {g : ℕ → ℕ} → Rising g → (u i v j : ℕ) → numberBefore u i v j ≡ numberBefore (g u) i (g v) j
+rising-before {g} r u i v j = go (compare u v)
+  where
+    go : Tri (u < v) (u ≡ v) (v < u) → numberBefore u i v j ≡ numberBefore (g u) i (g v) j
+    go (lt h) = number-less u i v j h ∙ sym (number-less (g u) i (g v) j (r u v h))
+    go (eq e) = rw e (number-same v i j ∙ sym (number-same (g v) i j))
+    go (gt h) = number-more u i v j h ∙ sym (number-more (g u) i (g v) j (r v u h))
+
 pub rising-le : {g : ℕ → ℕ} → Rising g → (x y : ℕ) → x ≤ y → g x ≤ g y
 rising-le r x y h = by-cases (ℕ-discrete x y) (λ e. rw e (omega arith)) (λ ne. let k = r x y (omega arith) in omega arith)
 
@@ -97,14 +105,14 @@ sync-map g r (less l h) = less l (r _ _ h)
 sync-map g r (same e h) = same e (ap g h)
 sync-map g r (more l h) = more l (r _ _ h)
 
-pub synced-map : {m : ℕ} {L : Entries Label} {N : Entries ℕ} (g : ℕ → ℕ) → Rising g → Synced m L N → Synced m L (λ x j. g (N x j))
+pub synced-map : {m : ℕ} {L : Labelling Label} {N : Labelling ℕ} (g : ℕ → ℕ) → Rising g → Synced m L N → Synced m L (λ x j. g (N x j))
 synced-map g r s x y i j li lj ne = sync-map g r (s x y i j li lj ne)
 
--- ---- tables stay in step when station k copies its entry, and when it puts down an entry that is in step with the entries of the others
-pub synced-copy : {m : ℕ} {L : Entries Label} {N : Entries ℕ} (k : ℕ) → Synced m L N → Synced m (copy L k) (copy N k)
+-- ---- labels stay in step when station k copies its own, and when it puts down one that is in step with those of the others
+pub synced-copy : {m : ℕ} {L : Labelling Label} {N : Labelling ℕ} (k : ℕ) → Synced m L N → Synced m (copy L k) (copy N k)
 synced-copy k s x y i j = s (x || eqb i k) (y || eqb j k) i j
 
-pub synced-put : {m : ℕ} {L : Entries Label} {N : Entries ℕ} (k : ℕ) (a : Label) (u : ℕ) → Synced m L N
+pub synced-put : {m : ℕ} {L : Labelling Label} {N : Labelling ℕ} (k : ℕ) (a : Label) (u : ℕ) → Synced m L N
     → ((y : Bool) (j : ℕ) → j ≤ m → j ≢ k → Sync m (L y j) (N y j) a u) → Synced m (put L k a) (put N k u)
 synced-put {m} {L} {N} k a u s new x y i j li lj ne =
     by-put (λ b. Sync m (cond b a (L x i)) (cond b u (N x i)) (put L k a y j) (put N k u y j)) x k i

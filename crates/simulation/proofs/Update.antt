@@ -11,11 +11,13 @@ use Rattle.label.specs.Labels.{Label, nextLabel}
 use Rattle.label.proofs.Order.{Agree, Within, Lt, Le, le-not-gt, next-label-before, next-label-at, next-label-behind, next-label-reach, next-label-order, next-label-again}
 use Rattle.label.specs.Labels.{others}
 use Rattle.label.proofs.Choice.{all, others-grow, all-grow, one-more}
-use Rattle.simulation.proofs.Entries.{Entries, by-here, here-yes, copy}
+use Rattle.label.proofs.Facts.{by-here}
+use Rattle.simulation.specs.Machine.{Labelling, copy}
+use Rattle.simulation.proofs.Labellings.{here-yes}
 use Rattle.simulation.proofs.Sync.{number-lt, number-label, synced-copy, Newest}
 use Rattle.simulation.proofs.Invariant.{Place, behind, ahead, Inv, le-top, to-top, number-behind, number-ahead, top-within}
 
-module _ {m : ℕ} {L : Entries Label} {N : Entries ℕ} {z : ℕ} {top : Label} (inv : Inv m L N z top) (k : ℕ) (lk : k ≤ m) where
+module _ {m : ℕ} {L : Labelling Label} {N : Labelling ℕ} {z : ℕ} {top : Label} (inv : Inv m L N z top) (k : ℕ) (lk : k ≤ m) where
   wt : Within 0 top
   wt = top-within inv
 

@@ -1,35 +1,41 @@
 -- Samples P1 to P12 hold: computed on the steps without the test for 13, which no table on the way fails.
 use Prim.Native.Nat.{ℕ, _≤_}
 use native.Mathlib.Omega.{arith}
-use mathlib.Core.Path.{_≡_, refl, ap, _∙_}
+use mathlib.Core.Path.{_≡_, refl, sym, ap, _∙_}
 use mathlib.Core.List as Lists
 use mathlib.Core.List.{[], _∷_}
 use Rattle.label.specs.Tests.{every, count, firstFrom, newest, inserted, ordered, tabulate}
+use Rattle.label.specs.Labels as Labels
 use Rattle.label.specs.Labels.{below, next, agrees, firstDifference, labelBelow, labelBefore, nextLabel, others, level, newLabel}
 use Rattle.label.specs.Rows.{row}
-use Rattle.simulation.specs.Calls.{Call, judge}
-use Rattle.table.specs.Results.{stored}
-use Rattle.table.specs.Tables.{freshStation, freshTable, newestOf, pendingAfter, scanOf}
-use Rattle.transition.specs.Steps.{carryOut, move}
+use Rattle.simulation.specs.Calls.{Call, unless, judgeIn}
+use Rattle.simulation.specs.Machine.{original, digits, pendingAfter, relabelled, scanOf, carryOut, State, fresh, step}
+use Rattle.table.specs.Tables.{freshStation, freshTable}
+use Rattle.transition.specs.States.{stateOf, stationIn, tableOf}
 use Rattle.transition.specs.Samples.{call, labelled, after, shown, order, reaches, Holds, one, two, three, stalled, SamplesHold}
-use Rattle.transition.proofs.View.{step-carries}
-use Rattle.transition.proofs.Reachable.{Reached, reached-passes, reached-step, reached-fresh}
+use Rattle.transition.proofs.States.{fresh-written}
+use Rattle.transition.proofs.Reached.{Reached, reached-held, reached-fresh, reached-step}
+use Rattle.transition.proofs.Theorem.{reached-written}
 use Rattle.table.specs.declared.Table.{Table}
 
-carried : Table → Lists.List Call → Table
-unfolding row stored freshStation freshTable pendingAfter scanOf carryOut move judge below next agrees firstDifference labelBelow labelBefore nextLabel others level newLabel newestOf every count firstFrom newest inserted ordered tabulate call labelled
-carried t [] = t
-carried t (c ∷ cs) = carried (carryOut t c (move t c) .table) cs
+carried : ℕ → Table → Lists.List Call → Table
+unfolding row freshStation freshTable stationIn tableOf unless judgeIn pendingAfter relabelled scanOf carryOut step below next agrees firstDifference labelBelow labelBefore nextLabel others level newLabel every count firstFrom newest inserted ordered tabulate call labelled
+carried n t [] = t
+carried n t (c ∷ cs) = carried n (tableOf n (step original n (digits n) (stateOf t) c .state)) cs
 
-carried-same : (cs : Lists.List Call) (t : Table) → Reached t → after t cs ≡ carried t cs
-unfolding after carried
-carried-same [] t r = refl
-carried-same (c ∷ cs) t r =
-    ap (λ a. after (a .table) cs) (step-carries t c (reached-passes t r)) ∙ carried-same cs (carryOut t c (move t c) .table) (reached-step t r c)
+module _ (n : ℕ) (low : 2 ≤ n) (high : n ≤ 32) where
+  carried-same : (cs : Lists.List Call) (s : State Labels.Label) → Reached n s → after (tableOf n s) cs ≡ carried n (tableOf n s) cs
+  unfolding after carried
+  carried-same [] s r = refl
+  carried-same (c ∷ cs) s r = ap (λ a. after (a .table) cs) (reached-written n low high r c)
+      ∙ carried-same cs (step original n (digits n) s c .state) (reached-step n low high s r c)
+      ∙ ap (λ u. carried n (tableOf n (step original n (digits n) u c .state)) cs) (sym (reached-held n low high r))
 
-leads : (n : ℕ) (cs : Lists.List Call) (l : Lists.List (Lists.List ℕ)) (o : Lists.List ℕ) → 2 ≤ n → n ≤ 32
-    → (shown (carried (freshTable n) cs) ≡ l) × (order (carried (freshTable n) cs) ≡ o) → Holds (reaches n cs l o)
-leads n cs l o p q c = rw (carried-same cs (freshTable n) (reached-fresh n p q)) c
+  leads : (cs : Lists.List Call) (l : Lists.List (Lists.List ℕ)) (o : Lists.List ℕ)
+      → (shown (carried n (freshTable n) cs) ≡ l) × (order (carried n (freshTable n) cs) ≡ o) → Holds (reaches n cs l o)
+  leads cs l o = rw (ap (λ t. after t cs) (fresh-written n high) ∙ carried-same cs (fresh (λ p. 1) n) (reached-fresh n low high)
+      ∙ ap (λ t. carried n t cs) (sym (fresh-written n high)))
+      (λ c. c)
 
 pub samples-hold : SamplesHold
 unfolding shown order carried one two three stalled
@@ -38,25 +44,25 @@ samples-hold = (
   (
     refl,
     (
-      leads _ _ _ _ (omega arith) (omega arith) (refl, refl),
+      leads 2 (omega arith) (omega arith) _ _ _ (refl, refl),
       (
-        leads _ _ _ _ (omega arith) (omega arith) (refl, refl),
+        leads 2 (omega arith) (omega arith) _ _ _ (refl, refl),
         (
-          leads _ _ _ _ (omega arith) (omega arith) (refl, refl),
+          leads 3 (omega arith) (omega arith) _ _ _ (refl, refl),
           (
-            leads _ _ _ _ (omega arith) (omega arith) (refl, refl),
+            leads 3 (omega arith) (omega arith) _ _ _ (refl, refl),
             (
-              leads _ _ _ _ (omega arith) (omega arith) (refl, refl),
+              leads 3 (omega arith) (omega arith) _ _ _ (refl, refl),
               (
-                leads _ _ _ _ (omega arith) (omega arith) (refl, refl),
+                leads 3 (omega arith) (omega arith) _ _ _ (refl, refl),
                 (
-                  leads _ _ _ _ (omega arith) (omega arith) (refl, refl),
+                  leads 3 (omega arith) (omega arith) _ _ _ (refl, refl),
                   (
-                    leads _ _ _ _ (omega arith) (omega arith) (refl, refl),
+                    leads 3 (omega arith) (omega arith) _ _ _ (refl, refl),
                     (
-                      leads _ _ _ _ (omega arith) (omega arith) (refl, refl),
+                      leads 3 (omega arith) (omega arith) _ _ _ (refl, refl),
                       (
-                        leads _ _ _ _ (omega arith) (omega arith) (refl, refl),
+                        leads 3 (omega arith) (omega arith) _ _ _ (refl, refl),
                         tt,
                       ),
                     ),

@@ -3,17 +3,18 @@
 use Prim.Native.Nat.{ℕ, _+_, _≤_}
 use mathlib.Core.Path.{_≡_}
 use mathlib.Core.Logic.{_≢_}
-use mathlib.Core.Bool.{true, false}
+use mathlib.Core.Bool.{cond}
 use mathlib.Core.List as Lists
 use mathlib.Core.List.{[], _∷_, map}
 use lib.ListN.{length, take}
-use Rattle.label.specs.Tests.{tabulate, All}
-use Rattle.simulation.specs.Calls.{Call, labelSnap}
+use Rattle.label.specs.Tests.{All}
+use Rattle.simulation.specs.Calls.{Call}
 use Rattle.simulation.specs.Machine as Machine
-use Rattle.simulation.specs.Machine.{Seen, runᵘ, snapsᵘ, Bounded}
-use Rattle.table.specs.Tables.{freshTable, at}
+use Rattle.simulation.specs.Machine.{original, numbers, Seen, snapsOf, Bounded}
+use Rattle.table.specs.Tables.{freshTable}
 use Rattle.table.specs.WellFormed.{wellFormed}
-use Rattle.transition.specs.Steps.{Answer, move, stepOf}
+use Rattle.transition.specs.States.{stateOf}
+use Rattle.transition.specs.Steps.{Answer, stepOf}
 use Rattle.table.specs.declared.Table.{Table}
 
 -- the answers to a sequence of calls, each on the table that the one before it left
@@ -24,11 +25,15 @@ run t (c ∷ cs) = let a = stepOf t c in a ∷ run (a .table) cs
 -- how many snaps for a label the table accepts
 unfoldable pub snaps : Table → Lists.List Call → ℕ
 snaps t [] = 0
-snaps t (c ∷ cs) = (elim (wellFormed t) [ true ↦ labelSnap (move t c) | false ↦ 0 ]) + snaps (stepOf t c .table) cs
+snaps t (c ∷ cs) = cond (wellFormed t) (snapsOf original (t .count) (stateOf t) c) 0 + snaps (stepOf t c .table) cs
 
 -- what is compared after each call: the refusal, the bytes written, and the results that all stations hold
 abbrev pub seen : Answer → Seen
-seen a = let n = a .table .count in record { refusal = a .refusal; bytes = a .bytes; results = tabulate n 0 (λ i. take n (at (a .table) i .«scan_result»)) }
+seen a = Machine.seen (a .table .count) (record { state = stateOf (a .table); refusal = a .refusal; bytes = a .bytes })
+
+-- the same of the unbounded table of n stations, from its fresh state, with these advances
+abbrev pub unbounded : ℕ → Lists.List ℕ → Lists.List Call → Lists.List (Machine.Answer ℕ)
+unbounded n advances calls = Machine.run original n numbers (Machine.fresh 0 n) advances calls
 
 -- for these calls on the fresh table of n stations there are advances, each at least 1, one for each accepted snap for a label, counted on either
 -- table; with them both tables show the same after every call; and after any number k of the calls no number, current or pending, exceeds the
@@ -37,7 +42,7 @@ pub record Demand3 (n : ℕ) (calls : Lists.List Call) : Type 0 where
   pub advances : Lists.List ℕ
   pub whole : All (λ a. 1 ≤ a) advances
   pub each : length advances ≡ snaps (freshTable n) calls
-  pub eachᵘ : length advances ≡ snapsᵘ n (Machine.fresh 0 n) advances calls
-  pub same : map seen (run (freshTable n) calls) ≡ map (Machine.seen n) (runᵘ n (Machine.fresh 0 n) advances calls)
-  pub bound : (k : ℕ) → All (Bounded n (snaps (freshTable n) calls)) (runᵘ n (Machine.fresh 0 n) advances (take k calls))
+  pub eachᵘ : length advances ≡ Machine.snaps original n numbers (Machine.fresh 0 n) advances calls
+  pub same : map seen (run (freshTable n) calls) ≡ map (Machine.seen n) (unbounded n advances calls)
+  pub bound : (k : ℕ) → All (Bounded n (snaps (freshTable n) calls)) (unbounded n advances (take k calls))
   pub never13 : All (λ a. a .refusal ≢ 13) (run (freshTable n) calls)

@@ -10,7 +10,9 @@ use Rattle.label.specs.Tests.{ordered, tabulate, All}
 use Rattle.label.specs.Labels.{below, labelBelow}
 use Rattle.label.specs.Rows.{digit}
 use Rattle.simulation.specs.Calls.{Call}
-use Rattle.table.specs.Tables.{freshTable, at, stands}
+use Rattle.simulation.specs.Machine.{digits, stands}
+use Rattle.table.specs.Tables.{freshTable, at}
+use Rattle.transition.specs.States.{labelsOf}
 use Rattle.transition.specs.Steps.{stepOf}
 use Rattle.table.specs.declared.Table.{Table}
 
@@ -32,17 +34,17 @@ unfoldable pub shown : Table → Lists.List (Lists.List ℕ)
 shown t = tabulate (t .count) 0 (λ i. take (t .count - 1) (at t i .label))
 
 unfoldable pub order : Table → Lists.List ℕ
-order t = map suc (ordered (t .count) (stands t))
+order t = map suc (ordered (t .count) (stands (digits (t .count)) (labelsOf t)))
 
 -- a row: two digits, or two labels, of which the first is below the second; or n, the calls on the fresh table of n, and the labels and the order they lead to
 pub data Sample : Type 0 where
-  digits : ℕ → ℕ → Sample
-  labels : Lists.List ℕ → Lists.List ℕ → Sample
+  digitsBelow : ℕ → ℕ → Sample
+  labelsBelow : Lists.List ℕ → Lists.List ℕ → Sample
   reaches : ℕ → Lists.List Call → Lists.List (Lists.List ℕ) → Lists.List ℕ → Sample
 
 abbrev pub Holds : Sample → Type 0
-Holds (digits d e) = below d e ≡ true
-Holds (labels a b) = labelBelow (length a) (digit a) (digit b) ≡ true
+Holds (digitsBelow d e) = below d e ≡ true
+Holds (labelsBelow a b) = labelBelow (length a) (digit a) (digit b) ≡ true
 Holds (reaches n cs l o) = (shown (after (freshTable n) cs) ≡ l) × (order (after (freshTable n) cs) ≡ o)
 
 -- lists of one, two and three
@@ -61,8 +63,8 @@ stalled = call 1 1 ∷ call 2 1 ∷ call 1 3 ∷ call 2 3 ∷ call 1 4 ∷ call 
 
 abbrev pub samples : Lists.List Sample
 samples =
-    digits 5 3
-    ∷ labels (three 4 5 2) (three 4 3 1)
+    digitsBelow 5 3
+    ∷ labelsBelow (three 4 5 2) (three 4 3 1)
     ∷ reaches 2 (labelled (one 1)) (two (one 2) (one 1)) (two 2 1)
     ∷ reaches 2 (labelled (1 ∷ 2 ∷ 1 ∷ 2 ∷ 1 ∷ [])) (two (one 3) (one 5)) (two 2 1)
     ∷ reaches 3 (labelled (one 3)) (three (two 1 1) (two 1 1) (two 1 1)) (three 1 2 3)

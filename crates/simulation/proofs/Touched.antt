@@ -1,0 +1,63 @@
+-- A move acts on its own processes alone, and a step call on the calling station's.
+use Prim.Native.Nat.{ℕ, _<_}
+use mathlib.Core.Path.{_≡_, refl}
+use mathlib.Core.Logic.{_≢_}
+use mathlib.Core.Bool.{Bool, true, false, _&&_, _||_, cond}
+use mathlib.Core.List as Lists
+use lib.Dec.{eqb}
+use borrow.Author.Tests.{ne-eqb}
+use Rattle.simulation.specs.Calls.{Call, place, Label, Scan, Phase, Rest, Move}
+use Rattle.simulation.specs.Machine.{Labelling, Rules, pendingAfter, labelStep, relabelled, carryOut}
+use Rattle.simulation.proofs.Judged.{Own, own-place, Verdict, turned, begins, updates, snaps, ends}
+
+-- the processes that a move acts on
+abbrev pub touched : Move → ℕ → Bool
+touched (Move.refused x) i = false
+touched (Move.begins k job o) i = eqb i k
+touched (Move.updates k) i = eqb i k
+touched (Move.snaps k o) i = eqb i k
+touched (Move.ends k o) i = eqb i k
+
+-- the others keep their labels, records and results
+pub labels-kept : {A : Type 0} (n : ℕ) (r : Rules A) (l : Labelling A) (w : Move) (i : ℕ) → touched w i ≡ false → (x : Bool) → relabelled n r l (labelStep w) x i ≡ l x i
+unfolding relabelled
+labels-kept n r l (Move.refused y) i e x = refl
+labels-kept n r l (Move.begins k job o) i e x = refl
+labels-kept n r l (Move.updates k) i e x = rw e (go x)
+  where
+    go : (x : Bool) → l (x || false) i ≡ l x i
+    go false = refl
+    go true = refl
+labels-kept n r l (Move.snaps k Label) i e x = rw e (go x)
+  where
+    go : (x : Bool) → cond (x && false) (pendingAfter n r l k) (l x i) ≡ l x i
+    go false = refl
+    go true = refl
+labels-kept n r l (Move.snaps k Scan) i e x = refl
+labels-kept n r l (Move.ends k o) i e x = refl
+
+pub rest-kept : (order : Lists.List ℕ) (o : Rest) (w : Move) (i : ℕ) → touched w i ≡ false
+    → (carryOut order o w .rest .process i ≡ o .process i) × (carryOut order o w .rest .result i ≡ o .result i)
+unfolding carryOut
+rest-kept order o (Move.refused x) i e = (refl, refl)
+rest-kept order o (Move.begins k job Label) i e = rw e (refl, refl)
+rest-kept order o (Move.begins k job Scan) i e = rw e (refl, refl)
+rest-kept order o (Move.updates k) i e = rw e (refl, refl)
+rest-kept order o (Move.snaps k Label) i e = rw e (refl, refl)
+rest-kept order o (Move.snaps k Scan) i e = rw e (refl, refl)
+rest-kept order o (Move.ends k Label) i e = rw e (refl, refl)
+rest-kept order o (Move.ends k Scan) i e = rw e (refl, refl)
+
+-- of n processes, a call touches the caller alone
+pub apart : {n : ℕ} {c : Call} {ph : Phase} {w : Move} → Verdict n c ph w → (i : ℕ) → (i < n → i ≢ place c) → touched w i ≡ false
+apart {n} {c} {ph} v i d = go v
+  where
+    other : Own n c → eqb i (place c) ≡ false
+    other own = ne-eqb i (place c) (λ e. d (rw e (own-place own)) e)
+
+    go : {w : Move} → Verdict n c ph w → touched w i ≡ false
+    go (turned x f) = refl
+    go (begins own e o) = other own
+    go (updates own e) = other own
+    go (snaps own o e) = other own
+    go (ends own o e r) = other own
