@@ -1,9 +1,12 @@
 // What a step call amounts to, its refusal, and what it makes of the calling station's record.
 ghost use mathlib.Core.Path.{_≡_};
-ghost use Prim.Native.Nat.{_≤_};
-ghost use Rattle.simulation.specs.Calls.{unless, beginsLabel, jobFits, judge, fromIdle, fromSnap, fromUpdate, fromEnd, byCode, numberOf};
-ghost use Rattle.transition.specs.Steps.{inPhase, begun, snapped, scanned, updated};
-ghost use Rattle.moves.specs.Moves.{refusalNumber, moveOf, called, recordMoved, reportSize, placeOf};
+ghost use mathlib.Core.Logic.{_≢_};
+ghost use mathlib.Core.List as Lists;
+ghost use Prim.Native.Nat.{ℕ, _-_, _≤_};
+ghost use Rattle.simulation.specs.Calls.{snaps, ends, unless, jobFits, notDue, roomFor, byPhase, judgeIn};
+ghost use Rattle.transition.specs.States.{operationOf, phaseOf};
+ghost use Rattle.transition.specs.Records.{inPhase, begun, snapped, scanned, updated, recordMade, numberOf, reportSize};
+ghost use Rattle.moves.specs.Moves.{refusalNumber, moveOf, called, placeOf};
 use table::Entry;
 use table::Operation;
 use table::Phase;
@@ -63,20 +66,32 @@ pub enum Move {
     EndScan,
 }
 
-// A begin, which asks for an idle station.
-fn begins(m: Move, p: Phase) -> Move
-    ensures { λ r. ⌜ moveOf r ≡ fromIdle (moveOf m) p ⌝ }
+// The move, if a test holds; else the refusal.
+fn unless(holds: bool, r: Refusal, m: Move) -> Move
+    ensures { λ o. ⌜ ((k job : ℕ) → moveOf k job o ≡ unless holds (refusalNumber r) (moveOf k job m)) ⌝ }
 {
-    match p {
-        Phase::Idle => m,
-        Phase::Snap(_) => Move::Refused(Refusal::Busy),
-        Phase::Update => Move::Refused(Refusal::Busy),
-        Phase::End(_) => Move::Refused(Refusal::Busy),
+    if holds { m } else { Move::Refused(r) }
+}
+
+// The refusal of a known step that is not due.
+fn not_due(code: u64) -> Refusal
+    requires { ⌜ code ≤ 5 ⌝ }
+    ensures { λ r. ⌜ refusalNumber r ≡ notDue code ⌝ }
+{
+    if code <= 2 {
+        return Refusal::Busy;
     }
+    if code == 3 {
+        return Refusal::NoSnapDue;
+    }
+    if code == 4 {
+        return Refusal::NoUpdateDue;
+    }
+    Refusal::NothingToEnd
 }
 
 fn snap_for(o: Operation) -> Move
-    ensures { λ r. ⌜ moveOf r ≡ fromSnap (Phase.Snap o) ⌝ }
+    ensures { λ r. ⌜ ((k job : ℕ) → moveOf k job r ≡ snaps k (operationOf o)) ⌝ }
 {
     match o {
         Operation::Label => Move::SnapLabel,
@@ -84,89 +99,62 @@ fn snap_for(o: Operation) -> Move
     }
 }
 
-// A snap, by the operation that it is due for.
-fn snaps(p: Phase) -> Move
-    ensures { λ r. ⌜ moveOf r ≡ fromSnap p ⌝ }
-{
-    match p {
-        Phase::Idle => Move::Refused(Refusal::NoSnapDue),
-        Phase::Snap(o) => snap_for(o),
-        Phase::Update => Move::Refused(Refusal::NoSnapDue),
-        Phase::End(_) => Move::Refused(Refusal::NoSnapDue),
-    }
-}
-
-fn updates(p: Phase) -> Move
-    ensures { λ r. ⌜ moveOf r ≡ fromUpdate p ⌝ }
-{
-    match p {
-        Phase::Idle => Move::Refused(Refusal::NoUpdateDue),
-        Phase::Snap(_) => Move::Refused(Refusal::NoUpdateDue),
-        Phase::Update => Move::Update,
-        Phase::End(_) => Move::Refused(Refusal::NoUpdateDue),
-    }
-}
-
-fn end_of(o: Operation, fits: bool) -> Move
-    ensures { λ r. ⌜ moveOf r ≡ fromEnd fits (Phase.End o) ⌝ }
+fn end_of(o: Operation) -> Move
+    ensures { λ r. ⌜ ((k job : ℕ) → moveOf k job r ≡ ends k (operationOf o)) ⌝ }
 {
     match o {
         Operation::Label => Move::EndLabel,
-        Operation::Scan => {
-            if fits {
-                Move::EndScan
-            } else {
-                Move::Refused(Refusal::BufferTooShort)
+        Operation::Scan => Move::EndScan,
+    }
+}
+
+// Whether the report lines of n stations have room, if an end writes any.
+fn room_for(o: Operation, n: usize, room: usize) -> bool
+    requires { ⌜ n ≤ 32 ⌝ }
+    ensures { λ r. ⌜ ((line code station job : ℕ) → r ≡ roomFor n (called line code station job room) (operationOf o)) ⌝ }
+{
+    match o {
+        Operation::Label => true,
+        Operation::Scan => n * 29 <= room,
+    }
+}
+
+// What a known step with a fitting job amounts to for a station in this phase.
+fn by_phase(n: usize, p: Phase, code: u64, room: usize) -> Move
+    requires { ⌜ n ≤ 32 ⌝ }
+    requires { ⌜ code ≤ 5 ⌝ }
+    ensures { λ r. ⌜ ((line station job : ℕ) → moveOf (station - 1) job r ≡ byPhase n (called line code station job room) (phaseOf p)) ⌝ }
+{
+    let late = not_due(code);
+    match p {
+        Phase::Idle => {
+            if code == 1 {
+                return Move::BeginLabel;
             }
+            unless(code == 2, late, Move::BeginScan)
+        }
+        Phase::Snap(o) => unless(code == 3, late, snap_for(o)),
+        Phase::Update => unless(code == 4, late, Move::Update),
+        Phase::End(o) => {
+            let end = unless(room_for(o, n, room), Refusal::BufferTooShort, end_of(o));
+            unless(code == 5, late, end)
         }
     }
 }
 
-// An end; that of a scan asks for room for its report lines.
-fn ends(p: Phase, fits: bool) -> Move
-    ensures { λ r. ⌜ moveOf r ≡ fromEnd fits p ⌝ }
-{
-    match p {
-        Phase::Idle => Move::Refused(Refusal::NothingToEnd),
-        Phase::Snap(_) => Move::Refused(Refusal::NothingToEnd),
-        Phase::Update => Move::Refused(Refusal::NothingToEnd),
-        Phase::End(o) => end_of(o, fits),
-    }
-}
-
-// What a known step of one of n stations amounts to: its job is judged first, and then the phase.
-fn by_code(n: usize, code: u64, job: u64, room: usize, p: Phase) -> Move
-    requires { ⌜ n ≤ 32 ⌝ }
-    ensures { λ r. ⌜ moveOf r ≡ unless (jobFits code job) 11 (byCode n code room p) ⌝ }
+fn job_fits(code: u64, job: u64) -> bool
+    ensures { λ r. ⌜ r ≡ jobFits code job ⌝ }
 {
     if code == 1 {
-        if job < 1 {
-            return Move::Refused(Refusal::JobOutOfRange);
-        }
-        if 4294967295 < job {
-            return Move::Refused(Refusal::JobOutOfRange);
-        }
-        return begins(Move::BeginLabel, p);
+        return 1 <= job && job <= 4294967295;
     }
-    if job != 0 {
-        return Move::Refused(Refusal::JobOutOfRange);
-    }
-    if code == 2 {
-        return begins(Move::BeginScan, p);
-    }
-    if code == 3 {
-        return snaps(p);
-    }
-    if code == 4 {
-        return updates(p);
-    }
-    ends(p, n * 29 <= room)
+    job == 0
 }
 
 // What a call amounts to for a station in this phase, of n stations.
 pub fn judge(n: usize, p: Phase, code: u64, station: u64, job: u64, room: usize) -> Move
     requires { ⌜ n ≤ 32 ⌝ }
-    ensures { λ r. ⌜ moveOf r ≡ judge n p (called 0 code station job room) ⌝ }
+    ensures { λ r. ⌜ ((line : ℕ) → moveOf (placeOf n station) job r ≡ judgeIn n (phaseOf p) (called line code station job room)) ⌝ }
 {
     if code < 1 {
         return Move::Refused(Refusal::UnknownStep);
@@ -180,12 +168,15 @@ pub fn judge(n: usize, p: Phase, code: u64, station: u64, job: u64, room: usize)
     if (n as u64) < station {
         return Move::Refused(Refusal::UnknownStation);
     }
-    by_code(n, code, job, room, p)
+    if !job_fits(code, job) {
+        return Move::Refused(Refusal::JobOutOfRange);
+    }
+    by_phase(n, p, code, room)
 }
 
 // The refusal of a move.
 pub fn refusal_of(m: Move) -> Refusal
-    ensures { λ r. ⌜ refusalNumber r ≡ numberOf (moveOf m) ⌝ }
+    ensures { λ r. ⌜ ((k job : ℕ) → refusalNumber r ≡ numberOf (moveOf k job m)) ⌝ }
 {
     match m {
         Move::Refused(r) => r,
@@ -202,7 +193,7 @@ pub fn refusal_of(m: Move) -> Refusal
 // The bytes of report that a move writes, of n stations.
 pub fn report_size(m: Move, n: usize) -> usize
     requires { ⌜ n ≤ 32 ⌝ }
-    ensures { λ r. ⌜ r ≡ reportSize n (moveOf m) ⌝ }
+    ensures { λ r. ⌜ ((k job : ℕ) → r ≡ reportSize n (moveOf k job m)) ⌝ }
 {
     match m {
         Move::Refused(_) => 0,
@@ -299,10 +290,11 @@ fn updated(s: Station) -> Station
     }
 }
 
-// What a move makes of a record; a snap, which wants the table, leaves it.
+// What a move makes of a record, unless it is a snap, which wants the table.
 pub fn moved(s: Station, m: Move, job: u64) -> Station
-    requires { ⌜ (moveOf m ≡ beginsLabel → job ≤ 4294967295) ⌝ }
-    ensures { λ r. ⌜ r ≡ recordMoved s job (moveOf m) ⌝ }
+    requires { ⌜ (m ≢ Move.SnapLabel) × (m ≢ Move.SnapScan) ⌝ }
+    requires { ⌜ (m ≡ Move.BeginLabel → job ≤ 4294967295) ⌝ }
+    ensures { λ r. ⌜ ((k : ℕ) (new : Lists.List ℕ) (l : Lists.List Entry) → r ≡ recordMade s new l (moveOf k job m)) ⌝ }
 {
     match m {
         Move::Refused(_) => s,

@@ -1,37 +1,37 @@
 -- What a step call on a well-formed table stores: one record, at the calling station's place.
-use Prim.Native.Nat.{ℕ, _-_, _≤_, _<_}
+use Prim.Native.Nat.{ℕ, _-_, _*_, _≤_, _<_}
 use native.Mathlib.Omega.{arith}
-use mathlib.Core.Path.{_≡_, refl, sym, ap, ap₂, _∙_}
+use mathlib.Core.Path.{_≡_, refl, sym, ap, ap₂, subst, _∙_}
 use mathlib.Core.Logic.{_≢_}
-use mathlib.Core.Bool.{Bool, true, false, cond}
+use mathlib.Core.Bool.{Bool, true, false, cond, true≢false}
 use mathlib.Core.List as Lists
-use mathlib.Core.List.{[], _++_, map-map}
-use lib.ListN.{replicate}
+use mathlib.Core.List.{_++_, map-map}
+use lib.ListN.{length, replicate, length-append, length-map, length-replicate}
 use lib.Seq.{set-getD}
 use lib.Dec.{ltb}
-use borrow.Author.Tests.{lt-ltb}
+use borrow.Author.Tests.{lt-ltb, leb-true}
 use Rattle.label.specs.Tests.{within, ordered}
 use Rattle.label.specs.Labels as Labels
 use Rattle.label.specs.Labels.{newLabel}
 use Rattle.label.specs.Rows.{digit, row}
-use Rattle.label.proofs.Facts.{by-here, within-true, set-tabulate}
+use Rattle.label.proofs.Facts.{by-here, within-true, ordered-length, length-tabulate, set-tabulate}
 use Rattle.label.proofs.RowLaws.{row-digit}
 use Rattle.simulation.specs.Calls as Calls
-use Rattle.simulation.specs.Calls.{Call, place, Move, judgeIn, judge, reportLines}
+use Rattle.simulation.specs.Calls.{Call, place, Rest, Move, judgeIn, judge, reportLines}
 use Rattle.simulation.specs.Machine as Machine
-use Rattle.simulation.specs.Machine.{digits, stands, labelStep, relabelled, carryOut, State, step}
+use Rattle.simulation.specs.Machine.{original, digits, stands, labelStep, relabelled, carryOut, State, step}
 use Rattle.simulation.proofs.Labellings.{here-yes}
 use Rattle.simulation.proofs.Judged.{Verdict, turned, begins, updates, snaps, ends, judge-stranger, verdict}
 use Rattle.simulation.proofs.Touched.{labels-kept, rest-kept, apart}
 use Rattle.table.specs.Results.{blank}
-use Rattle.table.specs.Snaps.{stored, newestOf, pendingAfter, scanOf}
+use Rattle.table.specs.Snaps.{stored, labels, newestOf, pendingAfter, scanOf}
 use Rattle.table.specs.Tables.{freshStation, at}
 use Rattle.table.specs.WellFormed.{wellFormed}
 use Rattle.table.proofs.Orders.{passed}
-use Rattle.table.proofs.Shapes.{Shaped}
+use Rattle.table.proofs.Shapes.{Long, Shaped, store-shaped}
 use Rattle.transition.specs.States.{phaseOf, phaseIn, labelsOf, restOf, stateOf, resultIn, stationIn, tableOf}
-use Rattle.transition.specs.Steps.{stepOf}
-use Rattle.transition.specs.Records.{store, inPhase, begun, snapped, scanned, updated, recordAfter, numberOf, handed}
+use Rattle.transition.specs.Steps.{Answer, written, refuse, stepOf}
+use Rattle.transition.specs.Records.{store, inPhase, begun, snapped, scanned, updated, recordMade, recordAfter, numberOf, hands, handed, answerAfter}
 use Rattle.transition.proofs.States.{station-in-of, written-held}
 use Rattle.transition.proofs.Theorem.{step-written}
 use Rattle.table.specs.declared.Operation.the-variants.{Scan}
@@ -58,6 +58,45 @@ unfolding tableOf
 store-written n high s s′ k l same = ap (λ t. record { count = n; stations = t }) (set-tabulate 32 k (stationIn n s′ k) _ _ (omega arith)
     (rw (lt-ltb k n l) refl)
     (λ i _ d. ap (λ r. cond (ltb i n) r (freshStation n)) (same i d)))
+
+-- the refusal of a move
+numbered : (order : Lists.List ℕ) (o : Rest) (w : Move) → carryOut order o w .refusal ≡ numberOf w
+unfolding carryOut
+numbered order o (Move.refused x) = refl
+numbered order o (Move.begins k job Calls.Label) = refl
+numbered order o (Move.begins k job Calls.Scan) = refl
+numbered order o (Move.updates k) = refl
+numbered order o (Move.snaps k Calls.Label) = refl
+numbered order o (Move.snaps k Calls.Scan) = refl
+numbered order o (Move.ends k Calls.Label) = refl
+numbered order o (Move.ends k Calls.Scan) = refl
+
+is-refused : (w : Move) → numberOf w ≢ 0 → w ≡ Move.refused (numberOf w)
+is-refused (Move.refused x) d = refl
+is-refused (Move.begins k job o) d = absurd (d refl)
+is-refused (Move.updates k) d = absurd (d refl)
+is-refused (Move.snaps k o) d = absurd (d refl)
+is-refused (Move.ends k o) d = absurd (d refl)
+
+-- a move that hands out a result has room for its n lines
+pub hands-room : {n : ℕ} {c : Call} {ph : Calls.Phase} {w : Move} → Verdict n c ph w → hands w ≡ true → n * 29 ≤ c .room
+hands-room (turned x f) h = absurd (true≢false (sym h))
+hands-room (begins own q o) h = absurd (true≢false (sym h))
+hands-room (updates own q) h = absurd (true≢false (sym h))
+hands-room (snaps own o q) h = absurd (true≢false (sym h))
+hands-room (ends own Calls.Label q f) h = absurd (true≢false (sym h))
+hands-room {n} {c} (ends own Calls.Scan q f) h = leb-true (n * 29) (c .room) f
+
+-- what a snap finds has the lengths of the struct's arrays
+pending-long : (t : Table) (k : ℕ) → length (at t k .«pending_label») ≡ 31 → length (pendingAfter t k) ≡ 31
+unfolding pendingAfter row
+pending-long t k l = by-here (λ b. length (cond b (at t k .«pending_label») (row 31 (newLabel (t .count - 1) 1 (labels t) (newestOf t) k))) ≡ 31) (newestOf t) k
+    (λ _. l)
+    (λ _. length-tabulate 31 0 _)
+
+scan-long : (t : Table) → t .count ≤ 32 → length (scanOf t) ≡ 32
+unfolding scanOf stored
+scan-long t h = simp (length-append, length-map, length-replicate, ordered-length) (omega arith)
 
 module _ (t : Table) (g : Shaped t) (e : wellFormed t ≡ true) where
   high : t .count ≤ 32
@@ -87,7 +126,7 @@ module _ (t : Table) (g : Shaped t) (e : wellFormed t ≡ true) where
 
     -- the record of the caller in it
     record-written : {ph : Calls.Phase} {w : Move} → Verdict (t .count) c ph w → place c < t .count → stationIn (t .count) (left w) (place c) ≡ recordAfter t (place c) w
-    unfolding left order stationIn relabelled carryOut recordAfter
+    unfolding left order stationIn relabelled carryOut recordMade
     record-written v l = go v
       where
         k : ℕ
@@ -118,42 +157,85 @@ module _ (t : Table) (g : Shaped t) (e : wellFormed t ≡ true) where
             let r = rest-kept order (restOf t) w i f in
             station-same (t .count) (stateOf t) (left w) i (λ x. sym (labels-kept (t .count) (digits (t .count)) (labelsOf t) w i f x)) (sym (r .0)) (sym (r .1))
 
-    told : {ph : Calls.Phase} {w : Move} → Verdict (t .count) c ph w → (carryOut order (restOf t) w .refusal ≡ numberOf w) × (carryOut order (restOf t) w .handed ≡ handed t (place c) w)
+    told : {ph : Calls.Phase} {w : Move} → Verdict (t .count) c ph w → carryOut order (restOf t) w .handed ≡ handed t (place c) w
     unfolding carryOut
-    told (turned x f) = (refl, refl)
-    told (begins own q Calls.Label) = (refl, refl)
-    told (begins own q Calls.Scan) = (refl, refl)
-    told (updates own q) = (refl, refl)
-    told (snaps own Calls.Label q) = (refl, refl)
-    told (snaps own Calls.Scan q) = (refl, refl)
-    told (ends own Calls.Label q f) = (refl, refl)
-    told (ends own Calls.Scan q f) = (refl, refl)
+    told (turned x f) = refl
+    told (begins own q Calls.Label) = refl
+    told (begins own q Calls.Scan) = refl
+    told (updates own q) = refl
+    told (snaps own Calls.Label q) = refl
+    told (snaps own Calls.Scan q) = refl
+    told (ends own Calls.Label q f) = refl
+    told (ends own Calls.Scan q f) = refl
 
     -- THE STORE LAW: the answer to a call of one of the n stations
-    pub step-stores : place c < t .count → let k = place c in
-        let w = judge (t .count) (restOf t) c in
-        stepOf t c ≡ record { table = store t k (recordAfter t k w); refusal = numberOf w; bytes = reportLines (c .line) 1 (handed t k w) }
+    pub step-stores : place c < t .count → stepOf t c ≡ answerAfter t (place c) c (judge (t .count) (restOf t) c)
     unfolding step left order
     step-stores l =
         let v = verdict (t .count) c (phaseOf (at t (place c) .phase)) in
-        let q = told v in
+        let h = told v in
         let p = move-stores v l in
-        step-written t c e ∙ λ x. record { table = p x; refusal = q .0 x; bytes = reportLines (c .line) 1 (q .1 x) }
+        let q = numbered order (restOf t) (judge (t .count) (restOf t) c) in
+        step-written t c e ∙ λ x. record { table = p x; refusal = q x; bytes = reportLines (c .line) 1 (h x) }
 
     -- and to a call that is refused
-    pub step-refused : (x : ℕ) → judge (t .count) (restOf t) c ≡ Move.refused x → stepOf t c ≡ record { table = t; refusal = x; bytes = [] }
+    pub step-refused : (x : ℕ) → judge (t .count) (restOf t) c ≡ Move.refused x → stepOf t c ≡ refuse t x
     unfolding step carryOut relabelled reportLines
-    step-refused x h = step-written t c e ∙ rw h (ap (λ u. record { table = u; refusal = x; bytes = [] }) (written-held t g e))
+    step-refused x h = step-written t c e ∙ rw h (ap (λ u. refuse u x) (written-held t g e))
 
     -- both in one, where the code looks at place k: the caller's, or any if there is no such station
-    pub step-at : (k : ℕ) → (within 1 (t .count) (c .station) ≡ true → k ≡ place c) → let w = judgeIn (t .count) (phaseOf (at t k .phase)) c in
-        stepOf t c ≡ record { table = store t k (recordAfter t k w); refusal = numberOf w; bytes = reportLines (c .line) 1 (handed t k w) }
-    unfolding recordAfter reportLines
+    pub step-at : (k : ℕ) → (within 1 (t .count) (c .station) ≡ true → k ≡ place c)
+        → stepOf t c ≡ answerAfter t k c (judgeIn (t .count) (phaseOf (at t k .phase)) c)
+    unfolding recordMade reportLines
     step-at k here = go (within 1 (t .count) (c .station)) refl
       where
-        go : (b : Bool) → within 1 (t .count) (c .station) ≡ b → let w = judgeIn (t .count) (phaseOf (at t k .phase)) c in
-            stepOf t c ≡ record { table = store t k (recordAfter t k w); refusal = numberOf w; bytes = reportLines (c .line) 1 (handed t k w) }
+        go : (b : Bool) → within 1 (t .count) (c .station) ≡ b → stepOf t c ≡ answerAfter t k c (judgeIn (t .count) (phaseOf (at t k .phase)) c)
         go true q = let i = within-true 1 (t .count) (c .station) q in rw (here q) (step-stores (omega arith))
         go false q =
             let s = judge-stranger (t .count) c q in
-            step-refused (s .0) (s .1 _) ∙ rw (s .1 (phaseOf (at t k .phase))) (ap (λ l. record { table = record { count = t .count; stations = l }; refusal = s .0; bytes = [] }) (sym (set-getD (t .stations) k _)))
+            step-refused (s .0) (s .1 _) ∙ rw (s .1 (phaseOf (at t k .phase))) (ap (λ l. refuse (record { count = t .count; stations = l }) (s .0)) (sym (set-getD (t .stations) k _)))
+
+    -- the arrays of the table that it leaves have their lengths again
+    pub step-shaped : Shaped (stepOf t c .table)
+    unfolding recordMade
+    step-shaped = subst (λ (a : Answer). Shaped (a .table)) (sym (step-at k (λ q. rw q refl)))
+        (store-shaped t k _ g (record-long (judgeIn (t .count) (phaseOf (at t k .phase)) c) (g .each k inside)))
+      where
+        k : ℕ
+        k = cond (within 1 (t .count) (c .station)) (place c) 0
+
+        inside : k < 32
+        inside = go (within 1 (t .count) (c .station)) refl
+          where
+            go : (b : Bool) → within 1 (t .count) (c .station) ≡ b → cond b (place c) 0 < 32
+            go true q = let i = within-true 1 (t .count) (c .station) q in omega (arith, high)
+            go false q = omega arith
+
+        record-long : (w : Move) → Long (at t k) → Long (recordAfter t k w)
+        record-long (Move.refused x) l = l
+        record-long (Move.begins j job Calls.Label) l = record { label = l .label; pending = l .pending; result = l .result }
+        record-long (Move.begins j job Calls.Scan) l = record { label = l .label; pending = l .pending; result = l .result }
+        record-long (Move.updates j) l = record { label = l .pending; pending = l .pending; result = l .result }
+        record-long (Move.snaps j Calls.Label) l = record { label = l .label; pending = pending-long t k (l .pending); result = l .result }
+        record-long (Move.snaps j Calls.Scan) l = record { label = l .label; pending = l .pending; result = scan-long t high }
+        record-long (Move.ends j o) l = record { label = l .label; pending = l .pending; result = l .result }
+
+-- REFUSALS: the number of a call is 13, or that of its move; if it is not 0 the call changes nothing and writes nothing
+module _ (t : Table) (c : Call) where
+  pub step-number : stepOf t c .refusal ≡ cond (wellFormed t) (numberOf (judge (t .count) (restOf t) c)) 13
+  unfolding stepOf step
+  step-number = go (wellFormed t)
+    where
+      go : (b : Bool) → (cond b (written (t .count) (step original (t .count) (digits (t .count)) (stateOf t) c)) (refuse t 13)) .refusal
+          ≡ cond b (numberOf (judge (t .count) (restOf t) c)) 13
+      go true = numbered _ (restOf t) (judge (t .count) (restOf t) c)
+      go false = refl
+
+  pub step-kept : Shaped t → stepOf t c .refusal ≢ 0 → stepOf t c ≡ refuse t (stepOf t c .refusal)
+  step-kept g d = go (wellFormed t) refl
+    where
+      go : (b : Bool) → wellFormed t ≡ b → stepOf t c ≡ refuse t (stepOf t c .refusal)
+      go true e =
+          let n : stepOf t c .refusal ≡ numberOf (judge (t .count) (restOf t) c) = step-number ∙ rw e refl in
+          step-refused t g e c _ (is-refused (judge (t .count) (restOf t) c) (λ z. d (n ∙ z))) ∙ ap (refuse t) (sym n)
+      go false e = let s : stepOf t c ≡ refuse t 13 = unfold stepOf in rw (e, stepOf) refl in s ∙ ap (refuse t) (sym (ap (λ a. a .refusal) s))

@@ -1,14 +1,16 @@
--- What a step makes of the calling station's record, of the refusal and of the report: contracts of the code, which works on single records, cite this.
--- Nothing to believe: proofs/Stores shows that it comes to `stepOf`.
-use Prim.Native.Nat.{ℕ}
+-- What a step stores in the calling station's record, and what it tells. The code works on single records, so its contracts cite this. Nobody has to
+-- believe it: proofs/Stores derives it from `stepOf`.
+use Prim.Native.Nat.{ℕ, _*_}
+use mathlib.Core.Bool.{Bool, true, false, cond}
 use mathlib.Core.List as Lists
 use mathlib.Core.List.{[]}
 use lib.ListN.{set}
 use Rattle.simulation.specs.Calls as Calls
-use Rattle.simulation.specs.Calls.{Move}
+use Rattle.simulation.specs.Calls.{Call, Move, reportLines}
 use Rattle.table.specs.Snaps.{pendingAfter, scanOf}
 use Rattle.table.specs.Tables.{at}
 use Rattle.transition.specs.States.{resultOf}
+use Rattle.transition.specs.Steps.{Answer}
 use Rattle.table.specs.declared.Entry.{Entry}
 use Rattle.table.specs.declared.Operation.the-variants.{Label, Scan}
 use Rattle.table.specs.declared.Phase.{Phase}
@@ -44,28 +46,44 @@ module _ (s : Station) where
     phase = End Label;
   }
 
--- the record at place k after a move of the station there
-unfoldable pub recordAfter : Table → ℕ → Move → Station
-recordAfter t k (Move.refused x) = at t k
-recordAfter t k (Move.begins j job Calls.Label) = begun (at t k) job
-recordAfter t k (Move.begins j job Calls.Scan) = inPhase (at t k) (Snap Scan)
-recordAfter t k (Move.updates j) = updated (at t k)
-recordAfter t k (Move.snaps j Calls.Label) = snapped (at t k) (pendingAfter t k)
-recordAfter t k (Move.snaps j Calls.Scan) = scanned (at t k) (scanOf t)
-recordAfter t k (Move.ends j o) = inPhase (at t k) Idle
+-- a record after a move of its station, where a snap finds this label to make pending, and this result to store
+unfoldable pub recordMade : Station → Lists.List ℕ → Lists.List Entry → Move → Station
+recordMade s new l (Move.refused x) = s
+recordMade s new l (Move.begins k job Calls.Label) = begun s job
+recordMade s new l (Move.begins k job Calls.Scan) = inPhase s (Snap Scan)
+recordMade s new l (Move.updates k) = updated s
+recordMade s new l (Move.snaps k Calls.Label) = snapped s new
+recordMade s new l (Move.snaps k Calls.Scan) = scanned s l
+recordMade s new l (Move.ends k o) = inPhase s Idle
 
--- the refusal number of a move, and the entries that it hands out
+-- the record at place k after a move of the station there
+abbrev pub recordAfter : Table → ℕ → Move → Station
+recordAfter t k w = recordMade (at t k) (pendingAfter t k) (scanOf t) w
+
+-- the refusal number of a move
 abbrev pub numberOf : Move → ℕ
 numberOf (Move.refused x) = x
-numberOf (Move.begins j job o) = 0
-numberOf (Move.updates j) = 0
-numberOf (Move.snaps j o) = 0
-numberOf (Move.ends j o) = 0
+numberOf (Move.begins k job o) = 0
+numberOf (Move.updates k) = 0
+numberOf (Move.snaps k o) = 0
+numberOf (Move.ends k o) = 0
 
+-- whether a move hands out its station's result, and how many bytes of report that makes, of n stations
+abbrev pub hands : Move → Bool
+hands (Move.refused x) = false
+hands (Move.begins k job o) = false
+hands (Move.updates k) = false
+hands (Move.snaps k o) = false
+hands (Move.ends k Calls.Label) = false
+hands (Move.ends k Calls.Scan) = true
+
+abbrev pub reportSize : ℕ → Move → ℕ
+reportSize n w = cond (hands w) (n * 29) 0
+
+-- the entries that a move of the station at place k hands out
 abbrev pub handed : Table → ℕ → Move → Lists.List Calls.Entry
-handed t k (Move.refused x) = []
-handed t k (Move.begins j job o) = []
-handed t k (Move.updates j) = []
-handed t k (Move.snaps j o) = []
-handed t k (Move.ends j Calls.Label) = []
-handed t k (Move.ends j Calls.Scan) = resultOf (t .count) (at t k .«scan_result»)
+handed t k w = cond (hands w) (resultOf (t .count) (at t k .«scan_result»)) []
+
+-- the answer to the call c, if it amounts to this move of the station at place k
+abbrev pub answerAfter : Table → ℕ → Call → Move → Answer
+answerAfter t k c w = record { table = store t k (recordAfter t k w); refusal = numberOf w; bytes = reportLines (c .line) 1 (handed t k w) }

@@ -1,6 +1,7 @@
 use native.Mathlib.Omega.{arith}
 use mathlib.Core.Path.{sym, ap, _∙_}
-use Rattle.moves.specs.Moves.{moveOf, recordMoved}
+use Rattle.transition.specs.Records.{recordMade}
+use Rattle.moves.specs.Moves.{moveOf}
 use Rattle.moves.specs.declared.Move.{Move}
 use borrow.Author.Needs.{needs}
 use Rattle.moves.proofs.moved.Statement.{statement}
@@ -13,7 +14,7 @@ enum-told-2 : tie.Need-enum-told-2
 enum-told-2 c = search needs
 
 cast-begun : tie.Need-cast-begun
-cast-begun c = omega (arith, c .before .before .pre (ap moveOf (c .enum-told2 .given .1)))
+cast-begun c = omega (arith, c .before .before .pre .1 (c .enum-told2 .given .1))
 
 begun-requires : tie.Need-begun-requires
 begun-requires c κs = search needs
@@ -49,36 +50,34 @@ in-phase-requires-3 : tie.Need-in-phase-requires-3
 in-phase-requires-3 c κs = search needs
 
 returns : tie.Need-returns
-unfolding recordMoved
-returns c = sym (ap (λ (m : Move). recordMoved (c .before .before .args .s) (c .before .before .args .job) (moveOf m)) (c .enum-told .given .1))
+unfolding recordMade
+returns c = λ k new l. sym (ap (λ (m : Move). recordMade (c .before .before .args .s) new l (moveOf k (c .before .before .args .job) m)) (c .enum-told .given .1))
 
 returns-2 : tie.Need-returns-2
-unfolding recordMoved
-returns-2 c = c .begun .ensures ∙ sym (ap (λ (m : Move). recordMoved (c .before .before .before .args .s) (c .before .before .before .args .job) (moveOf m)) (c .before .enum-told2 .given .1))
+unfolding recordMade
+returns-2 c = λ k new l. c .begun .ensures ∙ sym (ap (λ (m : Move). recordMade (c .before .before .before .args .s) new l (moveOf k (c .before .before .before .args .job) m)) (c .before .enum-told2 .given .1))
 
 returns-3 : tie.Need-returns-3
-unfolding recordMoved
-returns-3 c = c .in-phase .ensures ∙ sym (ap (λ (m : Move). recordMoved (c .before .before .before .args .s) (c .before .before .before .args .job) (moveOf m)) (c .before .enum-told3 .given .1))
+unfolding recordMade
+returns-3 c = λ k new l. c .in-phase .ensures ∙ sym (ap (λ (m : Move). recordMade (c .before .before .before .args .s) new l (moveOf k (c .before .before .before .args .job) m)) (c .before .enum-told3 .given .1))
 
 returns-4 : tie.Need-returns-4
-unfolding recordMoved
-returns-4 c = sym (ap (λ (m : Move). recordMoved (c .before .before .args .s) (c .before .before .args .job) (moveOf m)) (c .enum-told4 .given .1))
+returns-4 c = absurd (c .before .before .pre .0 .0 (c .enum-told4 .given .1))
 
 returns-5 : tie.Need-returns-5
-unfolding recordMoved
-returns-5 c = sym (ap (λ (m : Move). recordMoved (c .before .before .args .s) (c .before .before .args .job) (moveOf m)) (c .enum-told5 .given .1))
+returns-5 c = absurd (c .before .before .pre .0 .1 (c .enum-told5 .given .1))
 
 returns-6 : tie.Need-returns-6
-unfolding recordMoved
-returns-6 c = c .updated .ensures ∙ sym (ap (λ (m : Move). recordMoved (c .before .before .before .args .s) (c .before .before .before .args .job) (moveOf m)) (c .before .enum-told6 .given .1))
+unfolding recordMade
+returns-6 c = λ k new l. c .updated .ensures ∙ sym (ap (λ (m : Move). recordMade (c .before .before .before .args .s) new l (moveOf k (c .before .before .before .args .job) m)) (c .before .enum-told6 .given .1))
 
 returns-7 : tie.Need-returns-7
-unfolding recordMoved
-returns-7 c = c .in-phase2 .ensures ∙ sym (ap (λ (m : Move). recordMoved (c .before .before .before .args .s) (c .before .before .before .args .job) (moveOf m)) (c .before .enum-told7 .given .1))
+unfolding recordMade
+returns-7 c = λ k new l. c .in-phase2 .ensures ∙ sym (ap (λ (m : Move). recordMade (c .before .before .before .args .s) new l (moveOf k (c .before .before .before .args .job) m)) (c .before .enum-told7 .given .1))
 
 returns-8 : tie.Need-returns-8
-unfolding recordMoved
-returns-8 c = c .in-phase3 .ensures ∙ sym (ap (λ (m : Move). recordMoved (c .before .before .before .args .s) (c .before .before .before .args .job) (moveOf m)) (c .before .enum-told8 .given .1))
+unfolding recordMade
+returns-8 c = λ k new l. c .in-phase3 .ensures ∙ sym (ap (λ (m : Move). recordMade (c .before .before .before .args .s) new l (moveOf k (c .before .before .before .args .job) m)) (c .before .enum-told8 .given .1))
 
 pub moved-spec : {M : Type 1} → statement M
 moved-spec =
