@@ -1,12 +1,36 @@
--- Which moves take a snapshot, which write a report, and where a station's place is.
-use Prim.Native.Nat.{ℕ, _-_, _*_, _≤_, _<_}
+-- Which moves take a snapshot, and where a station's place is.
+use Prim.Native.Nat.{ℕ, _-_, _≤_, _<_}
 use native.Mathlib.Omega.{arith}
-use mathlib.Core.Path.{_≡_, refl}
+use mathlib.Core.Path.{_≡_, refl, sym, ap, subst, _∙_}
 use mathlib.Core.Logic.{_≢_}
 use mathlib.Core.Bool.{Bool, true, false, cond}
+use mathlib.Core.List as Lists
+use mathlib.Core.List.{[], _∷_}
+use types.Run.{OneOf, miss}
+use denote.Enum.Declared.{tagOf}
 use Rattle.label.specs.Tests.{within}
 use Rattle.label.proofs.Facts.{within-true}
-use Rattle.moves.specs.Moves.{placeOf}
+use Rattle.simulation.specs.Calls as Calls
+use Rattle.simulation.specs.Calls.{Call, judgeIn}
+use Rattle.simulation.proofs.Judged.{begin-fits, verdict}
+use Rattle.moves.specs.Moves.{moveOf, placeOf}
+use Rattle.moves.specs.declared.Move.{Move}
+use Rattle.moves.specs.declared.Move.the-variants.{BeginLabel, SnapLabel, SnapScan}
+use Rattle.moves.proofs.Move.{the-type}
+
+-- the tags of the moves that are no snap
+abbrev pub noSnap : Lists.List ℕ
+noSnap = 0 ∷ 1 ∷ 2 ∷ 5 ∷ 6 ∷ 7 ∷ []
+
+pub no-snap : (m : Move) → OneOf noSnap (tagOf the-type m) → (m ≢ SnapLabel) × (m ≢ SnapScan)
+no-snap m h = (
+  λ e. miss noSnap 3 tt (subst (λ (m : Move). OneOf noSnap (tagOf the-type m)) e h),
+  λ e. miss noSnap 4 tt (subst (λ (m : Move). OneOf noSnap (tagOf the-type m)) e h),
+)
+
+-- a label operation that is judged to begin has a job of 32 bits
+pub begun-job : (n : ℕ) (ph : Calls.Phase) (c : Call) (k : ℕ) (m : Move) → moveOf k (c .job) m ≡ judgeIn n ph c → m ≡ BeginLabel → c .job ≤ 4294967295
+begun-job n ph c k m h e = begin-fits (verdict n c ph) (sym h ∙ ap (moveOf k (c .job)) e)
 
 -- the place of a station that there is, and of one that there is not
 pub place-below : (n station : ℕ) → 2 ≤ n → placeOf n station < n

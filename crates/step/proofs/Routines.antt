@@ -7,10 +7,10 @@ use lib.ListN.{length, take}
 use lib.Seq.{take-at}
 use Rattle.label.specs.Tests.{All}
 use Rattle.simulation.specs.Machine as Machine
-use Rattle.simulation.specs.Machine.{runᵘ, Seen}
+use Rattle.simulation.specs.Machine.{Seen}
 use Rattle.table.specs.Tables.{freshTable}
 use Rattle.transition.specs.Steps.{stepOf}
-use Rattle.transition.specs.Demand.{run, seen, Demand3}
+use Rattle.transition.specs.Demand.{run, seen, unbounded, Demand3}
 use Rattle.step.specs.Contracts.{over, Steps}
 use Rattle.step.specs.Routines.{Made, callOf, Sequence, answered, RoutinesDemand}
 use Rattle.transition.proofs.Theorem as Theorem
@@ -55,12 +55,12 @@ pub routines-demand : (n : ℕ) → 2 ≤ n → n ≤ 32 → (xs : Lists.List Ma
 routines-demand n p q xs s = record {
   demand = d;
   same = same;
-  counted = sequence-counted (freshTable n) xs s ∙ same-counts n (λ x. seen (answered x)) xs (runᵘ n (Machine.fresh 0 n) (d .advances) (map callOf xs)) same;
+  counted = sequence-counted (freshTable n) xs s ∙ same-counts n (λ x. seen (answered x)) xs (unbounded n (d .advances) (map callOf xs)) same;
   kept = sequence-kept (freshTable n) xs s;
 }
   where
     d : Demand3 n (map callOf xs)
     d = Theorem.demand n p q (map callOf xs)
 
-    same : map (λ x. seen (answered x)) xs ≡ map (Machine.seen n) (runᵘ n (Machine.fresh 0 n) (d .advances) (map callOf xs))
+    same : map (λ x. seen (answered x)) xs ≡ map (Machine.seen n) (unbounded n (d .advances) (map callOf xs))
     same = sym (map-map seen answered xs) ∙ ap (map seen) (sequence-run (freshTable n) xs s) ∙ d .same

@@ -5,36 +5,24 @@ use mathlib.Core.Logic.{_≢_}
 use mathlib.Core.Bool.{cond}
 use mathlib.Core.List as Lists
 use mathlib.Core.List.{[], _++_}
-use lib.ListN.{length, take, drop}
+use lib.ListN.{length, drop}
 use lib.Dec.{eqb}
 use Rattle.simulation.specs.Calls as Calls
 use Rattle.simulation.specs.Calls.{Call, reportLines}
-use Rattle.table.specs.Tables.{at, store, pendingAfter, scanOf}
-use Rattle.transition.specs.Steps.{snapped, scanned, stepOf}
-use Rattle.moves.specs.Moves.{refusalNumber, recordMoved}
-use Rattle.table.specs.declared.Entry.{Entry}
-use Rattle.table.specs.declared.Station.{Station}
+use Rattle.transition.specs.States.{resultOf}
+use Rattle.transition.specs.Steps.{stepOf}
+use Rattle.transition.specs.Records.{store}
+use Rattle.moves.specs.Moves.{refusalNumber}
 use Rattle.table.specs.declared.Table.{Table}
 use Rattle.step.specs.declared.Decision.{Decision}
 use Rattle.step.specs.declared.Reply.{Reply}
-
--- the record at place k after a move
-unfoldable pub recordAfter : Table → ℕ → ℕ → Calls.Move → Station
-recordAfter t k job (Calls.Move.refused r) = recordMoved (at t k) job (Calls.Move.refused r)
-recordAfter t k job Calls.Move.beginsLabel = recordMoved (at t k) job Calls.Move.beginsLabel
-recordAfter t k job Calls.Move.beginsScan = recordMoved (at t k) job Calls.Move.beginsScan
-recordAfter t k job Calls.Move.snapsLabel = snapped (at t k) (pendingAfter t k)
-recordAfter t k job Calls.Move.snapsScan = scanned (at t k) (scanOf t)
-recordAfter t k job Calls.Move.updates = recordMoved (at t k) job Calls.Move.updates
-recordAfter t k job Calls.Move.endsLabel = recordMoved (at t k) job Calls.Move.endsLabel
-recordAfter t k job Calls.Move.endsScan = recordMoved (at t k) job Calls.Move.endsScan
 
 -- the buffer with the bytes at its front, the rest kept
 abbrev pub over : Lists.List ℕ → Lists.List ℕ → Lists.List ℕ
 over bytes buffer = bytes ++ drop (length bytes) buffer
 
 -- the report lines that are due, if bytes are to be written at all
-abbrev pub due : ℕ → ℕ → Lists.List Entry → Lists.List ℕ
+abbrev pub due : ℕ → ℕ → Lists.List Calls.Entry → Lists.List ℕ
 due written line l = cond (eqb written 0) [] (reportLines line 1 l)
 
 -- the decision d on the call c: what it stores and what it reports make the answer of `stepOf`
@@ -43,7 +31,7 @@ pub record Decides (t : Table) (c : Call) (d : Decision) : Type 0 where
   pub inside : d .place < 32
   pub table : store t (d .place) (d .«record») ≡ stepOf t c .table
   pub written : d .written ≡ length (stepOf t c .bytes)
-  pub bytes : stepOf t c .bytes ≡ due (d .written) (c .line) (take (t .count) (d .«record» .«scan_result»))
+  pub bytes : stepOf t c .bytes ≡ due (d .written) (c .line) (resultOf (t .count) (d .«record» .«scan_result»))
   pub fits : d .written ≢ 0 → t .count * 29 ≤ c .room
 
 -- the call c on the table t with this report buffer: the table left, the reply, and the buffer left, all of it from `stepOf`

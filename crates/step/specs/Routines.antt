@@ -7,9 +7,8 @@ use lib.ListN.{length, take}
 use Rattle.label.specs.Tests.{All}
 use Rattle.simulation.specs.Calls.{Call}
 use Rattle.simulation.specs.Machine as Machine
-use Rattle.simulation.specs.Machine.{runᵘ}
 use Rattle.transition.specs.Steps.{Answer}
-use Rattle.transition.specs.Demand.{seen, Demand3}
+use Rattle.transition.specs.Demand.{seen, unbounded, Demand3}
 use Rattle.moves.specs.Moves.{refusalNumber, called}
 use Rattle.step.specs.Contracts.{over, Steps}
 use Rattle.table.specs.declared.Table.{Table}
@@ -41,6 +40,6 @@ answered x = record { table = x .table; refusal = refusalNumber (x .reply .refus
 -- keeps what was not written
 pub record RoutinesDemand (n : ℕ) (xs : Lists.List Made) : Type 0 where
   pub demand : Demand3 n (map callOf xs)
-  pub same : map (λ x. seen (answered x)) xs ≡ map (Machine.seen n) (runᵘ n (Machine.fresh 0 n) (demand .advances) (map callOf xs))
-  pub counted : map (λ x. x .reply .written) xs ≡ map (λ a. length (a .bytes)) (runᵘ n (Machine.fresh 0 n) (demand .advances) (map callOf xs))
+  pub same : map (λ x. seen (answered x)) xs ≡ map (Machine.seen n) (unbounded n (demand .advances) (map callOf xs))
+  pub counted : map (λ x. x .reply .written) xs ≡ map (λ a. length (a .bytes)) (unbounded n (demand .advances) (map callOf xs))
   pub kept : All (λ x. x .buffer′ ≡ over (answered x .bytes) (x .buffer)) xs

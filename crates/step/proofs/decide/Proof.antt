@@ -1,12 +1,11 @@
+use Prim.Native.Nat.{_<_}
 use native.Mathlib.Omega.{arith}
-use mathlib.Core.Path.{refl, sym, _∙_}
-use Rattle.simulation.specs.Calls.{judge}
+use mathlib.Core.Path.{refl}
 use Rattle.table.proofs.Orders.{passed}
-use Rattle.table.proofs.Owned.{record-read, results-long}
+use Rattle.table.proofs.Owned.{record-read, shaped}
 use Rattle.moves.specs.Moves.{called}
-use Rattle.moves.proofs.MoveLaws.{place-below}
+use Rattle.moves.proofs.MoveLaws.{begun-job, place-below}
 use Rattle.step.proofs.StepLaws.{judged, decide-law}
-use Rattle.simulation.proofs.Judged.{accepted-own}
 use borrow.Author.Needs.{needs}
 use Rattle.step.proofs.decide.Statement.{statement}
 use Rattle.step.proofs.decide.Tie as tie
@@ -28,27 +27,27 @@ refusal-of-requires c κs = search needs
 
 record-after-requires : tie.Need-record-after-requires
 record-after-requires c κs =
-    let t = c .before .before .before .before .args .t1 in
     let a = c .before .before .before .before .args in
-    let p = passed t (c .before .before .before .before .pre) in
-    (c .before .before .before .before .pre, (omega (arith, c .before .before .before .place-of .ensures, place-below (c .before .before .before .before .args .t1 .count) (c .before .before .before .before .args .station) (passed (c .before .before .before .before .args .t1) (c .before .before .before .before .pre) .low)), λ e. accepted-own _ _ (called 0 (a .code) (a .station) (a .job) (a .room)) _ (sym (c .before .judge .ensures) ∙ e) tt .job))
+    let ok = c .before .before .before .before .pre in
+    let k = c .before .before .before .place-of in
+    let inside = place-below (a .t1 .count) (a .station) (passed (a .t1) ok .low) in
+    (ok, (omega (arith, k .ensures, inside), begun-job _ _ (called 0 (a .code) (a .station) (a .job) (a .room)) _ (c .before .judge .result) (c .before .judge .ensures 0)))
 
 report-size-requires : tie.Need-report-size-requires
 report-size-requires c κs = passed (c .before .before .before .before .before .args .t1) (c .before .before .before .before .before .pre) .high
 
 returns : tie.Need-returns
 returns c =
-    let t = c .before .before .before .before .before .before .args .t1 in
-    let a = c .before .before .before .before .before .before .args in
-    let own = c .before .before .before .before .before .before .good .0 in
+    let s = c .before .before .before .before .before .before in
+    let t = s .args .t1 in
     let k = c .before .before .before .before .before .place-of in
-    let ok = c .before .before .before .before .before .before .pre in
-    let p = passed t ok in
-    let h = place-below (t .count) (a .station) (p .low) in
-    let read = record-read (λ s. s .phase) t _ own (k .result) refl (omega (arith, k .ensures, h, p .high)) in
-    decide-law t _ _ _ _ _ _ (k .ensures) (omega (arith, results-long t _ own (k .result) (omega (arith, k .ensures, h, p .high)), p .high))
-    (c .before .before .refusal-of .ensures) (c .before .record-after .ensures) (c .report-size .ensures)
-    (judged t ok _ _ _ _ _ _ _ (k .ensures) read (c .before .before .before .judge .ensures))
+    let judge = c .before .before .before .judge in
+    let p = passed t (s .pre) in
+    let g = shaped t _ (s .good .0) in
+    let inside : k .result < 32 = omega (arith, k .ensures, place-below (t .count) (s .args .station) (p .low), p .high) in
+    decide-law t (s .pre) _ _ _ _ _ _ (k .ensures) (omega (arith, g .each (k .result) inside .result, p .high))
+    (c .before .before .refusal-of .ensures _ _) (c .before .record-after .ensures) (c .report-size .ensures _ _)
+    (judged t g (s .pre) _ _ _ _ (k .result) _ (judge .result) (k .ensures) (record-read (λ s. s .phase) t _ (s .good .0) (k .result) refl inside) (judge .ensures))
 
 pub decide-spec : {M : Type 1} → statement M
 decide-spec =

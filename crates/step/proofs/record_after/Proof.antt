@@ -1,11 +1,13 @@
 use native.Mathlib.Omega.{arith}
-use mathlib.Core.Path.{ap}
+use mathlib.Core.Path.{ap, _∙_}
 use Rattle.table.specs.Tables.{at}
+use Rattle.table.specs.Snaps.{pendingAfter, scanOf}
+use Rattle.table.specs.declared.Station.{Station}
 use Rattle.table.proofs.Orders.{passed}
-use Rattle.transition.specs.Steps.{snapped, scanned}
-use Rattle.step.specs.Contracts.{recordAfter}
+use Rattle.transition.specs.Records.{snapped, scanned, recordMade}
+use Rattle.moves.specs.Moves.{moveOf}
 use Rattle.moves.proofs.MoveLaws.{no-snap}
-use Rattle.step.proofs.StepLaws.{station-at, record-moved, moved-made}
+use Rattle.step.proofs.StepLaws.{station-at, record-moved}
 use Rattle.moves.specs.declared.Move.the-variants.{SnapLabel, SnapScan}
 use borrow.Author.Needs.{needs}
 use Rattle.step.proofs.record_after.Statement.{statement}
@@ -36,10 +38,10 @@ scanned-requires : tie.Need-scanned-requires
 scanned-requires c κs = search needs
 
 moved-requires : tie.Need-moved-requires
-moved-requires c κs = search needs
+moved-requires c κs = (no-snap (c .before .before .args .m) (c .match .keys3), c .before .before .pre .1 .1)
 
 returns : tie.Need-returns
-unfolding recordAfter
+unfolding recordMade
 returns c =
     let args = c .before .before .before .before .before .args in
     let pre = c .before .before .before .before .before .pre in
@@ -47,7 +49,7 @@ returns c =
     record-moved (λ s. snapped s (c .before .pending-after .result)) SnapLabel (args .t1) (args .k) _ _ (c .snapped .ensures) stands (ap (snapped (at (args .t1) (args .k))) (c .before .pending-after .ensures)) (c .before .before .enum-told .given .1)
 
 returns-2 : tie.Need-returns-2
-unfolding recordAfter
+unfolding recordMade
 returns-2 c =
     let args = c .before .before .before .before .before .args in
     let pre = c .before .before .before .before .before .pre in
@@ -55,12 +57,11 @@ returns-2 c =
     record-moved (λ s. scanned s (c .before .scan .result)) SnapScan (args .t1) (args .k) _ _ (c .scanned .ensures) stands (ap (scanned (at (args .t1) (args .k))) (c .before .scan .ensures)) (c .before .before .enum-told2 .given .1)
 
 returns-3 : tie.Need-returns-3
-unfolding recordAfter
 returns-3 c =
     let args = c .before .before .before .args in
     let pre = c .before .before .before .pre in
-    let other = no-snap (args .m) (c .before .match .keys3) in
-    moved-made (args .t1) (args .k) (args .job) _ _ (c .moved .ensures) (station-at (args .t1) _ (c .before .before .before .good .0) (pre .0) (args .k) (pre .1 .0) _) (other .0) (other .1)
+    let stands = station-at (args .t1) _ (c .before .before .before .good .0) (pre .0) (args .k) (pre .1 .0) _ in
+    c .moved .ensures (args .k) _ _ ∙ ap (λ (s : Station). recordMade s (pendingAfter (args .t1) (args .k)) (scanOf (args .t1)) (moveOf (args .k) (args .job) (args .m))) stands
 
 pub record-after-spec : {M : Type 1} → statement M
 record-after-spec =

@@ -4,15 +4,16 @@ use borrow.Author.Needs.{needs}
 use mathlib.Core.Path.{_≡_, refl, _∙_}
 use Prim.Native.Nat.{_+_, _*_, _≤_, _-_}
 use native.Mathlib.Omega.{arith}
-use lib.ListN.{length, take, length-take, length-drop}
+use lib.ListN.{length, length-take, length-drop}
 use Rattle.simulation.specs.Calls.{reportLines}
+use Rattle.transition.specs.States.{resultOf}
 use Rattle.step.specs.Contracts.{over}
 use Rattle.step.proofs.ReportLaws.{one-line-more}
 use Rattle.step.proofs.write_result.Statement.{statement}
 use Rattle.step.proofs.write_result.Tie as tie
 
 abbrev Inv-loop : tie.InvT-loop
-Inv-loop n line out₀ result k₀ out k = (k ≤ n) × (length out ≡ length out₀) × (out ≡ over (reportLines line 1 (take k result)) out₀)
+Inv-loop n line out₀ result k₀ out k = (k ≤ n) × (length out ≡ length out₀) × (out ≡ over (reportLines line 1 (resultOf k result)) out₀)
 
 abbrev μ-loop : tie.MeasureT-loop
 μ-loop n line out₀ result k₀ out k = n - k
