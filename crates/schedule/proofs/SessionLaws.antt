@@ -14,10 +14,12 @@ use Rattle.columns.specs.Reading.{columnRead}
 use Rattle.columns.specs.declared.Column.{Column}
 use Rattle.columns.specs.declared.Column.the-variants.{Value, Bad}
 use Rattle.simulation.specs.Calls.{Call}
-use Rattle.table.specs.Tables.{store, freshTable}
+use Rattle.table.specs.Tables.{freshTable}
 use Rattle.table.specs.WellFormed.{wellFormed}
+use Rattle.transition.specs.States.{resultOf}
 use Rattle.transition.specs.Steps.{stepOf}
-use Rattle.transition.proofs.Reachable.{Reached, reached-passes, stepped-reached}
+use Rattle.transition.specs.Records.{store}
+use Rattle.transition.proofs.ReachedTables.{ReachedTable, table-passes, table-step}
 use Rattle.moves.specs.Moves.{refusalNumber, called}
 use Rattle.step.specs.Contracts.{due, over, Decides}
 use Rattle.schedule.specs.Lines.{stepRead, lineRead}
@@ -61,7 +63,7 @@ module _ (s : Session) (line : Lists.List ℕ) (room : ℕ) where
 -- the decision on a step line, its record stored and its report written
 pub step-served : (s : Session) (station code job : ℕ) (d : Decision) (buffer buffer′ : Lists.List ℕ)
     → Decides (s .table) (called (s .lines + 1) code station job (length buffer)) d
-    → buffer′ ≡ over (due (d .written) (s .lines + 1) (take (s .table .count) (d .«record» .«scan_result»))) buffer
+    → buffer′ ≡ over (due (d .written) (s .lines + 1) (resultOf (s .table .count) (d .«record» .«scan_result»))) buffer
     → Serves (stepLine s (length buffer) (Step station code job))
     (record { session = session (s .lines + 1) (s .refusal) (store (s .table) (d .place) (d .«record»)); reply = record { refusal = d .refusal; written = d .written } }) buffer buffer′
 step-served s station code job d buffer buffer′ D e = record {
@@ -102,18 +104,18 @@ next-numbered lines l = go (ltb 1000000 lines)
 
 pub record Live (s : Session) : Type 0 where
   pub going : s .refusal ≡ Accepted
-  pub reached : Reached (s .table)
+  pub reached : ReachedTable (s .table)
 
 module _ (s : Session) (v : Live s) where
   pub live-final : isFinal s ≡ false
   live-final = ap (λ (r : Refusal). not (eqb (refusalNumber r) 0)) (v .going)
 
   pub live-serve : (l : Lists.List ℕ) (room : ℕ) → serveOf s l room ≡ stepLine s room (nextLine (s .lines) l)
-  live-serve l room = serve-next s l room (ap refusalNumber (v .going)) (reached-passes (s .table) (v .reached)) (nextLine (s .lines) l) refl
+  live-serve l room = serve-next s l room (ap refusalNumber (v .going)) (table-passes (s .table) (v .reached)) (nextLine (s .lines) l) refl
 
 -- a step keeps the session live
 pub next-live : (s : Session) → Live s → (c : Call) (lines : ℕ) → Live (session lines (s .refusal) (stepOf (s .table) c .table))
-next-live s v c lines = record { going = v .going; reached = stepped-reached (s .table) (v .reached) c }
+next-live s v c lines = record { going = v .going; reached = table-step (s .table) (v .reached) c }
 
 -- THE HEADER
 

@@ -9,11 +9,10 @@ use lib.ListN.{length, take, drop}
 use Rattle.label.specs.Tests.{All}
 use Rattle.simulation.specs.Calls.{Call}
 use Rattle.simulation.specs.Machine as Machine
-use Rattle.simulation.specs.Machine.{runᵘ}
 use Rattle.table.specs.Tables.{freshTable}
 use Rattle.transition.specs.Steps.{stepOf}
-use Rattle.transition.specs.Demand.{run, seen, Demand3}
-use Rattle.transition.proofs.Reachable.{reached-fresh}
+use Rattle.transition.specs.Demand.{run, seen, unbounded, Demand3}
+use Rattle.transition.proofs.ReachedTables.{table-fresh}
 use Rattle.transition.proofs.Theorem as Theorem
 use Rattle.moves.specs.Moves.{refusalNumber, called}
 use Rattle.step.specs.Contracts.{over}
@@ -81,7 +80,7 @@ pub session-demand : (header : Lists.List ℕ) → isFinal (headerOf header) ≡
 session-demand header e xs q = record {
   demand = d;
   same = same;
-  counted = r .counts ∙ same-counts n (λ x. seen (answered x)) (steps xs) (runᵘ n (Machine.fresh 0 n) (d .advances) calls) same;
+  counted = r .counts ∙ same-counts n (λ x. seen (answered x)) (steps xs) (unbounded n (d .advances) calls) same;
   kept = sequence-kept (headerOf header) xs q;
   final = r .final;
 }
@@ -99,7 +98,7 @@ session-demand header e xs q = record {
     d = Theorem.demand n (o .low) (o .high) calls
 
     r : Reads (session 1 Accepted (freshTable n)) xs calls (ending 1 xs)
-    r = reads xs (session 1 Accepted (freshTable n)) (record { going = refl; reached = reached-fresh n (o .low) (o .high) }) (subst (λ (z : Session). Sequence z xs) (o .made) q)
+    r = reads xs (session 1 Accepted (freshTable n)) (record { going = refl; reached = table-fresh n (o .low) (o .high) }) (subst (λ (z : Session). Sequence z xs) (o .made) q)
 
-    same : map (λ x. seen (answered x)) (steps xs) ≡ map (Machine.seen n) (runᵘ n (Machine.fresh 0 n) (d .advances) calls)
+    same : map (λ x. seen (answered x)) (steps xs) ≡ map (Machine.seen n) (unbounded n (d .advances) calls)
     same = sym (map-map seen answered (steps xs)) ∙ ap (map seen) (r .answers) ∙ d .same

@@ -8,10 +8,9 @@ use lib.ListN.{length, take, drop}
 use Rattle.label.specs.Tests.{All}
 use Rattle.simulation.specs.Calls.{Call}
 use Rattle.simulation.specs.Machine as Machine
-use Rattle.simulation.specs.Machine.{runᵘ}
 use Rattle.table.specs.Tables.{freshTable}
 use Rattle.transition.specs.Steps.{Answer}
-use Rattle.transition.specs.Demand.{seen, Demand3}
+use Rattle.transition.specs.Demand.{seen, unbounded, Demand3}
 use Rattle.moves.specs.Moves.{refusalNumber, called}
 use Rattle.step.specs.Contracts.{over}
 use Rattle.schedule.specs.Sessions.{session, nextLine, serveOf}
@@ -83,7 +82,7 @@ pub record Stays (z : Session) (x : Made) : Type 0 where
 -- sees of them, and their replies count the bytes that it writes; every buffer keeps what was not written; and all other calls meet the final refusal
 pub record SessionDemand (n : ℕ) (xs : Lists.List Made) : Type 0 where
   pub demand : Demand3 n (stepCalls 1 xs)
-  pub same : map (λ x. seen (answered x)) (steps xs) ≡ map (Machine.seen n) (runᵘ n (Machine.fresh 0 n) (demand .advances) (stepCalls 1 xs))
-  pub counted : map (λ x. x .served .reply .written) (steps xs) ≡ map (λ a. length (a .bytes)) (runᵘ n (Machine.fresh 0 n) (demand .advances) (stepCalls 1 xs))
+  pub same : map (λ x. seen (answered x)) (steps xs) ≡ map (Machine.seen n) (unbounded n (demand .advances) (stepCalls 1 xs))
+  pub counted : map (λ x. x .served .reply .written) (steps xs) ≡ map (λ a. length (a .bytes)) (unbounded n (demand .advances) (stepCalls 1 xs))
   pub kept : All (λ x. x .buffer′ ≡ over (answered x .bytes) (x .buffer)) xs
   pub final : All (Stays (ended (left (session 1 Accepted (freshTable n)) (steps xs)) (ending 1 xs))) (rest xs)
