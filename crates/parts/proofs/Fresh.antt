@@ -11,7 +11,7 @@ use Rattle.label.specs.Tests.{tabulate}
 use Rattle.label.proofs.Facts.{getD-tabulate, tabulate-same, replicate-tabulate}
 use Rattle.table.specs.Results.{entry, blank, freshEntry}
 use Rattle.table.specs.Tables.{freshStation, freshTable}
-use Rattle.parts.specs.Parts.{phaseOf, entries, stationAt, assembled, freshRow, freshParts, Sized}
+use Rattle.parts.specs.Parts.{phaseFor, entries, stationAt, assembled, freshRow, freshParts, Sized}
 use Rattle.table.specs.declared.Station.{Station}
 
 -- a row that repeats one element
@@ -41,7 +41,7 @@ fresh-parts n = ap (λ (s : Lists.List Station). record { count = n; stations = 
       «pending_job» = repeated 32 0 0 q l i;
       «scan_result» = (ap (λ (r : Lists.List ℕ). entries r (getD (replicate 32 (replicate 32 0)) q [])) (repeated 32 (freshRow n) [] q l)
           ∙ ap (entries (freshRow n)) (repeated 32 (replicate 32 0) [] q l) ∙ fresh-entries n) i;
-      phase = phaseOf (repeated 32 0 0 q l i);
+      phase = phaseFor (repeated 32 0 0 q l i);
     }
 
 pub fresh-sized : (n : ℕ) → Sized (freshParts n)

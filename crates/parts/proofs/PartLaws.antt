@@ -5,13 +5,12 @@ use native.Mathlib.Omega.{arith}
 use native.Mathlib.Decide.{ℕ-discrete}
 use mathlib.Core.Path.{_≡_, refl, sym, ap, ap₂, subst, _∙_}
 use mathlib.Core.Logic.{_≢_, _⊎_, inl, inr, ⊎-elim, by-cases}
-use mathlib.Core.Bool.{Bool, true, false, cond}
+use mathlib.Core.Bool.{Bool, true, false, cond, true≢false}
 use mathlib.Core.List as Lists
 use mathlib.Core.List.{[], _++_}
 use lib.ListN.{length, getD, set, take, length-set}
 use lib.Seq.{set-getD, getD-set-same, getD-set-other}
 use lib.Dec.{ltb}
-use borrow.Author.Tests.{ne-eqb}
 use borrow.Rule.Slice.PartMut.{putMid}
 use Rattle.columns.specs.Columns.{lineHead, lineTail, reportLine}
 use Rattle.label.specs.Tests.{tabulate}
@@ -21,25 +20,30 @@ use Rattle.label.proofs.Filled.{filled, filled-none, filled-more}
 use Rattle.rows.specs.Held.{standsIn, Orderly, pendingIn}
 use Rattle.rows.proofs.OrderLaws.{order-front, order-long}
 use Rattle.simulation.specs.Calls as Calls
-use Rattle.simulation.specs.Calls.{judge, numberOf, reportLines}
-use Rattle.simulation.proofs.Judged.{accepted-own}
-use Rattle.table.specs.Results.{entry, blank, stored}
-use Rattle.table.specs.Tables.{at, store, scanOf}
+use Rattle.simulation.specs.Calls.{Call, judgeIn, reportLines}
+use Rattle.table.specs.Results.{entry, blank}
+use Rattle.table.specs.Snaps.{stored, scanOf}
+use Rattle.table.specs.Tables.{at}
 use Rattle.table.specs.WellFormed.{wellFormed}
 use Rattle.table.proofs.ResultLaws.{stored-turns}
 use Rattle.table.proofs.Orders.{passed}
 use Rattle.table.proofs.Gathered.{Held, HeldJobs, rows-orderly, rows-scan, rows-pending}
-use Rattle.transition.specs.Steps.{inPhase, begun, snapped, scanned, updated, stepOf}
-use Rattle.moves.specs.Moves.{refusalNumber, recordMoved, called, reportSize, placeOf}
-use Rattle.step.specs.Contracts.{recordAfter, due, over, Steps}
-use Rattle.moves.proofs.MoveLaws.{place-below}
+use Rattle.table.proofs.Shapes.{Shaped}
+use Rattle.transition.specs.States.{phaseOf, resultOf}
+use Rattle.transition.specs.Steps.{stepOf}
+use Rattle.transition.specs.Records.{store, inPhase, begun, snapped, scanned, updated, recordMade, recordAfter, numberOf, hands, reportSize, handed, answerAfter}
+use Rattle.moves.specs.Moves.{refusalNumber, moveOf, called, placeOf}
+use Rattle.step.specs.Contracts.{over, Steps}
+use Rattle.moves.proofs.MoveLaws.{begun-job, place-below}
 use Rattle.step.proofs.StepLaws.{Made, judged, report-long}
 use Rattle.step.proofs.ReportLaws.{one-line-more}
-use Rattle.parts.specs.Parts.{Parts, parts, phaseOf, entries, recordOf, stationAt, assembled, Sized, orderOf, Carries}
+use Rattle.parts.specs.Parts.{Parts, parts, phaseFor, entries, recordOf, stationAt, assembled, Sized, orderOf, isUpdate, Carries}
 use Rattle.table.specs.declared.Entry.{Entry}
 use Rattle.table.specs.declared.Phase.{Phase}
 use Rattle.table.specs.declared.Phase.the-variants.{Idle}
 use Rattle.moves.specs.declared.Refusal.the-variants.{Accepted}
+use Rattle.moves.specs.declared.Move.{Move}
+use Rattle.moves.specs.declared.Move.the-variants.{BeginLabel}
 use Rattle.table.specs.declared.Station.{Station}
 use Rattle.table.specs.declared.Table.{Table}
 use Rattle.step.specs.declared.Reply.{Reply}
@@ -144,8 +148,8 @@ ordered-entries n order jobs stations results h long e f = tabulate-same 32 0 _ 
 
 -- the report line of entry k, made with the head of all of them, put behind the k lines before it
 pub one-row-more : (line : ℕ) (stations jobs : Lists.List ℕ) (k : ℕ) (head out buffer x : Lists.List ℕ) → k < 32 → head ≡ lineHead line 0
-    → out ≡ over (reportLines line 1 (take k (entries stations jobs))) buffer → x ≡ head ++ lineTail (k + 1) (getD stations k 0) (getD jobs k 0)
-    → putMid (k * 29) (k * 29 + 29 - k * 29) out x ≡ over (reportLines line 1 (take (k + 1) (entries stations jobs))) buffer
+    → out ≡ over (reportLines line 1 (resultOf k (entries stations jobs))) buffer → x ≡ head ++ lineTail (k + 1) (getD stations k 0) (getD jobs k 0)
+    → putMid (k * 29) (k * 29 + 29 - k * 29) out x ≡ over (reportLines line 1 (resultOf (k + 1) (entries stations jobs))) buffer
 unfolding reportLine entries
 one-row-more line stations jobs k head out buffer x h d o e =
     let f : ℕ → Entry = λ q. entry (getD stations q 0) (getD jobs q 0) in
@@ -178,14 +182,13 @@ module _ (p : Parts) (z : Sized p) (ok : wellFormed (assembled p) ≡ true) wher
   parts-orderly = rows-orderly t held-parts ok
 
   -- a move w that stores these parts at place k
-  pub carried : (k job : ℕ) (w : Calls.Move) (line : ℕ) (buffer : Lists.List ℕ) (p′ : Parts) (r : Reply) (buffer′ : Lists.List ℕ) → k < p .count
-      → (l : Lists.List ℕ) (j : ℕ) (wl : Lists.List ℕ) (v : ℕ) (e f : Lists.List ℕ) (b : ℕ) → p′ ≡ putAll p k l j wl v e f b → recordOf l j wl v e f b ≡ recordAfter t k job w
-      → (b ≤ 5) ⊎ (b ≡ getD (p .phases) k 0) → (w ≢ Calls.Move.updates → l ≡ getD (p .labels) k [])
+  pub carried : (k : ℕ) (w : Calls.Move) (line : ℕ) (buffer : Lists.List ℕ) (p′ : Parts) (r : Reply) (buffer′ : Lists.List ℕ) → k < p .count
+      → (l : Lists.List ℕ) (j : ℕ) (wl : Lists.List ℕ) (v : ℕ) (e f : Lists.List ℕ) (b : ℕ) → p′ ≡ putAll p k l j wl v e f b → recordOf l j wl v e f b ≡ recordAfter t k w
+      → (b ≤ 5) ⊎ (b ≡ getD (p .phases) k 0) → (isUpdate w ≡ false → l ≡ getD (p .labels) k [])
       → refusalNumber (r .refusal) ≡ numberOf w → r .written ≡ reportSize (p .count) w
-      → buffer′ ≡ over (due (reportSize (p .count) w) line (take (p .count) (recordAfter t k job w .«scan_result»))) buffer
-      → Carries p k job w line buffer p′ r buffer′
+      → buffer′ ≡ over (reportLines line 1 (handed t k w)) buffer → Carries p k w line buffer p′ r buffer′
   unfolding assembled
-  carried k job w line buffer p′ r buffer′ h l j wl v e f b q a low same n m o =
+  carried k w line buffer p′ r buffer′ h l j wl v e f b q a low same n m o =
       let high : k < 32 = omega (arith, passed t ok .high) in
       record {
         table = ap assembled q ∙ put-law p z k high l j wl v e f b ∙ ap (store t k) a;
@@ -207,9 +210,9 @@ module _ (p : Parts) (z : Sized p) (ok : wellFormed (assembled p) ≡ true) wher
     unfolding assembled
     here = at-part p k (omega (arith, passed t ok .high))
 
-    pub carries-refused : (x : ℕ) → refusalNumber (r .refusal) ≡ x → r .written ≡ 0 → Carries p k job (Calls.Move.refused x) line buffer p r buffer
-    unfolding recordAfter recordMoved
-    carries-refused x e f = carried k job (Calls.Move.refused x) line buffer p r buffer h
+    pub carries-refused : (x : ℕ) → refusalNumber (r .refusal) ≡ x → r .written ≡ 0 → Carries p k (Calls.Move.refused x) line buffer p r buffer
+    unfolding recordMade reportLines
+    carries-refused x e f = carried k (Calls.Move.refused x) line buffer p r buffer h
         (K (p .labels) []) (K (p .jobs) 0) (K (p .pendingLabels) []) (K (p .pendingJobs) 0) (K (p .resultStations) []) (K (p .resultJobs) []) (K (p .phases) 0)
         (λ i. parts (p .count) (keep (p .labels) k [] i) (keep (p .jobs) k 0 i) (keep (p .pendingLabels) k [] i) (keep (p .pendingJobs) k 0 i) (keep (p .resultStations) k [] i) (keep (p .resultJobs) k [] i) (keep (p .phases) k 0 i))
         (sym here) (inr refl) (λ _. refl) e f refl
@@ -218,36 +221,36 @@ module _ (p : Parts) (z : Sized p) (ok : wellFormed (assembled p) ≡ true) wher
       no : refusalNumber (r .refusal) ≡ 0
       no = ap refusalNumber (done .0)
 
-      pub carries-begin-label : Carries p k job Calls.Move.beginsLabel line buffer
+      pub carries-begin-label : Carries p k (Calls.Move.begins k job Calls.Label) line buffer
           (parts (p .count) (p .labels) (p .jobs) (p .pendingLabels) (set (p .pendingJobs) k job) (p .resultStations) (p .resultJobs) (set (p .phases) k 1)) r buffer
-      unfolding recordAfter recordMoved
-      carries-begin-label = carried k job Calls.Move.beginsLabel line buffer _ r buffer h
+      unfolding recordMade reportLines
+      carries-begin-label = carried k (Calls.Move.begins k job Calls.Label) line buffer _ r buffer h
           (K (p .labels) []) (K (p .jobs) 0) (K (p .pendingLabels) []) job (K (p .resultStations) []) (K (p .resultJobs) []) 1
           (λ i. parts (p .count) (keep (p .labels) k [] i) (keep (p .jobs) k 0 i) (keep (p .pendingLabels) k [] i) (set (p .pendingJobs) k job) (keep (p .resultStations) k [] i) (keep (p .resultJobs) k [] i) (set (p .phases) k 1))
           (ap (λ (s : Station). begun s job) (sym here)) (inl (omega arith)) (λ _. refl) no (done .1) refl
 
       -- a move that only changes the phase
-      pub carries-phase : (w : Calls.Move) (b : ℕ) → b ≤ 5 → inPhase (at t k) (phaseOf b) ≡ recordAfter t k job w → numberOf w ≡ 0 → reportSize (p .count) w ≡ 0 → Carries p k job w line buffer
+      pub carries-phase : (w : Calls.Move) (b : ℕ) → b ≤ 5 → inPhase (at t k) (phaseFor b) ≡ recordAfter t k w → numberOf w ≡ 0 → hands w ≡ false → isUpdate w ≡ false → Carries p k w line buffer
           (parts (p .count) (p .labels) (p .jobs) (p .pendingLabels) (p .pendingJobs) (p .resultStations) (p .resultJobs) (set (p .phases) k b)) r buffer
-      carries-phase w b low e f g = carried k job w line buffer _ r buffer h
+      carries-phase w b low e f g u = carried k w line buffer _ r buffer h
           (K (p .labels) []) (K (p .jobs) 0) (K (p .pendingLabels) []) (K (p .pendingJobs) 0) (K (p .resultStations) []) (K (p .resultJobs) []) b
           (λ i. parts (p .count) (keep (p .labels) k [] i) (keep (p .jobs) k 0 i) (keep (p .pendingLabels) k [] i) (keep (p .pendingJobs) k 0 i) (keep (p .resultStations) k [] i) (keep (p .resultJobs) k [] i) (set (p .phases) k b))
-          (ap (λ (s : Station). inPhase s (phaseOf b)) (sym here) ∙ e) (inl low) (λ _. refl) (no ∙ sym f) (done .1 ∙ sym g) (rw g refl)
+          (ap (λ (s : Station). inPhase s (phaseFor b)) (sym here) ∙ e) (inl low) (λ _. refl) (no ∙ sym f) (done .1 ∙ rw g refl) (rw g (unfold reportLines in refl))
 
-      pub carries-snap-label : (new : Lists.List ℕ) → new ≡ pendingIn (p .count) (p .labels) k (K (p .pendingLabels) []) → Carries p k job Calls.Move.snapsLabel line buffer
+      pub carries-snap-label : (new : Lists.List ℕ) → new ≡ pendingIn (p .count) (p .labels) k (K (p .pendingLabels) []) → Carries p k (Calls.Move.snaps k Calls.Label) line buffer
           (parts (p .count) (p .labels) (p .jobs) (set (p .pendingLabels) k new) (p .pendingJobs) (p .resultStations) (p .resultJobs) (set (p .phases) k 3)) r buffer
-      unfolding assembled recordAfter
-      carries-snap-label new e = carried k job Calls.Move.snapsLabel line buffer _ r buffer h
+      unfolding assembled recordMade reportLines
+      carries-snap-label new e = carried k (Calls.Move.snaps k Calls.Label) line buffer _ r buffer h
           (K (p .labels) []) (K (p .jobs) 0) new (K (p .pendingJobs) 0) (K (p .resultStations) []) (K (p .resultJobs) []) 3
           (λ i. parts (p .count) (keep (p .labels) k [] i) (keep (p .jobs) k 0 i) (set (p .pendingLabels) k new) (keep (p .pendingJobs) k 0 i) (keep (p .resultStations) k [] i) (keep (p .resultJobs) k [] i) (set (p .phases) k 3))
           (ap₂ snapped (sym here) (e ∙ rows-pending t held-parts ok k (ap (λ (s : Station). s .«pending_label») (sym here)))) (inl (omega arith)) (λ _. refl) no (done .1) refl
 
       pub carries-snap-scan : (order stations jobs : Lists.List ℕ) → order ≡ orderOf (p .count) (p .labels)
           → stations ≡ tabulate 32 0 (λ q. cond (ltb q (p .count)) (suc (getD order q 0)) 0) → jobs ≡ tabulate 32 0 (λ q. cond (ltb q (p .count)) (getD (p .jobs) (getD order q 0) 0) 0)
-          → Carries p k job Calls.Move.snapsScan line buffer
+          → Carries p k (Calls.Move.snaps k Calls.Scan) line buffer
           (parts (p .count) (p .labels) (p .jobs) (p .pendingLabels) (p .pendingJobs) (set (p .resultStations) k stations) (set (p .resultJobs) k jobs) (set (p .phases) k 5)) r buffer
-      unfolding assembled recordAfter
-      carries-snap-scan order stations jobs e f g = carried k job Calls.Move.snapsScan line buffer _ r buffer h
+      unfolding assembled recordMade reportLines
+      carries-snap-scan order stations jobs e f g = carried k (Calls.Move.snaps k Calls.Scan) line buffer _ r buffer h
           (K (p .labels) []) (K (p .jobs) 0) (K (p .pendingLabels) []) (K (p .pendingJobs) 0) stations jobs 5
           (λ i. parts (p .count) (keep (p .labels) k [] i) (keep (p .jobs) k 0 i) (keep (p .pendingLabels) k [] i) (keep (p .pendingJobs) k 0 i) (set (p .resultStations) k stations) (set (p .resultJobs) k jobs) (set (p .phases) k 5))
           (ap₂ scanned (sym here) scan) (inl (omega arith)) (λ _. refl) no (done .1) refl
@@ -257,58 +260,63 @@ module _ (p : Parts) (z : Sized p) (ok : wellFormed (assembled p) ≡ true) wher
               ∙ ap (stored 32 (p .count) (λ i. getD (p .jobs) i 0)) (order-front 32 (standsIn (p .count) (p .labels)) (p .count) order e)
               ∙ rows-scan t held-parts held-part-jobs
 
-      pub carries-update : Carries p k job Calls.Move.updates line buffer
+      pub carries-update : Carries p k (Calls.Move.updates k) line buffer
           (parts (p .count) (set (p .labels) k (K (p .pendingLabels) [])) (set (p .jobs) k (K (p .pendingJobs) 0)) (p .pendingLabels) (p .pendingJobs) (p .resultStations) (p .resultJobs) (set (p .phases) k 4)) r buffer
-      unfolding recordAfter recordMoved
-      carries-update = carried k job Calls.Move.updates line buffer _ r buffer h
+      unfolding recordMade reportLines
+      carries-update = carried k (Calls.Move.updates k) line buffer _ r buffer h
           (K (p .pendingLabels) []) (K (p .pendingJobs) 0) (K (p .pendingLabels) []) (K (p .pendingJobs) 0) (K (p .resultStations) []) (K (p .resultJobs) []) 4
           (λ i. parts (p .count) (set (p .labels) k (K (p .pendingLabels) [])) (set (p .jobs) k (K (p .pendingJobs) 0)) (keep (p .pendingLabels) k [] i) (keep (p .pendingJobs) k 0 i) (keep (p .resultStations) k [] i) (keep (p .resultJobs) k [] i) (set (p .phases) k 4))
-          (ap updated (sym here)) (inl (omega arith)) (λ d. absurd (d refl)) no (done .1) refl
+          (ap updated (sym here)) (inl (omega arith)) (λ d. absurd (true≢false d)) no (done .1) refl
 
     pub carries-end-scan : (buffer′ : Lists.List ℕ) → (r .refusal ≡ Accepted) × (r .written ≡ p .count * 29)
-        → buffer′ ≡ over (reportLines line 1 (take (p .count) (entries (K (p .resultStations) []) (K (p .resultJobs) [])))) buffer → Carries p k job Calls.Move.endsScan line buffer
+        → buffer′ ≡ over (reportLines line 1 (resultOf (p .count) (entries (K (p .resultStations) []) (K (p .resultJobs) [])))) buffer → Carries p k (Calls.Move.ends k Calls.Scan) line buffer
         (parts (p .count) (p .labels) (p .jobs) (p .pendingLabels) (p .pendingJobs) (p .resultStations) (p .resultJobs) (set (p .phases) k 0)) r buffer′
-    unfolding assembled recordAfter recordMoved
-    carries-end-scan buffer′ done b = carried k job Calls.Move.endsScan line buffer _ r buffer′ h
+    unfolding assembled recordMade
+    carries-end-scan buffer′ done b = carried k (Calls.Move.ends k Calls.Scan) line buffer _ r buffer′ h
         (K (p .labels) []) (K (p .jobs) 0) (K (p .pendingLabels) []) (K (p .pendingJobs) 0) (K (p .resultStations) []) (K (p .resultJobs) []) 0
         (λ i. parts (p .count) (keep (p .labels) k [] i) (keep (p .jobs) k 0 i) (keep (p .pendingLabels) k [] i) (keep (p .pendingJobs) k 0 i) (keep (p .resultStations) k [] i) (keep (p .resultJobs) k [] i) (set (p .phases) k 0))
         (ap (λ (s : Station). inPhase s Idle) (sym here)) (inl (omega arith)) (λ _. refl) (ap refusalNumber (done .0)) (done .1)
         (b ∙ ap (λ (x : Lists.List ℕ). over x buffer) shown)
       where
-        shown : reportLines line 1 (take (p .count) (entries (K (p .resultStations) []) (K (p .resultJobs) []))) ≡ due (p .count * 29) line (take (p .count) (at t k .«scan_result»))
-        shown = rw (ne-eqb (p .count * 29) 0 (λ y. omega (arith, passed t ok .low))) (ap (λ (s : Station). reportLines line 1 (take (p .count) (s .«scan_result»))) (sym here))
+        shown : reportLines line 1 (resultOf (p .count) (entries (K (p .resultStations) []) (K (p .resultJobs) []))) ≡ reportLines line 1 (resultOf (p .count) (at t k .«scan_result»))
+        shown = ap (λ (s : Station). reportLines line 1 (resultOf (p .count) (s .«scan_result»))) (sym here)
 
   -- CALLS
 
-  module _ (line code station job room k : ℕ) (e : k ≡ placeOf (p .count) station) (ph : Phase) (q : ph ≡ phaseOf (getD (p .phases) k 0)) (w : Calls.Move)
-      (j : w ≡ judge (p .count) ph (called 0 code station job room)) where
+  module _ (g : Shaped t) (line code station job room k : ℕ) (e : k ≡ placeOf (p .count) station) (ph : Phase) (q : ph ≡ phaseFor (getD (p .phases) k 0)) (m : Move)
+      (j : (line : ℕ) → moveOf (placeOf (p .count) station) job m ≡ judgeIn (p .count) (phaseOf ph) (called line code station job room)) where
+    abbrev c : Call
+    c = called line code station job room
+
+    abbrev w : Calls.Move
+    w = moveOf k job m
+
     pub inside : k < p .count
     unfolding assembled
     inside = omega (arith, place-below (p .count) station (passed t ok .low))
 
+    here-low : k < 32
+    unfolding assembled
+    here-low = omega (arith, inside, passed t ok .high)
+
     made : (line : ℕ) → Made t (called line code station job room) w
     unfolding assembled
-    made line = judged t ok code station job room k ph w e (q ∙ ap (λ (s : Station). s .phase) (sym (at-part p k (omega (arith, inside, passed t ok .high))))) j line
+    made line = judged t g ok code station job room k ph m e (q ∙ ap (λ (s : Station). s .phase) (sym (at-part p k here-low))) j line
 
     -- what the move asks for
-    pub asked : (w ≡ Calls.Move.beginsLabel → job ≤ 4294967295) × (w ≡ Calls.Move.endsScan → p .count * 29 ≤ room)
+    pub asked : (m ≡ BeginLabel → job ≤ 4294967295) × (hands w ≡ true → p .count * 29 ≤ room)
     unfolding assembled
-    asked = (λ x. accepted-own _ _ (called 0 code station job room) _ (sym j ∙ x) tt .job, λ x. made 0 .fits (rw x (λ y. omega (arith, passed t ok .low, y))))
+    asked = (begun-job (p .count) (phaseOf ph) (called 0 code station job room) _ m (j 0), made 0 .fits)
 
     -- a call whose move is carried out is served
-    pub served : {buffer : Lists.List ℕ} {p′ : Parts} {r : Reply} {buffer′ : Lists.List ℕ} → Carries p k job w line buffer p′ r buffer′
-        → Steps t (called line code station job room) buffer (assembled p′) r buffer′
-    unfolding assembled recordAfter recordMoved entries
+    pub served : {buffer : Lists.List ℕ} {p′ : Parts} {r : Reply} {buffer′ : Lists.List ℕ} → Carries p k w line buffer p′ r buffer′ → Steps t c buffer (assembled p′) r buffer′
+    unfolding assembled entries
     served {buffer} {p′} {r} {buffer′} f = record {
-      table = f .table ∙ ap (λ (i : ℕ). store t i (recordAfter t i job w)) e ∙ made line .table;
-      refusal = f .refusal ∙ made line .refusal;
-      written = f .written ∙ report-long (p .count) line w (recordAfter t k job w .«scan_result») long ∙ ap length (sym bytes);
-      report = f .report ∙ ap (λ (x : Lists.List ℕ). over x buffer) (sym bytes);
+      table = f .table ∙ ap (λ a. a .table) (sym answer);
+      refusal = f .refusal ∙ ap (λ a. a .refusal) (sym answer);
+      written = f .written ∙ report-long t k line (omega (arith, passed t ok .high, g .each k here-low .result)) w ∙ ap (λ a. length (a .bytes)) (sym answer);
+      report = f .report ∙ ap (λ a. over (a .bytes) buffer) (sym answer);
     }
       where
-        bytes : stepOf t (called line code station job room) .bytes ≡ due (reportSize (p .count) w) line (take (p .count) (recordAfter t k job w .«scan_result»))
-        bytes = made line .bytes ∙ ap (λ (i : ℕ). due (reportSize (p .count) w) line (take (p .count) (recordAfter t i job w .«scan_result»))) (sym e)
-
-        long : w ≡ Calls.Move.endsScan → p .count ≤ length (recordAfter t k job w .«scan_result»)
-        long x = rw x (subst (λ (s : Station). p .count ≤ length (s .«scan_result»)) (sym (at-part p k (omega (arith, inside, passed t ok .high))))
-            (omega (arith, passed t ok .high, length-tabulate 32 0 (λ (q : ℕ). entry (getD (getD (p .resultStations) k []) q 0) (getD (getD (p .resultJobs) k []) q 0)))))
+        answer : stepOf t c ≡ answerAfter t k c w
+        answer = made line .answer ∙ ap (λ (i : ℕ). answerAfter t i c w) (sym e)

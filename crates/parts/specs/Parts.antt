@@ -5,23 +5,25 @@ use mathlib.Core.Logic.{_≢_}
 use mathlib.Core.List as Lists
 use mathlib.Core.List.{[], _++_}
 use mathlib.Core.Bool.{Bool, true, false, cond}
-use lib.ListN.{length, getD, take, replicate}
+use lib.ListN.{length, getD, replicate}
 use lib.Dec.{eqb, ltb}
 use Rattle.label.specs.Tests.{tabulate, ordered}
 use Rattle.rows.specs.Held.{standsIn}
 use Rattle.simulation.specs.Calls as Calls
-use Rattle.simulation.specs.Calls.{numberOf}
+use Rattle.simulation.specs.Calls.{reportLines}
 use Rattle.table.specs.Results.{entry}
-use Rattle.table.specs.Tables.{store}
 use Rattle.table.specs.WellFormed.{wellFormed}
-use Rattle.moves.specs.Moves.{refusalNumber, reportSize}
-use Rattle.step.specs.Contracts.{recordAfter, due, over}
+use Rattle.transition.specs.Records.{store, recordAfter, numberOf, hands, reportSize, handed}
+use Rattle.moves.specs.Moves.{refusalNumber, moveOf}
+use Rattle.step.specs.Contracts.{over}
 use Rattle.table.specs.declared.Entry.{Entry}
 use Rattle.table.specs.declared.Phase.{Phase}
 use Rattle.table.specs.declared.Phase.the-variants.{Idle, Snap, Update, End}
 use Rattle.table.specs.declared.Operation.the-variants.{Label, Scan}
 use Rattle.table.specs.declared.Station.{Station}
 use Rattle.table.specs.declared.Table.{Table}
+use Rattle.moves.specs.declared.Move.{Move}
+use Rattle.moves.specs.declared.Move.the-variants.{BeginLabel}
 use Rattle.step.specs.declared.Reply.{Reply}
 
 pub record Parts : Type 0 where
@@ -39,8 +41,8 @@ abbrev pub parts : ℕ → Lists.List (Lists.List ℕ) → Lists.List ℕ → Li
 parts n ls js ws vs es fs ps = record { count = n; labels = ls; jobs = js; pendingLabels = ws; pendingJobs = vs; resultStations = es; resultJobs = fs; phases = ps }
 
 -- the phase that a number stands for; from 6 on a number stands for none, and is read as 5 is
-abbrev pub phaseOf : ℕ → Phase
-phaseOf b =
+abbrev pub phaseFor : ℕ → Phase
+phaseFor b =
     cond (eqb b 0) Idle
     (cond (eqb b 1) (Snap Label)
     (cond (eqb b 2) (Snap Scan)
@@ -53,7 +55,7 @@ entries stations jobs = tabulate 32 0 (λ p. entry (getD stations p 0) (getD job
 
 -- the record of a station from its parts, the record at a place, and the table
 abbrev pub recordOf : Lists.List ℕ → ℕ → Lists.List ℕ → ℕ → Lists.List ℕ → Lists.List ℕ → ℕ → Station
-recordOf l j w v e f b = record { label = l; job = j; «pending_label» = w; «pending_job» = v; «scan_result» = entries e f; phase = phaseOf b }
+recordOf l j w v e f b = record { label = l; job = j; «pending_label» = w; «pending_job» = v; «scan_result» = entries e f; phase = phaseFor b }
 
 abbrev pub stationAt : Parts → ℕ → Station
 stationAt p i = recordOf
@@ -88,32 +90,37 @@ Phased p = (i : ℕ) → i < 32 → getD (p .phases) i 0 ≤ 5
 abbrev pub orderOf : ℕ → Lists.List (Lists.List ℕ) → Lists.List ℕ
 orderOf n labels = ordered n (standsIn n labels) ++ replicate (32 - n) 0
 
+-- moves that read the scan order, and moves that can change it
 abbrev pub isSnap : Calls.Move → Bool
-isSnap (Calls.Move.refused r) = false
-isSnap Calls.Move.beginsLabel = false
-isSnap Calls.Move.beginsScan = false
-isSnap Calls.Move.snapsLabel = true
-isSnap Calls.Move.snapsScan = true
-isSnap Calls.Move.updates = false
-isSnap Calls.Move.endsLabel = false
-isSnap Calls.Move.endsScan = false
+isSnap (Calls.Move.refused x) = false
+isSnap (Calls.Move.begins k job o) = false
+isSnap (Calls.Move.updates k) = false
+isSnap (Calls.Move.snaps k o) = true
+isSnap (Calls.Move.ends k o) = false
 
--- what the move w of the station at place k asks for: a well-formed table; the job, the room and, for a snap, the scan order
-pub record Ready (p : Parts) (k job : ℕ) (w : Calls.Move) (order : Lists.List ℕ) (room : ℕ) : Type 0 where
+abbrev pub isUpdate : Calls.Move → Bool
+isUpdate (Calls.Move.refused x) = false
+isUpdate (Calls.Move.begins k job o) = false
+isUpdate (Calls.Move.updates k) = true
+isUpdate (Calls.Move.snaps k o) = false
+isUpdate (Calls.Move.ends k o) = false
+
+-- what the move m of the station at place k asks for: a well-formed table; the job, the room and, for a snap, the scan order
+pub record Ready (p : Parts) (k job : ℕ) (m : Move) (order : Lists.List ℕ) (room : ℕ) : Type 0 where
   pub inside : k < p .count
   pub sized : Sized p
   pub passed : wellFormed (assembled p) ≡ true
-  pub jobFits : w ≡ Calls.Move.beginsLabel → job ≤ 4294967295
-  pub isOrder : isSnap w ≡ true → order ≡ orderOf (p .count) (p .labels)
-  pub hasRoom : w ≡ Calls.Move.endsScan → p .count * 29 ≤ room
+  pub jobFits : m ≡ BeginLabel → job ≤ 4294967295
+  pub isOrder : isSnap (moveOf k job m) ≡ true → order ≡ orderOf (p .count) (p .labels)
+  pub hasRoom : hands (moveOf k job m) ≡ true → p .count * 29 ≤ room
 
 -- the move w of the station at place k, carried out on the parts p: the parts, the reply and the report buffer left, all of it; and which labels stay
-pub record Carries (p : Parts) (k job : ℕ) (w : Calls.Move) (line : ℕ) (buffer : Lists.List ℕ) (p′ : Parts) (r : Reply) (buffer′ : Lists.List ℕ) : Type 0 where
-  pub table : assembled p′ ≡ store (assembled p) k (recordAfter (assembled p) k job w)
+pub record Carries (p : Parts) (k : ℕ) (w : Calls.Move) (line : ℕ) (buffer : Lists.List ℕ) (p′ : Parts) (r : Reply) (buffer′ : Lists.List ℕ) : Type 0 where
+  pub table : assembled p′ ≡ store (assembled p) k (recordAfter (assembled p) k w)
   pub refusal : refusalNumber (r .refusal) ≡ numberOf w
   pub written : r .written ≡ reportSize (p .count) w
-  pub report : buffer′ ≡ over (due (reportSize (p .count) w) line (take (p .count) (recordAfter (assembled p) k job w .«scan_result»))) buffer
+  pub report : buffer′ ≡ over (reportLines line 1 (handed (assembled p) k w)) buffer
   pub sized : Sized p′
   pub phased : Phased p → Phased p′
   pub others : (i : ℕ) → i ≢ k → getD (p′ .labels) i [] ≡ getD (p .labels) i []
-  pub labels : w ≢ Calls.Move.updates → p′ .labels ≡ p .labels
+  pub labels : isUpdate w ≡ false → p′ .labels ≡ p .labels

@@ -3,14 +3,15 @@ ghost use mathlib.Core.Path.{_≡_};
 ghost use mathlib.Core.Bool.{cond};
 ghost use mathlib.Core.List.{[]};
 ghost use Prim.Native.Nat.{ℕ, suc, _*_, _≤_, _<_};
-ghost use lib.ListN.{length, getD, take};
+ghost use lib.ListN.{length, getD};
 ghost use lib.Dec.{ltb};
 ghost use Rattle.label.specs.Tests.{tabulate};
 ghost use Rattle.simulation.specs.Calls.{reportLines};
+ghost use Rattle.transition.specs.States.{resultOf};
 ghost use Rattle.moves.specs.Moves.{moveOf};
 ghost use Rattle.moves.specs.declared.Refusal.the-variants.{Accepted};
 ghost use Rattle.step.specs.Contracts.{over};
-ghost use Rattle.parts.specs.Parts.{parts, phaseOf, entries, freshRow, Ready, Carries};
+ghost use Rattle.parts.specs.Parts.{parts, phaseFor, entries, freshRow, Ready, Carries};
 use moves::Move;
 use moves::Refusal;
 use step::Reply;
@@ -32,7 +33,7 @@ const END_SCAN: u8 = 5;
 
 // The phase that a number stands for.
 pub fn phase_of(b: u8) -> Phase
-    ensures { λ r. ⌜ r ≡ phaseOf b ⌝ }
+    ensures { λ r. ⌜ r ≡ phaseFor b ⌝ }
 {
     if b == IDLE {
         return Phase::Idle;
@@ -107,7 +108,7 @@ fn write_rows(
 )
     requires { ⌜ (place < 32) × (n ≤ 32) ⌝ }
     requires { ⌜ n * 29 ≤ length (now out) ⌝ }
-    ensures { λ _. ⌜ now (out .exit) ≡ over (reportLines line 1 (take n (entries (getD (now (stations .entry)) place []) (getD (now (jobs .entry)) place [])))) (now (out .entry)) ⌝ }
+    ensures { λ _. ⌜ now (out .exit) ≡ over (reportLines line 1 (resultOf n (entries (getD (now (stations .entry)) place []) (getD (now (jobs .entry)) place [])))) (now (out .entry)) ⌝ }
 {
     let mut head = [0u8; 11];
     columns::write_head(&mut head, line, 0);
@@ -151,8 +152,8 @@ pub fn carry_out(
     phases: &mut [u8; 32],
     report: &mut [u8],
 ) -> Reply
-    requires { ⌜ Ready (parts n (now labels) (now jobs) (now «pending_labels») (now «pending_jobs») (now «result_stations») (now «result_jobs») (now phases)) place job (moveOf m) (now order) (length (now report)) ⌝ }
-    ensures { λ r. ⌜ Carries (parts n (now (labels .entry)) (now (jobs .entry)) (now («pending_labels» .entry)) (now («pending_jobs» .entry)) (now («result_stations» .entry)) (now («result_jobs» .entry)) (now (phases .entry))) place job (moveOf m) line (now (report .entry)) (parts n (now (labels .exit)) (now (jobs .exit)) (now («pending_labels» .exit)) (now («pending_jobs» .exit)) (now («result_stations» .exit)) (now («result_jobs» .exit)) (now (phases .exit))) r (now (report .exit)) ⌝ }
+    requires { ⌜ Ready (parts n (now labels) (now jobs) (now «pending_labels») (now «pending_jobs») (now «result_stations») (now «result_jobs») (now phases)) place job m (now order) (length (now report)) ⌝ }
+    ensures { λ r. ⌜ Carries (parts n (now (labels .entry)) (now (jobs .entry)) (now («pending_labels» .entry)) (now («pending_jobs» .entry)) (now («result_stations» .entry)) (now («result_jobs» .entry)) (now (phases .entry))) place (moveOf place job m) line (now (report .entry)) (parts n (now (labels .exit)) (now (jobs .exit)) (now («pending_labels» .exit)) (now («pending_jobs» .exit)) (now («result_stations» .exit)) (now («result_jobs» .exit)) (now (phases .exit))) r (now (report .exit)) ⌝ }
 {
     match m {
         Move::Refused(refusal) => Reply {

@@ -5,8 +5,9 @@ use mathlib.Core.Path.{_≡_, refl, _∙_}
 use mathlib.Core.List.{[]}
 use Prim.Native.Nat.{_+_, _*_, _≤_, _-_}
 use native.Mathlib.Omega.{arith}
-use lib.ListN.{length, getD, take, length-take, length-drop}
+use lib.ListN.{length, getD, length-take, length-drop}
 use Rattle.simulation.specs.Calls.{reportLines}
+use Rattle.transition.specs.States.{resultOf}
 use Rattle.step.specs.Contracts.{over}
 use Rattle.parts.specs.Parts.{entries}
 use Rattle.parts.proofs.PartLaws.{one-row-more}
@@ -14,7 +15,7 @@ use Rattle.parts.proofs.write_rows.Statement.{statement}
 use Rattle.parts.proofs.write_rows.Tie as tie
 
 abbrev Inv-loop : tie.InvT-loop
-Inv-loop stations jobs place n line out₀ head k₀ out k = (k ≤ n) × (length out ≡ length out₀) × (out ≡ over (reportLines line 1 (take k (entries (getD stations place []) (getD jobs place [])))) out₀)
+Inv-loop stations jobs place n line out₀ head k₀ out k = (k ≤ n) × (length out ≡ length out₀) × (out ≡ over (reportLines line 1 (resultOf k (entries (getD stations place []) (getD jobs place [])))) out₀)
 
 abbrev μ-loop : tie.MeasureT-loop
 μ-loop stations jobs place n line out₀ head k₀ out k = n - k
