@@ -20,7 +20,7 @@ use Rattle.table.specs.declared.Table.{Table}
 use Rattle.moves.specs.Moves.{refusalNumber, called}
 use Rattle.step.specs.Contracts.{over}
 use Rattle.transition.specs.Steps.{stepOf}
-use Rattle.transition.proofs.Reachable.{Reached, reached-passes}
+use Rattle.transition.proofs.ReachedTables.{ReachedTable, table-passes}
 use Rattle.moves.specs.declared.Refusal.{Refusal}
 use Rattle.moves.specs.declared.Refusal.the-variants.{Accepted}
 use Rattle.parts.specs.Parts.{Parts, assembled}
@@ -44,11 +44,11 @@ next-refused lines l r e = subst Numbered e (next-numbered lines l)
 abbrev pub shownOf : Table → Call → Lists.List ℕ
 shownOf t c = let a = stepOf t c in printed (c .line) (a .refusal) (a .bytes)
 
-module _ (s : Session) (l : Lists.List ℕ) (live : refusalNumber (s .refusal) ≡ 0) (reached : Reached (s .table)) where
+module _ (s : Session) (l : Lists.List ℕ) (live : refusalNumber (s .refusal) ≡ 0) (reached : ReachedTable (s .table)) where
   run-line : let o = stepLine s 928 (nextLine (s .lines) l) in
       runLines s (l ∷ []) ≡ record { session = o .session; refusal = refusalNumber (o .session .refusal); bytes = printed (s .lines + 1) (o .refusal) (o .bytes) }
   unfolding runLines
-  run-line = rw (eq-eqb _ _ live, serve-next s l 928 live (reached-passes (s .table) reached) _ refl, append-nil) refl
+  run-line = rw (eq-eqb _ _ live, serve-next s l 928 live (table-passes (s .table) reached) _ refl, append-nil) refl
 
   run-refused : (r : Refusal) → nextLine (s .lines) l ≡ Refused r
       → runLines s (l ∷ []) ≡ record { session = session (s .lines) r (s .table); refusal = refusalNumber r; bytes = printed (s .lines + 1) (refusalNumber r) [] }
@@ -201,7 +201,7 @@ module _ {s : Session} {chunk out₀ : Lists.List ℕ} {t : Table} {lines writte
     pub at-next : (l : Lists.List ℕ) → l ≡ take 18 (drop at chunk) → (at + length l ≤ length chunk) × (0 < length l)
     at-next l p = rw p (line-within chunk at h)
 
-    module _ (reached : Reached t) (l : Lists.List ℕ) (p : l ≡ take 18 (drop at chunk)) (k : ℕ) (e : k ≡ 928) where
+    module _ (reached : ReachedTable t) (l : Lists.List ℕ) (p : l ≡ take 18 (drop at chunk)) (k : ℕ) (e : k ≡ 928) where
       -- what is put in behind the bytes so far
       put : (x : Lists.List ℕ) → length x ≤ 928 → putMid written k out (over x (midOf written k out)) ≡ over (f .bytes ++ x) out₀
       put x short = rw (f .area, e, f .long) (put-over (f .bytes) x out₀ 928 short (omega (arith, f .long, as-long, room-here)))

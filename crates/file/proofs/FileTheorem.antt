@@ -9,14 +9,12 @@ use mathlib.Core.List.{[], _∷_, _++_, map, append-nil, append-assoc}
 use lib.ListN.{take}
 use borrow.Author.Tests.{ne-eqb}
 use Rattle.label.specs.Tests.{All}
-use Rattle.simulation.specs.Calls.{Call, place}
-use Rattle.simulation.proofs.Judged.{not-short}
-use Rattle.table.specs.Tables.{freshTable, at}
-use Rattle.transition.specs.Steps.{move, stepOf}
+use Rattle.simulation.specs.Calls.{Call}
+use Rattle.table.specs.Tables.{freshTable}
+use Rattle.transition.specs.Steps.{stepOf}
 use Rattle.transition.specs.Demand.{run, seen, Demand3}
 use Rattle.moves.specs.Moves.{refusalNumber, called}
-use Rattle.transition.proofs.View.{step-carries, carried-count}
-use Rattle.transition.proofs.Reachable.{Reached, reached-passes, stepped-reached, reached-fresh}
+use Rattle.transition.proofs.ReachedTables.{ReachedTable, table-fresh, table-short, table-step}
 use Rattle.transition.proofs.Theorem as Theorem
 use Rattle.schedule.specs.Sessions.{session, headerOf, isFinal, nextLine, stepLine}
 use Rattle.schedule.specs.Demand.{callThen}
@@ -60,16 +58,14 @@ played (l ∷ ls) s v = rw (live-final s v, live-serve s v l 928) (go (nextLine 
 
 report-open : (n : ℕ) → 2 ≤ n → n ≤ 32 → (ls : Lists.List (Lists.List ℕ)) (s : Session) → s ≡ session 1 Accepted (freshTable n)
     → headerPrinted s ++ runLines s ls .bytes ≡ printedCalls (stepCalls 1 ls) (map seen (run (freshTable n) (stepCalls 1 ls))) ++ ending 1 ls
-report-open n p q ls s e = rw e (played ls (session 1 Accepted (freshTable n)) (record { going = refl; reached = reached-fresh n p q }))
+report-open n p q ls s e = rw e (played ls (session 1 Accepted (freshTable n)) (record { going = refl; reached = table-fresh n p q }))
 
 -- ROOM: with that for 32 report lines no call is refused by 7
 
-never-short : (cs : Lists.List Call) → All (λ c. c .room ≡ 928) cs → (t : Table) → Reached t → All (λ a. a .refusal ≢ 7) (run t cs)
-unfolding run move
+never-short : (cs : Lists.List Call) → All (λ c. c .room ≡ 928) cs → (t : Table) → ReachedTable t → All (λ a. a .refusal ≢ 7) (run t cs)
+unfolding run
 never-short [] h t r = tt
-never-short (c ∷ cs) h t r =
-    let e = ap (λ a. a .refusal) (step-carries t c (reached-passes t r)) ∙ carried-count t c (move t c) .1 in
-    (λ z. not-short (t .count) (at t (place c) .phase) c (omega (arith, r .good .high, h .0)) (sym e ∙ z), never-short cs (h .1) (stepOf t c .table) (stepped-reached t r c))
+never-short (c ∷ cs) h t r = (λ z. omega (arith, table-short t r c z, r .high, h .0), never-short cs (h .1) (stepOf t c .table) (table-step t r c))
 
 lines-roomy : (lines : ℕ) (ls : Lists.List (Lists.List ℕ)) → All (λ c. c .room ≡ 928) (stepCalls lines ls)
 unfolding stepCalls
@@ -87,7 +83,7 @@ file-demand bs e = record {
   demand = d;
   report = report-open n (o .low) (o .high) (stepLines bs) (headerOf (take 18 bs)) (o .made)
       ∙ ap (λ x. printedCalls (stepCalls 1 (stepLines bs)) x ++ ending 1 (stepLines bs)) (d .same);
-  never7 = never-short (stepCalls 1 (stepLines bs)) (lines-roomy 1 (stepLines bs)) (freshTable n) (reached-fresh n (o .low) (o .high));
+  never7 = never-short (stepCalls 1 (stepLines bs)) (lines-roomy 1 (stepLines bs)) (freshTable n) (table-fresh n (o .low) (o .high));
 }
   where
     n : ℕ

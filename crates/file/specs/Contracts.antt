@@ -2,12 +2,11 @@
 use Prim.Native.Nat.{ℕ, _+_, _*_, _/_, _≤_, _<_, min}
 use mathlib.Core.Path.{_≡_}
 use mathlib.Core.Logic.{_≢_, _⊎_}
-use mathlib.Core.Bool.{Bool, true, false}
 use mathlib.Core.List as Lists
 use lib.ListN.{length}
-use Rattle.simulation.specs.Calls.{Call, Move}
+use Rattle.simulation.specs.Calls.{Call}
 use Rattle.transition.specs.Steps.{stepOf}
-use Rattle.transition.proofs.Reachable.{Reached}
+use Rattle.transition.proofs.ReachedTables.{ReachedTable}
 use Rattle.moves.specs.Moves.{refusalNumber}
 use Rattle.step.specs.Contracts.{over}
 use Rattle.parts.specs.Parts.{Parts, assembled, Sized, Phased, orderOf}
@@ -17,21 +16,11 @@ use Rattle.schedule.specs.declared.Session.{Session}
 use Rattle.table.specs.declared.Table.{Table}
 use Rattle.file.specs.declared.Progress.{Progress}
 
-abbrev pub isUpdate : Move → Bool
-isUpdate (Move.refused r) = false
-isUpdate Move.beginsLabel = false
-isUpdate Move.beginsScan = false
-isUpdate Move.snapsLabel = false
-isUpdate Move.snapsScan = false
-isUpdate Move.updates = true
-isUpdate Move.endsLabel = false
-isUpdate Move.endsScan = false
-
 -- the parts of a table that is reached from a fresh one, each phase by its own number, with its scan order
 pub record Runnable (p : Parts) (order : Lists.List ℕ) : Type 0 where
   pub sized : Sized p
   pub phased : Phased p
-  pub reached : Reached (assembled p)
+  pub reached : ReachedTable (assembled p)
   pub isOrder : order ≡ orderOf (p .count) (p .labels)
 
 -- the step call c on the parts p, and what its line prints into the buffer: n bytes

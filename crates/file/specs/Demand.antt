@@ -9,10 +9,10 @@ use lib.ListN.{drop}
 use Rattle.label.specs.Tests.{All}
 use Rattle.simulation.specs.Calls.{Call}
 use Rattle.simulation.specs.Machine as Machine
-use Rattle.simulation.specs.Machine.{Seen, runᵘ}
+use Rattle.simulation.specs.Machine.{Seen}
 use Rattle.table.specs.Tables.{freshTable}
 use Rattle.moves.specs.Moves.{refusalNumber}
-use Rattle.transition.specs.Demand.{run, Demand3}
+use Rattle.transition.specs.Demand.{run, unbounded, Demand3}
 use Rattle.schedule.specs.Sessions.{nextLine}
 use Rattle.schedule.specs.Demand.{callThen}
 use Rattle.file.specs.Files.{cut, pieces, refusalLine, printed, fileReport}
@@ -47,6 +47,6 @@ stepLines bs = let rest = drop 18 bs in cut (pieces rest) rest
 pub record FileDemand (bs : Lists.List ℕ) (n : ℕ) : Type 0 where
   pub demand : Demand3 n (stepCalls 1 (stepLines bs))
   pub report : fileReport bs
-      ≡ printedCalls (stepCalls 1 (stepLines bs)) (map (Machine.seen n) (runᵘ n (Machine.fresh 0 n) (demand .advances) (stepCalls 1 (stepLines bs))))
+      ≡ printedCalls (stepCalls 1 (stepLines bs)) (map (Machine.seen n) (unbounded n (demand .advances) (stepCalls 1 (stepLines bs))))
       ++ ending 1 (stepLines bs)
   pub never7 : All (λ a. a .refusal ≢ 7) (run (freshTable n) (stepCalls 1 (stepLines bs)))

@@ -2,17 +2,17 @@
 ghost use mathlib.Core.Path.{_≡_};
 ghost use mathlib.Core.Bool.{false};
 ghost use mathlib.Core.List.{[]};
-ghost use Prim.Native.Nat.{_+_, _*_, _≤_, _<_};
+ghost use Prim.Native.Nat.{ℕ, _+_, _*_, _≤_, _<_};
 ghost use lib.ListN.{length, take, drop};
 ghost use Rattle.moves.specs.Moves.{refusalNumber, moveOf, called};
 ghost use Rattle.moves.specs.declared.Refusal.the-variants.{Accepted};
 ghost use Rattle.step.specs.Contracts.{over};
 ghost use Rattle.rows.specs.Held.{Orderly, OrderedBefore};
 ghost use Rattle.table.specs.Tables.{freshTable};
-ghost use Rattle.parts.specs.Parts.{parts, assembled, orderOf};
+ghost use Rattle.parts.specs.Parts.{parts, assembled, orderOf, isUpdate};
 ghost use Rattle.schedule.specs.Sessions.{session};
 ghost use Rattle.file.specs.Files.{cut, pieces, printed, headerPrinted, runLines, fileReport};
-ghost use Rattle.file.specs.Contracts.{isUpdate, Runnable, Prints, Reports};
+ghost use Rattle.file.specs.Contracts.{Runnable, Prints, Reports};
 use moves::Move;
 use moves::Refusal;
 use schedule::Line;
@@ -74,7 +74,7 @@ pub fn report_header(s: Session, out: &mut [u8]) -> usize
 
 // Whether a move is an update, which gives a station another label.
 fn is_update(m: Move) -> bool
-    ensures { λ r. ⌜ r ≡ isUpdate (moveOf m) ⌝ }
+    ensures { λ r. ⌜ ((k job : ℕ) → r ≡ isUpdate (moveOf k job m)) ⌝ }
 {
     match m {
         Move::Refused(_) => false,

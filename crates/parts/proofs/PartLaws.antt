@@ -157,6 +157,13 @@ one-row-more line stations jobs k head out buffer x h d o e =
     let g : x ≡ reportLine line 0 (k + 1) (f k .station) (f k .job) = e ∙ ap (λ (y : Lists.List ℕ). y ++ lineTail (k + 1) (f k .station) (f k .job)) d in
     one-line-more line (entries stations jobs) k blank out buffer x o (g ∙ ap (λ (y : Entry). reportLine line 0 (k + 1) (y .station) (y .job)) a) (omega (arith, length-tabulate 32 0 f))
 
+-- how the code judges a call: by the phase that it finds at the place of the station
+pub record Judged (p : Parts) (code station job room k : ℕ) (m : Move) : Type 0 where
+  pub placed : k ≡ placeOf (p .count) station
+  pub phase : Phase
+  pub found : phase ≡ phaseFor (getD (p .phases) k 0)
+  pub moves : (line : ℕ) → moveOf (placeOf (p .count) station) job m ≡ judgeIn (p .count) (phaseOf phase) (called line code station job room)
+
 -- MOVES
 
 -- the number of stations
@@ -283,8 +290,7 @@ module _ (p : Parts) (z : Sized p) (ok : wellFormed (assembled p) ≡ true) wher
 
   -- CALLS
 
-  module _ (g : Shaped t) (line code station job room k : ℕ) (e : k ≡ placeOf (p .count) station) (ph : Phase) (q : ph ≡ phaseFor (getD (p .phases) k 0)) (m : Move)
-      (j : (line : ℕ) → moveOf (placeOf (p .count) station) job m ≡ judgeIn (p .count) (phaseOf ph) (called line code station job room)) where
+  module _ (g : Shaped t) (line code station job room k : ℕ) (m : Move) (J : Judged p code station job room k m) where
     abbrev c : Call
     c = called line code station job room
 
@@ -293,7 +299,7 @@ module _ (p : Parts) (z : Sized p) (ok : wellFormed (assembled p) ≡ true) wher
 
     pub inside : k < p .count
     unfolding assembled
-    inside = omega (arith, place-below (p .count) station (passed t ok .low))
+    inside = omega (arith, J .placed, place-below (p .count) station (passed t ok .low))
 
     here-low : k < 32
     unfolding assembled
@@ -301,12 +307,12 @@ module _ (p : Parts) (z : Sized p) (ok : wellFormed (assembled p) ≡ true) wher
 
     made : (line : ℕ) → Made t (called line code station job room) w
     unfolding assembled
-    made line = judged t g ok code station job room k ph m e (q ∙ ap (λ (s : Station). s .phase) (sym (at-part p k here-low))) j line
+    made line = judged t g ok code station job room k (J .phase) m (J .placed) (J .found ∙ ap (λ (s : Station). s .phase) (sym (at-part p k here-low))) (J .moves) line
 
     -- what the move asks for
     pub asked : (m ≡ BeginLabel → job ≤ 4294967295) × (hands w ≡ true → p .count * 29 ≤ room)
     unfolding assembled
-    asked = (begun-job (p .count) (phaseOf ph) (called 0 code station job room) _ m (j 0), made 0 .fits)
+    asked = (begun-job (p .count) (phaseOf (J .phase)) (called 0 code station job room) _ m (J .moves 0), made 0 .fits)
 
     -- a call whose move is carried out is served
     pub served : {buffer : Lists.List ℕ} {p′ : Parts} {r : Reply} {buffer′ : Lists.List ℕ} → Carries p k w line buffer p′ r buffer′ → Steps t c buffer (assembled p′) r buffer′
@@ -319,4 +325,4 @@ module _ (p : Parts) (z : Sized p) (ok : wellFormed (assembled p) ≡ true) wher
     }
       where
         answer : stepOf t c ≡ answerAfter t k c w
-        answer = made line .answer ∙ ap (λ (i : ℕ). answerAfter t i c w) (sym e)
+        answer = made line .answer ∙ ap (λ (i : ℕ). answerAfter t i c w) (sym (J .placed))

@@ -71,7 +71,7 @@ numbered order o (Move.snaps k Calls.Scan) = refl
 numbered order o (Move.ends k Calls.Label) = refl
 numbered order o (Move.ends k Calls.Scan) = refl
 
-is-refused : (w : Move) → numberOf w ≢ 0 → w ≡ Move.refused (numberOf w)
+pub is-refused : (w : Move) → numberOf w ≢ 0 → w ≡ Move.refused (numberOf w)
 is-refused (Move.refused x) d = refl
 is-refused (Move.begins k job o) d = absurd (d refl)
 is-refused (Move.updates k) d = absurd (d refl)

@@ -2,7 +2,7 @@ use Prim.Native.Nat.{_+_}
 use native.Mathlib.Omega.{arith}
 use mathlib.Core.Path.{refl, sym, _∙_}
 use Rattle.moves.proofs.MoveLaws.{place-below}
-use Rattle.file.proofs.LineLaws.{run-counted, line-place, line-ready, line-orderly, line-before, line-kept, line-reordered, line-accepted, line-refused}
+use Rattle.file.proofs.LineLaws.{run-counted, judged-line, line-place, line-ready, line-orderly, line-before, line-kept, line-reordered, line-accepted, line-refused}
 use borrow.Author.Needs.{needs}
 use Rattle.file.proofs.serve_line.Statement.{statement}
 use Rattle.file.proofs.serve_line.Tie as tie
@@ -26,18 +26,28 @@ add-carry-out c = search needs
 
 carry-out-requires : tie.Need-carry-out-requires
 carry-out-requires c κs =
-    let s = c .before .before .before .before .before .before .before .before .before .before .before .before .before .before in
-    let k = c .before .before .before .before .before .before .before .before .before .before .before .before .place-of in
-    line-ready (s .pre .0) (s .args .lines + 1) (s .args .code) (s .args .station) (s .args .job) (k .result) (k .ensures) _ (c .before .before .before .before .before .before .before .before .before .before .phase-of .ensures) _ (c .before .before .before .before .before .before .before .before .before .judge .ensures) _ (c .before .before .before .before .before .before .before .before .before .before .before .before .before .before .pre .1)
+    let x = c .before .before .before .before .before .before .before .before .before in
+    let s = x .before .before .before .before .before in
+    let m = x .judge .result in
+    let J = judged-line (s .args .code) (s .args .station) (s .args .job) (x .before .before .before .place-of .ensures) (x .before .phase-of .ensures) m (x .judge .ensures) in
+    line-ready (s .pre .0) (s .args .lines + 1) (s .args .code) (s .args .station) (s .args .job) _ m J _ (s .pre .1)
 
 is-update-requires : tie.Need-is-update-requires
 is-update-requires c κs = search needs
 
 refresh-requires : tie.Need-refresh-requires
 refresh-requires c κs =
-    let s = c .before .before .before .before .before .before .before .before .before .before .before .before .before .before .before .before .before .before .before .before in
-    let k = c .before .before .before .before .before .before .before .before .before .before .before .before .before .before .before .before .before .before .place-of in
-    (line-orderly (s .pre .0) (s .args .lines + 1) (s .args .code) (s .args .station) (s .args .job) (k .result) (k .ensures) _ (c .before .before .before .before .before .before .before .before .before .before .before .before .before .before .before .before .phase-of .ensures) _ (c .before .before .before .before .before .before .before .before .before .before .before .before .before .before .before .judge .ensures) refl (c .before .before .before .before .before .carry-out .ensures), (line-place (s .pre .0) (s .args .lines + 1) (s .args .code) (s .args .station) (s .args .job) (k .result) (k .ensures) _ (c .before .before .before .before .before .before .before .before .before .before .before .before .before .before .before .before .phase-of .ensures) _ (c .before .before .before .before .before .before .before .before .before .before .before .before .before .before .before .judge .ensures), (line-before (s .pre .0) (s .args .lines + 1) (s .args .code) (s .args .station) (s .args .job) (k .result) (k .ensures) _ (c .before .before .before .before .before .before .before .before .before .before .before .before .before .before .before .before .phase-of .ensures) _ (c .before .before .before .before .before .before .before .before .before .before .before .before .before .before .before .judge .ensures) refl (c .before .before .before .before .before .carry-out .ensures), λ x. line-kept (s .pre .0) (s .args .lines + 1) (s .args .code) (s .args .station) (s .args .job) (k .result) (k .ensures) _ (c .before .before .before .before .before .before .before .before .before .before .before .before .before .before .before .before .phase-of .ensures) _ (c .before .before .before .before .before .before .before .before .before .before .before .before .before .before .before .judge .ensures) refl (c .before .before .before .before .before .carry-out .ensures) (sym (c .before .before .is-update .ensures) ∙ x))))
+    let x = c .before .before .before .before .before .before .before .before .before .before .before .before .before .before .before in
+    let s = x .before .before .before .before .before in
+    let m = x .judge .result in
+    let J = judged-line (s .args .code) (s .args .station) (s .args .job) (x .before .before .before .place-of .ensures) (x .before .phase-of .ensures) m (x .judge .ensures) in
+    let done = c .before .before .before .before .before .carry-out .ensures in (
+      line-orderly (s .pre .0) (s .args .lines + 1) (s .args .code) (s .args .station) (s .args .job) _ m J refl done,
+      (
+        line-place (s .pre .0) (s .args .lines + 1) (s .args .code) (s .args .station) (s .args .job) _ m J,
+        (line-before (s .pre .0) (s .args .lines + 1) (s .args .code) (s .args .station) (s .args .job) _ m J refl done, λ e. line-kept (s .pre .0) (s .args .lines + 1) (s .args .code) (s .args .station) (s .args .job) _ m J refl done (sym (c .before .before .is-update .ensures _ _) ∙ e)),
+      ),
+    )
 
 number-requires : tie.Need-number-requires
 number-requires c κs = search needs
@@ -47,10 +57,13 @@ same-length c = search needs
 
 returns : tie.Need-returns
 returns c =
-    let s = c .before .before .before .before .before .before .before .before .before .before .before .before .before .before .before .before .before .before .before .before .before .before .before in
-    let k = c .before .before .before .before .before .before .before .before .before .before .before .before .before .before .before .before .before .before .before .before .before .place-of in (
-      line-accepted (s .pre .0) (s .args .lines + 1) (s .args .code) (s .args .station) (s .args .job) (k .result) (k .ensures) _ (c .before .before .before .before .before .before .before .before .before .before .before .before .before .before .before .before .before .before .before .phase-of .ensures) _ (c .before .before .before .before .before .before .before .before .before .before .before .before .before .before .before .before .before .before .judge .ensures) refl (c .before .before .before .before .before .before .before .before .carry-out .ensures) (sym (c .before .number .ensures) ∙ c .if1 .taken),
-      line-reordered (s .pre .0) (s .args .lines + 1) (s .args .code) (s .args .station) (s .args .job) (k .result) (k .ensures) _ (c .before .before .before .before .before .before .before .before .before .before .before .before .before .before .before .before .before .before .before .phase-of .ensures) _ (c .before .before .before .before .before .before .before .before .before .before .before .before .before .before .before .before .before .before .judge .ensures) refl (c .before .before .before .before .before .before .before .before .carry-out .ensures) (c .before .before .refresh .ensures),
+    let x = c .before .before .before .before .before .before .before .before .before .before .before .before .before .before .before .before .before .before in
+    let s = x .before .before .before .before .before in
+    let m = x .judge .result in
+    let J = judged-line (s .args .code) (s .args .station) (s .args .job) (x .before .before .before .place-of .ensures) (x .before .phase-of .ensures) m (x .judge .ensures) in
+    let done = c .before .before .before .before .before .before .before .before .carry-out .ensures in (
+      line-accepted (s .pre .0) (s .args .lines + 1) (s .args .code) (s .args .station) (s .args .job) _ m J refl done (sym (c .before .number .ensures) ∙ c .if1 .taken),
+      line-reordered (s .pre .0) (s .args .lines + 1) (s .args .code) (s .args .station) (s .args .job) _ m J refl done (c .before .before .refresh .ensures),
     )
 
 print-refusal-requires : tie.Need-print-refusal-requires
@@ -61,10 +74,14 @@ same-length-2 c = search needs
 
 returns-2 : tie.Need-returns-2
 returns-2 c =
-    let s = c .before .before .before .before .before .before .before .before .before .before .before .before .before .before .before .before .before .before .before .before .before .before .before .before .before .before .before in
-    let k = c .before .before .before .before .before .before .before .before .before .before .before .before .before .before .before .before .before .before .before .before .before .before .before .before .before .place-of in (
-      line-refused (s .pre .0) (s .args .lines + 1) (s .args .code) (s .args .station) (s .args .job) (k .result) (k .ensures) _ (c .before .before .before .before .before .before .before .before .before .before .before .before .before .before .before .before .before .before .before .before .before .before .before .phase-of .ensures) _ (c .before .before .before .before .before .before .before .before .before .before .before .before .before .before .before .before .before .before .before .before .before .before .judge .ensures) refl (c .before .before .before .before .before .before .before .before .before .before .before .before .carry-out .ensures) (λ z. c .before .before .before .before .if1 .left (c .before .before .before .before .before .number .ensures ∙ z)) (c .before .before .print-refusal .ensures .0) (c .before .before .print-refusal .ensures .1),
-      line-reordered (s .pre .0) (s .args .lines + 1) (s .args .code) (s .args .station) (s .args .job) (k .result) (k .ensures) _ (c .before .before .before .before .before .before .before .before .before .before .before .before .before .before .before .before .before .before .before .before .before .before .before .phase-of .ensures) _ (c .before .before .before .before .before .before .before .before .before .before .before .before .before .before .before .before .before .before .before .before .before .before .judge .ensures) refl (c .before .before .before .before .before .before .before .before .before .before .before .before .carry-out .ensures) (c .before .before .before .before .before .before .refresh .ensures),
+    let x = c .before .before .before .before .before .before .before .before .before .before .before .before .before .before .before .before .before .before .before .before .before .before in
+    let s = x .before .before .before .before .before in
+    let m = x .judge .result in
+    let J = judged-line (s .args .code) (s .args .station) (s .args .job) (x .before .before .before .place-of .ensures) (x .before .phase-of .ensures) m (x .judge .ensures) in
+    let done = c .before .before .before .before .before .before .before .before .before .before .before .before .carry-out .ensures in
+    let told = c .before .before .print-refusal .ensures in (
+      line-refused (s .pre .0) (s .args .lines + 1) (s .args .code) (s .args .station) (s .args .job) _ m J refl done (λ z. c .before .before .before .before .if1 .left (c .before .before .before .before .before .number .ensures ∙ z)) (told .0) (told .1),
+      line-reordered (s .pre .0) (s .args .lines + 1) (s .args .code) (s .args .station) (s .args .job) _ m J refl done (c .before .before .before .before .before .before .refresh .ensures),
     )
 
 pub serve-line-spec : {M : Type 1} → statement M
