@@ -11,30 +11,23 @@ use borrow.Author.Tests.{eq-eqb, ne-eqb}
 use Rattle.label.specs.Rows.{digit}
 use Rattle.rows.specs.Held.{Orderly, OrderedBefore}
 use Rattle.simulation.specs.Calls as Calls
-use Rattle.simulation.specs.Calls.{Call, judgeIn, reportLines}
+use Rattle.simulation.specs.Calls.{Call, reportLines}
 use Rattle.table.specs.Tables.{freshTable}
 use Rattle.table.specs.WellFormed.{wellFormed}
 use Rattle.transition.specs.Steps.{stepOf}
-use Rattle.transition.specs.States.{phaseOf}
 use Rattle.transition.specs.Records.{hands}
 use Rattle.transition.proofs.Stores.{is-refused}
 use Rattle.transition.proofs.ReachedTables.{ReachedTable, table-passes, table-shaped, table-step, table-fresh}
 use Rattle.table.proofs.Shapes.{Shaped}
-use Rattle.moves.specs.Moves.{refusalNumber, moveOf, called, placeOf}
+use Rattle.moves.specs.Moves.{refusalNumber, moveOf, called}
 use Rattle.step.specs.Contracts.{over, Steps}
-use Rattle.parts.specs.Parts.{Parts, parts, phaseFor, freshRow, freshParts, assembled, orderOf, isUpdate, Ready, Carries}
+use Rattle.parts.specs.Parts.{Parts, parts, freshRow, freshParts, assembled, orderOf, isUpdate, Ready, Carries}
 use Rattle.parts.proofs.PartLaws.{Judged, counted, parts-orderly, inside, asked, served}
 use Rattle.parts.proofs.Fresh.{fresh-parts, fresh-sized}
 use Rattle.file.specs.Files.{printed}
 use Rattle.file.specs.Contracts.{Runnable, Prints}
-use Rattle.table.specs.declared.Phase.{Phase}
 use Rattle.step.specs.declared.Reply.{Reply}
 use Rattle.moves.specs.declared.Move.{Move}
-
--- what the code finds of a line before it carries it out
-pub judged-line : {p : Parts} (code station job : ℕ) {k : ℕ} {ph : Phase} → k ≡ placeOf (p .count) station → ph ≡ phaseFor (getD (p .phases) k 0) → (m : Move)
-    → ((line : ℕ) → moveOf (placeOf (p .count) station) job m ≡ judgeIn (p .count) (phaseOf ph) (called line code station job 928)) → Judged p code station job 928 k m
-judged-line code station job {ph = ph} e q m j = record { placed = e; phase = ph; found = q; moves = j }
 
 module _ {p : Parts} {order : Lists.List ℕ} (f : Runnable p order) where
   pub run-counted : (2 ≤ p .count) × (p .count ≤ 32)

@@ -164,6 +164,10 @@ pub record Judged (p : Parts) (code station job room k : ℕ) (m : Move) : Type 
   pub found : phase ≡ phaseFor (getD (p .phases) k 0)
   pub moves : (line : ℕ) → moveOf (placeOf (p .count) station) job m ≡ judgeIn (p .count) (phaseOf phase) (called line code station job room)
 
+pub judgement : {p : Parts} (code station job room : ℕ) {k : ℕ} {ph : Phase} → k ≡ placeOf (p .count) station → ph ≡ phaseFor (getD (p .phases) k 0) → (m : Move)
+    → ((line : ℕ) → moveOf (placeOf (p .count) station) job m ≡ judgeIn (p .count) (phaseOf ph) (called line code station job room)) → Judged p code station job room k m
+judgement code station job room {ph = ph} e q m j = record { placed = e; phase = ph; found = q; moves = j }
+
 -- MOVES
 
 -- the number of stations

@@ -10,17 +10,15 @@ use lib.Dec.{eqb}
 use borrow.Author.Tests.{eqb-true, eqb-false}
 use Rattle.label.specs.Tests.{within, every, All}
 use Rattle.label.proofs.Facts.{both, right-no, within-true, every-at}
-use Rattle.simulation.specs.Calls as Calls
-use Rattle.simulation.specs.Calls.{Call, numberOf}
-use Rattle.simulation.proofs.Judged.{all-judged}
-use Rattle.table.specs.Tables.{at}
 use Rattle.table.specs.WellFormed.{wellFormed}
-use Rattle.transition.specs.Steps.{Answer, move, stepOf}
-use Rattle.transition.proofs.View.{step-carries, carried-count}
+use Rattle.table.proofs.Shapes.{Shaped}
+use Rattle.transition.specs.Steps.{Answer, stepOf}
+use Rattle.transition.proofs.Theorem.{step-refusals}
+use Rattle.transition.proofs.Stores.{step-shaped, step-kept}
 use Rattle.moves.specs.Moves.{refusalNumber}
 use Rattle.step.specs.Contracts.{over, Steps}
 use Rattle.step.specs.Routines as Routines
-use Rattle.step.proofs.StepLaws.{ill-formed, step-kept}
+use Rattle.step.proofs.StepLaws.{ill-formed}
 use Rattle.step.proofs.Routines.{routines-demand}
 use Rattle.parts.specs.Parts.{Parts, assembled}
 use Rattle.parts.proofs.Fresh.{fresh-parts}
@@ -28,7 +26,7 @@ use Rattle.ticketing.specs.Apart.{apart, known, sound}
 use Rattle.ticketing.specs.Contracts.{Whole, Starts, Turns}
 use Rattle.parts.specs.Parts.{freshParts}
 use Rattle.ticketing.specs.Exported.{Made, callOf, Sequence, refusalOf, routine, ExportedDemand}
-use Rattle.ticketing.proofs.ApartLaws.{assembled-apart, apart-whole, apart-known, assembled-long, stepped-long, fresh-whole, fresh-known}
+use Rattle.ticketing.proofs.ApartLaws.{assembled-apart, apart-whole, apart-known, assembled-shaped, fresh-whole, fresh-known}
 use Rattle.ticketing.proofs.TurnLaws.{turn-unsound, turn-sound}
 use Rattle.table.specs.declared.Table.{Table}
 
@@ -38,11 +36,6 @@ numbered r h = eqb-true _ r (every-at 14 (λ x. eqb (refusalNumber (refusalOf x)
   where
     all : every 14 (λ x. eqb (refusalNumber (refusalOf x)) x) ≡ true
     all = unfold every in refl
-
-step-number : (t : Table) (c : Call) → wellFormed t ≡ true → stepOf t c .refusal ≤ 13
-unfolding move
-step-number t c ok = subst (λ (r : ℕ). r ≤ 13) (sym (ap (λ a. a .refusal) (step-carries t c ok) ∙ carried-count t c (move t c) .1))
-    (all-judged (λ m. numberOf m ≤ 13) (λ r h d. omega arith) (t .count) (at t (Calls.place c) .phase) c (omega arith) (omega arith) (omega arith) (omega arith) (omega arith) (omega arith) (λ e. omega arith) (λ e. omega arith))
 
 -- parts that are whole, with known phases, and that make the table t
 record Makes (t : Table) (p : Parts) : Type 0 where
@@ -66,20 +59,23 @@ module _ (p : Parts) (x : Made) (w : Whole p) (k : known (p .phases) ≡ true) (
       a : Answer
       a = stepOf t (callOf x)
 
+      g : Shaped t
+      g = assembled-shaped p w
+
       go : (b : Bool) → wellFormed t ≡ b → Left p x
       go true e =
           let s = turn-sound p (callOf x) (unfold sound in both k e) in
           let n : x .answer .refusal ≡ a .refusal = u .refusal ∙ ap (λ y. y .refusal) s in
           let m = subst (Makes (a .table)) (sym (u .parts ∙ ap (λ y. y .parts) s)) (pick (eqb (a .refusal) 0) refl) in
-          let z = numbered (x .answer .refusal) (rw n (step-number t (callOf x) e)) in record {
+          let z = numbered (x .answer .refusal) (omega (arith, n, step-refusals t (callOf x) e .most)) in record {
             parts = m;
             number = z;
             step = record { table = m .table; refusal = z ∙ n; written = u .written ∙ ap (λ y. length (y .bytes)) s; report = u .report ∙ ap (λ y. over (y .bytes) (x .buffer)) s };
           }
         where
           pick : (b : Bool) → eqb (a .refusal) 0 ≡ b → Makes (a .table) (cond b (apart (a .table)) p)
-          pick true q = record { whole = apart-whole (a .table); phases = apart-known (a .table); table = assembled-apart (a .table) (stepped-long t (assembled-long p) e (callOf x)) }
-          pick false q = record { whole = w; phases = k; table = sym (step-kept t (callOf x) (eqb-false (a .refusal) 0 q)) }
+          pick true q = let h = step-shaped t g e (callOf x) in record { whole = apart-whole (a .table) h; phases = apart-known (a .table); table = assembled-apart (a .table) h }
+          pick false q = record { whole = w; phases = k; table = sym (ap (λ (y : Answer). y .table) (step-kept t (callOf x) g (eqb-false (a .refusal) 0 q))) }
       go false e =
           let s = turn-unsound p (callOf x) (unfold sound in right-no (known (p .phases)) e) in
           let q : x .parts ≡ p = u .parts ∙ ap (λ y. y .parts) s in

@@ -27,7 +27,7 @@ use Rattle.table.specs.declared.Phase.the-variants.{Idle, Snap, Update, End}
 use Rattle.table.specs.declared.Operation.the-variants.{Label, Scan}
 use Rattle.table.specs.declared.Station.{Station}
 use Rattle.table.specs.declared.Table.{Table}
-use Rattle.parts.specs.Parts.{Parts, phaseOf, entries, stationAt, assembled}
+use Rattle.parts.specs.Parts.{Parts, phaseFor, entries, stationAt, assembled}
 use Rattle.parts.proofs.PartLaws.{at-part}
 use Rattle.ticketing.specs.Apart.{rowsFit, known, sound}
 use Rattle.parts.specs.Parts.{freshRow}
@@ -44,7 +44,7 @@ every-and (suc k) f g = ap (λ b. b && (f k && g k)) (every-and k f g) ∙ swap 
     swap true false false d = refl
 
 -- only 0 is the number of an idle station
-pub idle-zero : (b : ℕ) → eqb b 0 ≡ isIdle (phaseOf b)
+pub idle-zero : (b : ℕ) → eqb b 0 ≡ isIdle (phaseFor b)
 idle-zero b = go (eqb b 0) (eqb b 1) (eqb b 2) (eqb b 3) (eqb b 4)
   where
     go : (v w x y z : Bool) → v ≡ isIdle (cond v Idle (cond w (Snap Label) (cond x (Snap Scan) (cond y Update (cond z (End Label) (End Scan))))))

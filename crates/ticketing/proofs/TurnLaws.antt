@@ -4,28 +4,28 @@ use mathlib.Core.Path.{_≡_, refl, sym, ap, _∙_}
 use mathlib.Core.Logic.{_≢_}
 use mathlib.Core.Bool.{Bool, true, false, cond, true≢false}
 use mathlib.Core.List as Lists
-use mathlib.Core.List.{[], _∷_}
+use mathlib.Core.List.{[]}
 use lib.ListN.{length, replicate}
 use lib.Dec.{eqb}
-use types.Run.{OneOf, miss}
+use types.Run.{OneOf}
 use denote.Enum.Declared.{tagOf}
 use borrow.Author.Tests.{eqb-false, le-leb, lt-leb}
 use Rattle.label.specs.Tests.{within}
 use Rattle.label.proofs.Facts.{and-both}
-use Rattle.simulation.specs.Calls as Calls
 use Rattle.simulation.specs.Calls.{Call}
 use Rattle.table.specs.WellFormed.{wellFormed}
 use Rattle.transition.specs.Steps as Steps
 use Rattle.transition.specs.Steps.{stepOf}
-use Rattle.step.proofs.StepLaws.{step-kept}
+use Rattle.transition.proofs.Stores.{step-kept}
 use Rattle.moves.specs.Moves.{refusalNumber, moveOf}
 use Rattle.moves.proofs.Move.{the-type}
+use Rattle.moves.proofs.MoveLaws.{noSnap, no-snap}
 use Rattle.step.specs.Contracts.{over}
 use Rattle.parts.specs.Parts.{Parts, parts, assembled, Phased, freshRow, isSnap}
 use Rattle.file.specs.Files.{fileReport}
 use Rattle.ticketing.specs.Apart.{apart, known, sound}
 use Rattle.ticketing.specs.Contracts.{Whole, Starts, turnOf, Turns, Serves, ReportsFile}
-use Rattle.ticketing.proofs.ApartLaws.{apart-assembled, phased}
+use Rattle.ticketing.proofs.ApartLaws.{apart-assembled, phased, assembled-shaped}
 use Rattle.moves.specs.declared.Move.{Move}
 use Rattle.moves.specs.declared.Move.the-variants.{Refused, BeginLabel, BeginScan, SnapLabel, SnapScan, Update, EndLabel, EndScan}
 use Rattle.step.specs.declared.Reply.{Reply}
@@ -39,16 +39,16 @@ started n p e q = record { refusal = rw e refl; parts = rw (e, q) refl }
 pub not-started : (n : ℕ) (p : Parts) → within 2 32 n ≡ false → Starts n p p 1
 not-started n p e = record { refusal = rw e refl; parts = rw e refl }
 
--- the moves that ask for no scan order
-pub no-order : (m : Move) → OneOf (0 ∷ 1 ∷ 2 ∷ 5 ∷ 6 ∷ 7 ∷ []) (tagOf the-type m) → isSnap (moveOf m) ≢ true
-no-order (Refused x) h e = true≢false (sym e)
-no-order BeginLabel h e = true≢false (sym e)
-no-order BeginScan h e = true≢false (sym e)
-no-order SnapLabel h e = miss (0 ∷ 1 ∷ 2 ∷ 5 ∷ 6 ∷ 7 ∷ []) 3 tt h
-no-order SnapScan h e = miss (0 ∷ 1 ∷ 2 ∷ 5 ∷ 6 ∷ 7 ∷ []) 4 tt h
-no-order Update h e = true≢false (sym e)
-no-order EndLabel h e = true≢false (sym e)
-no-order EndScan h e = true≢false (sym e)
+-- a move that is no snap asks for no scan order
+pub no-order : (k job : ℕ) (m : Move) → OneOf noSnap (tagOf the-type m) → isSnap (moveOf k job m) ≢ true
+no-order k job (Refused x) h e = true≢false (sym e)
+no-order k job BeginLabel h e = true≢false (sym e)
+no-order k job BeginScan h e = true≢false (sym e)
+no-order k job SnapLabel h e = no-snap SnapLabel h .0 refl
+no-order k job SnapScan h e = no-snap SnapScan h .1 refl
+no-order k job Update h e = true≢false (sym e)
+no-order k job EndLabel h e = true≢false (sym e)
+no-order k job EndScan h e = true≢false (sym e)
 
 pub sound-parts : (p : Parts) → sound p ≡ true → Phased p × (wellFormed (assembled p) ≡ true)
 unfolding sound
@@ -91,7 +91,7 @@ module _ (p : Parts) (c : Call) where
 
       kept : (b : Bool) → eqb (t .refusal) 0 ≡ b → apart (t .table) ≡ cond b (apart (t .table)) p
       kept true q = refl
-      kept false q = ap apart (step-kept (assembled p) c (eqb-false (t .refusal) 0 q)) ∙ apart-assembled p whole (known′ .0)
+      kept false q = ap (λ (a : Steps.Answer). apart (a .table)) (step-kept (assembled p) c (assembled-shaped p whole) (eqb-false (t .refusal) 0 q)) ∙ apart-assembled p whole (known′ .0)
 
 -- a whole schedule, with room for its report and without
 pub file-unserved : (bs buffer : Lists.List ℕ) (r : Answer) → length buffer / 928 < length bs / 18 + 2 → r .refusal ≡ 7 → r .written ≡ 0 → ReportsFile bs buffer r buffer

@@ -16,9 +16,11 @@ use Rattle.ticketing.specs.Apart.{apart, sound}
 use Rattle.step.specs.declared.Reply.{Reply}
 use Rattle.ticketing.specs.declared.Answer.{Answer}
 
--- each array has the length of its type, and so has each row of a result
+-- each array has the length of its type, and so has each row of it
 pub record Whole (p : Parts) : Type 0 where
   pub sized : Sized p
+  pub labels : (i : ℕ) → i < 32 → length (getD (p .labels) i []) ≡ 31
+  pub pending : (i : ℕ) → i < 32 → length (getD (p .pendingLabels) i []) ≡ 31
   pub stations : (i : ℕ) → i < 32 → length (getD (p .resultStations) i []) ≡ 32
   pub jobs : (i : ℕ) → i < 32 → length (getD (p .resultJobs) i []) ≡ 32
 

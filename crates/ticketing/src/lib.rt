@@ -6,7 +6,7 @@ ghost use lib.ListN.{length};
 ghost use Rattle.rows.specs.Held.{Orderly};
 ghost use Rattle.table.specs.WellFormed.{wellFormed};
 ghost use Rattle.moves.specs.Moves.{moveOf, called};
-ghost use Rattle.parts.specs.Parts.{parts, assembled, Sized, orderOf, isSnap};
+ghost use Rattle.parts.specs.Parts.{parts, assembled, orderOf, isSnap};
 ghost use Rattle.ticketing.specs.Contracts.{Whole, Starts, Turns, Serves, ReportsFile};
 use moves::Move;
 use step::Reply;
@@ -36,7 +36,7 @@ fn whole(
 // The scan order, for a move that asks for it.
 fn order_for(m: Move, labels: &[[u8; 31]; 32], n: usize) -> [usize; 32]
     requires { ⌜ Orderly n (now labels) ⌝ }
-    ensures { λ r. ⌜ (isSnap (moveOf m) ≡ true → r ≡ orderOf n (now (labels .entry))) ⌝ }
+    ensures { λ r. ⌜ ((k job : ℕ) → isSnap (moveOf k job m) ≡ true → r ≡ orderOf n (now (labels .entry))) ⌝ }
 {
     match m {
         Move::SnapLabel => rows::order::order(labels, n),
@@ -60,7 +60,7 @@ fn serve(
     job: u64,
     report: &mut [u8],
 ) -> Reply
-    requires { ⌜ Sized (parts n (now labels) (now jobs) (now «pending_labels») (now «pending_jobs») (now «result_stations») (now «result_jobs») (now phases)) ⌝ }
+    requires { ⌜ Whole (parts n (now labels) (now jobs) (now «pending_labels») (now «pending_jobs») (now «result_stations») (now «result_jobs») (now phases)) ⌝ }
     requires { ⌜ wellFormed (assembled (parts n (now labels) (now jobs) (now «pending_labels») (now «pending_jobs») (now «result_stations») (now «result_jobs») (now phases))) ≡ true ⌝ }
     ensures { λ r. ⌜ Serves (parts n (now (labels .entry)) (now (jobs .entry)) (now («pending_labels» .entry)) (now («pending_jobs» .entry)) (now («result_stations» .entry)) (now («result_jobs» .entry)) (now (phases .entry))) (called 0 code station job (length (now (report .entry)))) (now (report .entry)) (parts n (now (labels .exit)) (now (jobs .exit)) (now («pending_labels» .exit)) (now («pending_jobs» .exit)) (now («result_stations» .exit)) (now («result_jobs» .exit)) (now (phases .exit))) r (now (report .exit)) ⌝ }
 {

@@ -12,12 +12,12 @@ use Rattle.label.specs.Labels as Labels
 use Rattle.simulation.specs.Calls.{Call}
 use Rattle.simulation.specs.Machine as Machine
 use Rattle.simulation.specs.Machine.{original, digits, numbers, stands, State, fresh, step, snapsOf, Bounded}
-use Rattle.simulation.proofs.Judged.{refusals}
+use Rattle.simulation.proofs.Judged.{Refusal, refusals}
 use Rattle.simulation.proofs.Follow.{run-cons, snaps-cons, Simulates}
 use Rattle.simulation.proofs.Simulation.{simulation}
 use Rattle.table.specs.Tables.{freshTable}
 use Rattle.table.specs.WellFormed.{wellFormed}
-use Rattle.transition.specs.States.{stateOf, tableOf}
+use Rattle.transition.specs.States.{labelsOf, restOf, stateOf, tableOf}
 use Rattle.transition.specs.Steps.{Answer, written, stepOf}
 use Rattle.transition.specs.Demand.{run, snaps, seen, unbounded, Demand3}
 use Rattle.transition.proofs.States.{fresh-written}
@@ -28,6 +28,11 @@ use Rattle.table.specs.declared.Table.{Table}
 pub step-written : (t : Table) (c : Call) → wellFormed t ≡ true → let n = t .count in stepOf t c ≡ written n (step original n (digits n) (stateOf t) c)
 unfolding stepOf
 step-written t c e = rw (e, stepOf) refl
+
+pub step-refusals : (t : Table) (c : Call) → wellFormed t ≡ true → Refusal (t .count) c (stepOf t c .refusal)
+unfolding step
+step-refusals t c e = subst (λ (a : Answer). Refusal (t .count) c (a .refusal)) (sym (step-written t c e))
+    (refusals (t .count) c (ordered (t .count) (stands (digits (t .count)) (labelsOf t))) (restOf t))
 
 -- what holds of all answers to some calls holds of those to the first k of them
 all-taken : (P : Machine.Answer ℕ → Type 0) (n k : ℕ) (cs : Lists.List Call) (s : State ℕ) (al : Lists.List ℕ)
@@ -60,7 +65,7 @@ module _ (n : ℕ) (low : 2 ≤ n) (high : n ≤ 32) where
 
     not-13 : answer s c .refusal ≢ 13
     unfolding step
-    not-13 = refusals n c (ordered n (stands (digits n) (s .labels))) (s .rest) .0
+    not-13 e = omega (arith, refusals n c (ordered n (stands (digits n) (s .labels))) (s .rest) .most)
 
     run-written : (cs : Lists.List Call) → run (tableOf n s) (c ∷ cs) ≡ written n (answer s c) ∷ run (tableOf n (answer s c .state)) cs
     unfolding run

@@ -2,7 +2,8 @@ use Prim.Native.Nat.{_+_}
 use native.Mathlib.Omega.{arith}
 use mathlib.Core.Path.{refl, sym, _∙_}
 use Rattle.moves.proofs.MoveLaws.{place-below}
-use Rattle.file.proofs.LineLaws.{run-counted, judged-line, line-place, line-ready, line-orderly, line-before, line-kept, line-reordered, line-accepted, line-refused}
+use Rattle.parts.proofs.PartLaws.{judgement}
+use Rattle.file.proofs.LineLaws.{run-counted, line-place, line-ready, line-orderly, line-before, line-kept, line-reordered, line-accepted, line-refused}
 use borrow.Author.Needs.{needs}
 use Rattle.file.proofs.serve_line.Statement.{statement}
 use Rattle.file.proofs.serve_line.Tie as tie
@@ -29,7 +30,7 @@ carry-out-requires c κs =
     let x = c .before .before .before .before .before .before .before .before .before in
     let s = x .before .before .before .before .before in
     let m = x .judge .result in
-    let J = judged-line (s .args .code) (s .args .station) (s .args .job) (x .before .before .before .place-of .ensures) (x .before .phase-of .ensures) m (x .judge .ensures) in
+    let J = judgement (s .args .code) (s .args .station) (s .args .job) 928 (x .before .before .before .place-of .ensures) (x .before .phase-of .ensures) m (x .judge .ensures) in
     line-ready (s .pre .0) (s .args .lines + 1) (s .args .code) (s .args .station) (s .args .job) _ m J _ (s .pre .1)
 
 is-update-requires : tie.Need-is-update-requires
@@ -40,7 +41,7 @@ refresh-requires c κs =
     let x = c .before .before .before .before .before .before .before .before .before .before .before .before .before .before .before in
     let s = x .before .before .before .before .before in
     let m = x .judge .result in
-    let J = judged-line (s .args .code) (s .args .station) (s .args .job) (x .before .before .before .place-of .ensures) (x .before .phase-of .ensures) m (x .judge .ensures) in
+    let J = judgement (s .args .code) (s .args .station) (s .args .job) 928 (x .before .before .before .place-of .ensures) (x .before .phase-of .ensures) m (x .judge .ensures) in
     let done = c .before .before .before .before .before .carry-out .ensures in (
       line-orderly (s .pre .0) (s .args .lines + 1) (s .args .code) (s .args .station) (s .args .job) _ m J refl done,
       (
@@ -60,7 +61,7 @@ returns c =
     let x = c .before .before .before .before .before .before .before .before .before .before .before .before .before .before .before .before .before .before in
     let s = x .before .before .before .before .before in
     let m = x .judge .result in
-    let J = judged-line (s .args .code) (s .args .station) (s .args .job) (x .before .before .before .place-of .ensures) (x .before .phase-of .ensures) m (x .judge .ensures) in
+    let J = judgement (s .args .code) (s .args .station) (s .args .job) 928 (x .before .before .before .place-of .ensures) (x .before .phase-of .ensures) m (x .judge .ensures) in
     let done = c .before .before .before .before .before .before .before .before .carry-out .ensures in (
       line-accepted (s .pre .0) (s .args .lines + 1) (s .args .code) (s .args .station) (s .args .job) _ m J refl done (sym (c .before .number .ensures) ∙ c .if1 .taken),
       line-reordered (s .pre .0) (s .args .lines + 1) (s .args .code) (s .args .station) (s .args .job) _ m J refl done (c .before .before .refresh .ensures),
@@ -77,7 +78,7 @@ returns-2 c =
     let x = c .before .before .before .before .before .before .before .before .before .before .before .before .before .before .before .before .before .before .before .before .before .before in
     let s = x .before .before .before .before .before in
     let m = x .judge .result in
-    let J = judged-line (s .args .code) (s .args .station) (s .args .job) (x .before .before .before .place-of .ensures) (x .before .phase-of .ensures) m (x .judge .ensures) in
+    let J = judgement (s .args .code) (s .args .station) (s .args .job) 928 (x .before .before .before .place-of .ensures) (x .before .phase-of .ensures) m (x .judge .ensures) in
     let done = c .before .before .before .before .before .before .before .before .before .before .before .before .carry-out .ensures in
     let told = c .before .before .print-refusal .ensures in (
       line-refused (s .pre .0) (s .args .lines + 1) (s .args .code) (s .args .station) (s .args .job) _ m J refl done (λ z. c .before .before .before .before .if1 .left (c .before .before .before .before .before .number .ensures ∙ z)) (told .0) (told .1),

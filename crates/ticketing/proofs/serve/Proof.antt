@@ -1,6 +1,7 @@
 use native.Mathlib.Omega.{arith}
 use Rattle.moves.proofs.MoveLaws.{place-below}
-use Rattle.parts.proofs.PartLaws.{counted, parts-orderly, inside, asked, served}
+use Rattle.parts.proofs.PartLaws.{judgement, counted, parts-orderly, inside, asked, served}
+use Rattle.ticketing.proofs.ApartLaws.{assembled-shaped}
 use borrow.Author.Needs.{needs}
 use Rattle.ticketing.proofs.serve.Statement.{statement}
 use Rattle.ticketing.proofs.serve.Tie as tie
@@ -20,21 +21,23 @@ judge-requires : tie.Need-judge-requires
 judge-requires c κs = counted _ (c .before .before .before .before .pre .1) .1
 
 order-for-requires : tie.Need-order-for-requires
-order-for-requires c κs = let s = c .before .before .before .before .before .before in parts-orderly _ (s .pre .0) (s .pre .1)
+order-for-requires c κs = let s = c .before .before .before .before .before .before in parts-orderly _ (s .pre .0 .sized) (s .pre .1)
 
 carry-out-requires : tie.Need-carry-out-requires
 carry-out-requires c κs =
     let j = c .before .before .before .before .before .before .before .before .before .before .before in
     let k = j .before .before .before in
     let s = k .before .before in
-    let a = s .args in
-    let ask = asked _ (s .pre .0) (s .pre .1) 0 (a .code) (a .station) (a .job) _ _ (k .place-of .ensures) _ (j .before .phase-of .ensures) _ (j .judge .ensures) in
+    let m = j .judge .result in
+    let J = judgement (s .args .code) (s .args .station) (s .args .job) _ (k .place-of .ensures) (j .before .phase-of .ensures) m (j .judge .ensures) in
+    let g = assembled-shaped _ (s .pre .0) in
+    let ask = asked _ (s .pre .0 .sized) (s .pre .1) g 0 (s .args .code) (s .args .station) (s .args .job) _ _ m J in
     record {
-      inside = inside _ (s .pre .0) (s .pre .1) 0 (a .code) (a .station) (a .job) _ _ (k .place-of .ensures) _ (j .before .phase-of .ensures) _ (j .judge .ensures);
-      sized = s .pre .0;
+      inside = inside _ (s .pre .0 .sized) (s .pre .1) g 0 (s .args .code) (s .args .station) (s .args .job) _ _ m J;
+      sized = s .pre .0 .sized;
       passed = s .pre .1;
       jobFits = ask .0;
-      isOrder = c .before .before .before .before .before .before .before .before .before .order-for .ensures;
+      isOrder = c .before .before .before .before .before .before .before .before .before .order-for .ensures _ _;
       hasRoom = ask .1;
     }
 
@@ -47,9 +50,10 @@ returns c =
     let j = o .before .before .before .before .before .before .before .before .before .before .before .before in
     let k = j .before .before .before in
     let s = k .before .before in
-    let a = s .args in
+    let m = j .judge .result in
+    let J = judgement (s .args .code) (s .args .station) (s .args .job) _ (k .place-of .ensures) (j .before .phase-of .ensures) m (j .judge .ensures) in
     record {
-      step = served _ (s .pre .0) (s .pre .1) 0 (a .code) (a .station) (a .job) _ _ (k .place-of .ensures) _ (j .before .phase-of .ensures) _ (j .judge .ensures) (o .carry-out .ensures);
+      step = served _ (s .pre .0 .sized) (s .pre .1) (assembled-shaped _ (s .pre .0)) 0 (s .args .code) (s .args .station) (s .args .job) _ _ m J (o .carry-out .ensures);
       phased = o .carry-out .ensures .phased;
     }
 

@@ -18,7 +18,7 @@ serve-requires : tie.Need-serve-requires
 serve-requires c κs =
     let e = c .before .before .before .before .before .before .before .before in
     let w = e .before in
-    ((w .before .before .before .before .before .before .before .before .whole .ensures _) .sized, sound-parts _ (was-true (w .well-formed .ensures) (e .if1 .left)) .1)
+    (w .before .before .before .before .before .before .before .before .whole .ensures _, sound-parts _ (was-true (w .well-formed .ensures) (e .if1 .left)) .1)
 
 whole-requires-2 : tie.Need-whole-requires-2
 whole-requires-2 c κs = search needs
