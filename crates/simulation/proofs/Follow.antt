@@ -1,28 +1,25 @@
--- Why the unbounded machine, given the numbers that are found beside another one, answers as that one does: what it takes of that one's labels, and
--- the theorem for whole sequences (the paper's section 6; 01, "What demand 3 compares"). Nothing here knows what a label is, or how a board judges: only
--- that judging reads no label, and that what a call does to the labels is one of the steps that the labels are able to take.
+-- THE SEQUENCE THEOREM (the paper's section 6; 01, "What demand 3 compares"): numbers found beside one machine let the unbounded one answer alike, to every
+-- sequence of calls; and advances follow from them. Of the labels it knows what `Simulable` says, of the board that it judges without reading them.
 use Prim.Native.Nat.{ℕ, zero, _+_, _≤_}
 use native.Mathlib.Nat.{le-refl}
 use native.Mathlib.Omega.{arith}
-use mathlib.Core.Path.{_≡_, refl, sym, ap, ap₂, subst, _∙_, fun-ext}
-use mathlib.Core.Logic.{_≢_, _⊎_, inl, inr}
-use mathlib.Core.Bool.{Bool, true, false, _&&_, _||_, cond}
+use mathlib.Core.Path.{_≡_, refl, sym, ap, ap₂, subst, _∙_}
+use mathlib.Core.Logic.{_⊎_, inl, inr}
 use mathlib.Core.List as Lists
 use mathlib.Core.List.{[], _∷_, _++_, map, map-map, map-id, map-append, append-assoc, append-nil, List·Memᴰ, Memᴰ·cast, Memᴰ·append-left, Memᴰ·append-right}
 use lib.ListN.{length, length-append, length-map, getD, drop, replicate, length-replicate}
 use lib.Seq.{drop-nil}
-use lib.Dec.{eqb}
-use borrow.Author.Tests.{eqb-true, eq-eqb, ne-eqb}
-use Rattle.label.specs.Tests.{newest, All}
-use Rattle.label.proofs.Facts.{tf, by-here, all-append, all-replicate, all-weaken, map-replicate, member-replicate, first-replicate, drop-replicate, Same, newest-same, ordered-same}
+use Rattle.label.specs.Tests.{All}
+use Rattle.label.proofs.Facts.{all-append, all-replicate, all-weaken, map-replicate, member-replicate, first-replicate, drop-replicate, ordered-same}
 use Rattle.simulation.specs.Calls.{Rest, Call}
-use Rattle.simulation.specs.Machine.{Board, Labelling, put, copy, Rules, numbers, stands, pendingAfter, LabelStep, stay, snap, update, labelStep, relabelled, labelSnap, carryOut, State, Answer, answer, fresh, step, snapsOf, run, snaps, seen, Bounded}
-use Rattle.simulation.specs.Numbering.{numbered, LabelSnap, met, labelSnaps, Fit, Fits, Gapless, advance, advances, through, Slot, number, shift, Renumbering, besideOnly, placed, renumber, renumbered}
-use Rattle.simulation.proofs.Sync.{Rising, rising-le, rising-before, byNumber}
-use Rattle.simulation.proofs.Numbers.{shift-rising, shift-zero, Upto, Sits, sits-above, Old, Span, span-same, span-placed}
+use Rattle.simulation.specs.Machine.{Board, Labelling, Rules, numbers, LabelStep, labelStep, labelSnap, carryOut, State, Answer, answer, fresh, step, snapsOf, run, snaps, seen, Bounded}
+use Rattle.simulation.specs.Numbering.{numbered, LabelSnap, met, labelSnaps, Fit, Fits, Gapless, advance, advances, through, Renumbering, renumber, renumbered}
+use Rattle.simulation.proofs.Sync.{Rising, rising-le}
+use Rattle.simulation.proofs.Numbers.{Upto, Old, Span}
+use Rattle.simulation.proofs.Simulable.{Simulable, order-kept, Stepped, stepped}
 use Rattle.simulation.proofs.Advances.{met-length, run-advances, advances-whole, fit-weaken}
 
--- THE TWO MACHINES SIDE BY SIDE: the unbounded one is the other with numbers ν in the place of labels
+-- the unbounded machine beside another: the same rest, and numbers ν in place of the labels
 
 abbrev pub shadow : {A : Type 0} → Labelling ℕ → State A → State ℕ
 shadow ν s = record { labels = ν; rest = s .rest }
@@ -40,139 +37,16 @@ module _ {A : Type 0} (B : Board) (n : ℕ) (r : Rules A) (s : State A) (c : Cal
   unfolding snaps
   snaps-cons = rw (drop-nil {A = ℕ} (snapsOf B n s c)) refl
 
-through-put : (f : ℕ → ℕ) (N : Labelling ℕ) (k v : ℕ) → put (through f N) k (f v) ≡ through f (put N k v)
-through-put f N k v = fun-ext (λ x. fun-ext (λ i. go (x && eqb i k) x i))
-  where
-    go : (b x : Bool) (i : ℕ) → cond b (f v) (f (N x i)) ≡ f (cond b v (N x i))
-    go true x i = refl
-    go false x i = refl
-
--- a snap by process k, once the newest process is known
-module _ {A : Type 0} (n : ℕ) (r : Rules A) (l : Labelling A) (k z : ℕ) (e : newest n (stands r l) ≡ z) where
-  pub pend-new : k ≢ z → pendingAfter n r l k ≡ r .new (l false) z k
-  unfolding pendingAfter
-  pend-new d = rw (e, ne-eqb k z d) refl
-
-  -- the newest process's snap changes nothing
-  pub snap-stays : k ≡ z → put l k (pendingAfter n r l k) ≡ l
-  unfolding pendingAfter
-  snap-stays q = rw (e, eq-eqb k z q) (fun-ext go)
-    where
-      go : (x : Bool) → put l k (l true k) x ≡ l x
-      go false = refl
-      go true = fun-ext (λ i. by-here (λ b. cond b (l true k) (l true i) ≡ l true i) k i (λ f. ap (l true) (sym f)) (λ _. refl))
-
--- WHAT IT TAKES OF LABELS: a way to find slots, and a relation R between labels and numbers that holds at the start, orders the processes by either
--- alike, and is kept by each snap, with the slot found, and each update that is `Able`
-pub record Simulable {A : Type 0} (n : ℕ) (r : Rules A) (a : A) (Able : LabelStep → Type 0) : Type 1 where
-  pub slot : (ℕ → A) → (ℕ → ℕ) → ℕ → ℕ → A → Slot
-  pub R : Labelling A → Labelling ℕ → Type 0
-  pub start : R (λ x i. a) (λ x i. 0)
-  pub order : (l : Labelling A) (N : Labelling ℕ) → R l N → Same n (stands r l) (byNumber (N false))
-  pub snaps : (l : Labelling A) (N : Labelling ℕ) → R l N → (k z : ℕ) → Able (snap k) → newest n (stands r l) ≡ z → k ≢ z
-      → let new = r .new (l false) z k in
-      let p = slot (l true) (N true) (N false z) k new in
-      Sits n N (N false z) p × R (put l k new) (placed N k p .beside)
-  pub updates : (l : Labelling A) (N : Labelling ℕ) → R l N → (k : ℕ) → Able (update k) → R (copy l k) (copy N k)
-
+-- a board whose calls ask of the labels what they are able to do
 module _ {A : Type 0} {n : ℕ} {r : Rules A} {a₀ : A} {Able : LabelStep → Type 0} (L : Simulable n r a₀ Able) where
-  -- ONE STEP
-
-  -- the labels take the step w, and the numbers go by e: what that owes, whatever renumbering f is to come
-  pub record Stepped (l : Labelling A) (N : Labelling ℕ) (w : LabelStep) (e : Renumbering) : Type 0 where
-    pub rising : Rising (e .shift)
-    pub zero : e .shift 0 ≡ 0
-    pub ready : L .R (relabelled n r l w) (e .beside)
-    pub span : (b : ℕ) → Upto n N b → Span n (labelSnap w) e b
-    pub follow : (f : ℕ → ℕ) → Rising f → (v : ℕ) → (1 ≤ labelSnap w → v ≡ f (e .number))
-        → relabelled n (numbered v) (through (λ x. f (e .shift x)) N) w ≡ through f (e .beside)
-    pub fit : (f : ℕ → ℕ) → Rising f → f 0 ≡ 0 → (most : ℕ) → f (e .number) ≤ most → (v : ℕ) → (1 ≤ labelSnap w → v ≡ f (e .number))
-        → All (Fit most) (met n (through (λ x. f (e .shift x)) N) w v)
-
-  module _ (l : Labelling A) (N : Labelling ℕ) (i : L .R l N) where
-    -- numbers in any rising renumbering order the processes as the labels do
-    order : (f : ℕ → ℕ) → Rising f → (v : ℕ) → Same n (stands r l) (stands (numbered v) (through f N))
-    order f rise v x y lx ly = L .order l N i x y lx ly ∙ rising-before rise (N false x) x (N false y) y
-
-    newest-alike : (f : ℕ → ℕ) → Rising f → (v : ℕ) → newest n (stands (numbered v) (through f N)) ≡ newest n (stands r l)
-    newest-alike f rise v = sym (newest-same n _ _ (order f rise v))
-
-    stays : Stepped l N stay (besideOnly N)
-    unfolding relabelled met
-    stays = record { rising = λ x y h. h; zero = refl; ready = i; span = λ b h. span-same h; follow = λ f rise v e. refl; fit = λ f rise z most h v e. tt }
-
-    updated : (k : ℕ) → Able (update k) → Stepped l N (update k) (besideOnly (copy N k))
-    unfolding relabelled met
-    updated k a = record {
-      rising = λ x y h. h;
-      zero = refl;
-      ready = L .updates l N i k a;
-      span = λ b h. span-same (λ x j u. h (x || eqb j k) j u);
-      follow = λ f rise v e. refl;
-      fit = λ f rise z most h v e. tt;
-    }
-
-    -- a snap for a label by the newest: its pending label stays, and it is given 0
-    snap-newest : (k : ℕ) → k ≡ newest n (stands r l) → Stepped l N (snap k) (besideOnly N)
-    unfolding relabelled met
-    snap-newest k q = record {
-      rising = λ x y h. h;
-      zero = refl;
-      ready = subst (λ t. L .R t N) (sym (snap-stays n r l k _ refl q)) i;
-      span = λ b h. span-same h;
-      follow = λ f rise v _. snap-stays n (numbered v) (through f N) k _ (newest-alike f rise v) q;
-      fit = λ f rise z most _ v e.
-          (record { newest = λ _. e (omega arith) ∙ z; other = λ h. absurd (tf (eq-eqb k _ (q ∙ sym (newest-alike f rise v))) h) }, tt);
-    }
-
-    -- and by another: its number is put into its slot
-    slot-here : ℕ → Slot
-    slot-here k = let z = newest n (stands r l) in L .slot (l true) (N true) (N false z) k (r .new (l false) z k)
-
-    module _ (k : ℕ) (a : Able (snap k)) (d : k ≢ newest n (stands r l)) where
-      found : let z = newest n (stands r l) in Sits n N (N false z) (slot-here k) × L .R (put l k (r .new (l false) z k)) (placed N k (slot-here k) .beside)
-      unfolding slot-here
-      found = L .snaps l N i k (newest n (stands r l)) a refl d
-
-      snap-placed : Stepped l N (snap k) (placed N k (slot-here k))
-      unfolding relabelled met
-      snap-placed = record {
-        rising = shift-rising p;
-        zero = shift-zero p;
-        ready = subst (λ t. L .R (put l k t) (placed N k p .beside)) (sym (pend-new n r l k _ refl d)) (found .1);
-        span = λ b h. span-placed n N (N false (newest n (stands r l))) k p (found .0) b h;
-        follow = λ f rise v e. ap (put (through (λ x. f (shift p x)) N) k) (pend-new n (numbered v) (through (λ x. f (shift p x)) N) k _ (alike f rise v) d ∙ e (omega arith))
-            ∙ through-put f (through (shift p) N) k (number p);
-        fit = λ f rise zero most h v e. (
-          record {
-            newest = λ q. absurd (d (eqb-true k _ q ∙ alike f rise v));
-            other = λ _. rw (e (omega arith), alike f rise (f (number p))) (rise _ _ (sits-above n N (N false (newest n (stands r l))) p (found .0)), h);
-          },
-          tt,
-        );
-      }
-        where
-          p : Slot
-          p = slot-here k
-
-          alike : (f : ℕ → ℕ) → Rising f → (v : ℕ) → newest n (stands (numbered v) (through (λ x. f (shift p x)) N)) ≡ newest n (stands r l)
-          alike f rise = newest-alike (λ x. f (shift p x)) (λ x y h. rise _ _ (shift-rising p x y h))
-
-    pub stepped : (w : LabelStep) → Able w → Stepped l N w (renumber n r (L .slot) l N w)
-    unfolding renumber slot-here
-    stepped stay a = stays
-    stepped (snap k) a = by-here (λ b. Stepped l N (snap k) (cond b (besideOnly N) (placed N k (slot-here k)))) (newest n (stands r l)) k (snap-newest k) (snap-placed k a)
-    stepped (update k) a = updated k a
-
-  -- THE WHOLE SEQUENCE, on a board whose calls ask of the labels what they are able to do
   module _ (B : Board) (able : (o : Rest) (c : Call) → Able (labelStep (B .judge n o c))) where
     -- what a call makes of the numbers
     renumbering : State A → Labelling ℕ → Call → Renumbering
     renumbering s N c = renumber n r (L .slot) (s .labels) N (labelStep (B .judge n (s .rest) c))
 
-    call-stepped : (s : State A) (N : Labelling ℕ) (c : Call) → L .R (s .labels) N → Stepped (s .labels) N (labelStep (B .judge n (s .rest) c)) (renumbering s N c)
+    call-stepped : (s : State A) (N : Labelling ℕ) (c : Call) → L .R (s .labels) N → Stepped L (s .labels) N (labelStep (B .judge n (s .rest) c)) (renumbering s N c)
     unfolding renumbering
-    call-stepped s N c i = stepped (s .labels) N i _ (able (s .rest) c)
+    call-stepped s N c i = stepped L (s .labels) N i _ (able (s .rest) c)
 
     -- what the call leaves is again so
     pub step-keeps : (s : State A) (N : Labelling ℕ) (c : Call) → L .R (s .labels) N → (N′ : Labelling ℕ) × L .R (step B n r s c .state .labels) N′
@@ -180,12 +54,12 @@ module _ {A : Type 0} {n : ℕ} {r : Rules A} {a₀ : A} {Able : LabelStep → T
     step-keeps s N c i = (_, call-stepped s N c i .ready)
 
     -- the unbounded machine judges alike, by its own rest, and so answers alike
-    module _ (s : State A) (N : Labelling ℕ) (c : Call) (i : L .R (s .labels) N) (e : Renumbering) (S : Stepped (s .labels) N (labelStep (B .judge n (s .rest) c)) e) where
+    module _ (s : State A) (N : Labelling ℕ) (c : Call) (i : L .R (s .labels) N) (e : Renumbering) (S : Stepped L (s .labels) N (labelStep (B .judge n (s .rest) c)) e) where
       follows : (f : ℕ → ℕ) → Rising f → (v : ℕ) → (1 ≤ snapsOf B n s c → v ≡ f (e .number))
           → step B n (numbered v) (shadow (through (λ x. f (e .shift x)) N) s) c ≡ like (through f (e .beside)) (step B n r s c)
       unfolding step snapsOf
       follows f rise v h = ap₂ (λ (order : Lists.List ℕ) (l : Labelling ℕ). answer c l (carryOut order (s .rest) (B .judge n (s .rest) c)))
-          (sym (ordered-same n n _ _ (le-refl n) (order (s .labels) N i (λ x. f (e .shift x)) (λ x y u. rise _ _ (S .rising x y u)) v)))
+          (sym (ordered-same n n _ _ (le-refl n) (order-kept L (s .labels) N i (λ x. f (e .shift x)) (λ x y u. rise _ _ (S .rising x y u)) v)))
           (S .follow f rise v h)
 
     -- what later calls make of a number in use, and the numbers that they are given in the end
@@ -249,7 +123,7 @@ module _ {A : Type 0} {n : ℕ} {r : Rules A} {a₀ : A} {Able : LabelStep → T
       unfolding labelSnaps snapsOf
       met-fed = rw (p, q) refl
 
-    extend : (c : Call) (cs : Lists.List Call) (s : State A) (N : Labelling ℕ) → L .R (s .labels) N → (e : Renumbering) → Stepped (s .labels) N (labelStep (B .judge n (s .rest) c)) e
+    extend : (c : Call) (cs : Lists.List Call) (s : State A) (N : Labelling ℕ) → L .R (s .labels) N → (e : Renumbering) → Stepped L (s .labels) N (labelStep (B .judge n (s .rest) c)) e
         → (f : ℕ → ℕ) (ns : Lists.List ℕ) → Sim (step B n r s c .state) (e .beside) cs f ns
         → Sim s N (c ∷ cs) (λ x. f (e .shift x)) (replicate (snapsOf B n s c) (f (e .number)) ++ ns)
     extend c cs s N i e S f ns T = record {

@@ -24,7 +24,8 @@ use Rattle.simulation.proofs.Invariant.{Inv}
 use Rattle.simulation.proofs.Snap.{snap-step}
 use Rattle.simulation.proofs.Update.{update-keeps}
 use Rattle.simulation.proofs.Judged.{Inside, inside}
-use Rattle.simulation.proofs.Follow.{Simulable, step-keeps, Numbers, finds, Simulates, simulates}
+use Rattle.simulation.proofs.Simulable.{Simulable}
+use Rattle.simulation.proofs.Follow.{step-keeps, Numbers, finds, Simulates, simulates}
 
 -- the new label leaves the top label within its m digits
 pub new-behind : (m fill : ℕ) (t : ℕ → Label) (z k : ℕ) → z ≤ m → k ≤ m → k ≢ z → (p : ℕ) → m ≤ p → newLabel m fill t z k p ≡ fill

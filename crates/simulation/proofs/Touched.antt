@@ -6,8 +6,9 @@ use mathlib.Core.Bool.{Bool, true, false, _&&_, _||_, cond}
 use mathlib.Core.List as Lists
 use lib.Dec.{eqb}
 use borrow.Author.Tests.{ne-eqb}
-use Rattle.simulation.specs.Calls.{Call, place, Label, Scan, Phase, Rest, Move}
-use Rattle.simulation.specs.Machine.{Labelling, Rules, pendingAfter, labelStep, relabelled, carryOut}
+use Rattle.label.proofs.Facts.{by-here}
+use Rattle.simulation.specs.Calls.{Call, place, Label, Scan, Phase, Entry, Rest, Move}
+use Rattle.simulation.specs.Machine.{Labelling, Rules, pendingAfter, labelStep, relabelled, scanOf, carryOut}
 use Rattle.simulation.proofs.Judged.{Own, own-place, Verdict, turned, begins, updates, snaps, ends}
 
 -- the processes that a move acts on
@@ -47,6 +48,19 @@ rest-kept order o (Move.snaps k Label) i e = rw e (refl, refl)
 rest-kept order o (Move.snaps k Scan) i e = rw e (refl, refl)
 rest-kept order o (Move.ends k Label) i e = rw e (refl, refl)
 rest-kept order o (Move.ends k Scan) i e = rw e (refl, refl)
+
+-- what holds of every result, and of the one that a scan stores, holds of every result afterwards
+pub results-all : (P : Lists.List Entry → Type 0) (order : Lists.List ℕ) (o : Rest) → P (scanOf o order) → ((i : ℕ) → P (o .result i))
+    → (w : Move) (i : ℕ) → P (carryOut order o w .rest .result i)
+unfolding carryOut
+results-all P order o scan h (Move.refused x) i = h i
+results-all P order o scan h (Move.begins k job Label) i = h i
+results-all P order o scan h (Move.begins k job Scan) i = h i
+results-all P order o scan h (Move.updates k) i = h i
+results-all P order o scan h (Move.snaps k Label) i = h i
+results-all P order o scan h (Move.snaps k Scan) i = by-here (λ b. P (cond b (scanOf o order) (o .result i))) k i (λ _. scan) (λ _. h i)
+results-all P order o scan h (Move.ends k Label) i = h i
+results-all P order o scan h (Move.ends k Scan) i = h i
 
 -- of n processes, a call touches the caller alone
 pub apart : {n : ℕ} {c : Call} {ph : Phase} {w : Move} → Verdict n c ph w → (i : ℕ) → (i < n → i ≢ place c) → touched w i ≡ false

@@ -13,7 +13,6 @@ use Rattle.label.specs.Rows.{row, rowFits, noRing}
 use Rattle.simulation.specs.Calls.{Call}
 use Rattle.simulation.specs.Machine.{digits, stands, pendingAfter, State}
 use Rattle.simulation.specs.PaperRule.{everyChoice, totallyOrdered, tot, paperPending}
-use Rattle.simulation.proofs.Simulation.{newest-labels}
 use Rattle.simulation.proofs.PaperRule.{newest-pending, paper-agrees}
 use Rattle.table.specs.Results.{times, resultFits}
 use Rattle.table.specs.Tables.{freshStation, freshTable, at}
@@ -21,7 +20,7 @@ use Rattle.table.specs.WellFormed.{stationFits, isFresh, wellFormed}
 use Rattle.transition.specs.States.{labelsOf, stationIn, tableOf}
 use Rattle.transition.specs.Samples.{after}
 use Rattle.transition.proofs.States.{at-here}
-use Rattle.transition.proofs.Reached.{Reached, reached-held}
+use Rattle.transition.proofs.Reached.{Reached, reached-held, reached-lead}
 use Rattle.transition.proofs.ReachedTables.{ReachedTable, table-fresh, table-after}
 use Rattle.table.specs.declared.Phase.the-variants.{Idle}
 use Rattle.table.specs.declared.Station.{Station}
@@ -47,7 +46,7 @@ module _ (n : ℕ) (low : 2 ≤ n) (high : n ≤ 32) {s : State Labels.Label} (r
       z = newest n (stands (digits n) (s .labels))
 
       here : at (tableOf n s) z ≡ stationIn n s z
-      here = at-here n high s z (rw (newest-labels n (n - 1) (omega arith) (s .labels) (r .N) (r .ready)) (omega (arith, r .ready .inv .newest .station)))
+      here = at-here n high s z (reached-lead n low high r)
 
   agree : RulesAgree (tableOf n s)
   unfolding tableOf

@@ -33,7 +33,7 @@ use Rattle.transition.specs.States.{phaseOf, phaseIn, labelsOf, restOf, 
 use Rattle.transition.specs.Steps.{Answer, written, refuse, stepOf}
 use Rattle.transition.specs.Records.{store, inPhase, begun, snapped, scanned, updated, recordMade, recordAfter, numberOf, hands, handed, answerAfter}
 use Rattle.transition.proofs.States.{station-in-of, written-held}
-use Rattle.transition.proofs.Theorem.{step-written}
+use Rattle.transition.proofs.Steps.{step-written}
 use Rattle.table.specs.declared.Operation.the-variants.{Scan}
 use Rattle.table.specs.declared.Phase.the-variants.{Idle, Snap}
 use Rattle.table.specs.declared.Table.{Table}

@@ -2,7 +2,6 @@
 use Prim.Native.Nat.{ℕ, zero, suc, _+_, _≤_}
 use native.Mathlib.Omega.{arith}
 use mathlib.Core.Path.{_≡_, refl, sym, ap, ap₂, subst, _∙_}
-use mathlib.Core.Bool.{true}
 use mathlib.Core.Logic.{_≢_}
 use mathlib.Core.List as Lists
 use mathlib.Core.List.{[], _∷_, map}
@@ -12,27 +11,16 @@ use Rattle.label.specs.Labels as Labels
 use Rattle.simulation.specs.Calls.{Call}
 use Rattle.simulation.specs.Machine as Machine
 use Rattle.simulation.specs.Machine.{original, digits, numbers, stands, State, fresh, step, snapsOf, Bounded}
-use Rattle.simulation.proofs.Judged.{Refusal, refusals}
+use Rattle.simulation.proofs.Judged.{refusals}
 use Rattle.simulation.proofs.Follow.{run-cons, snaps-cons, Simulates}
 use Rattle.simulation.proofs.Simulation.{simulation}
 use Rattle.table.specs.Tables.{freshTable}
-use Rattle.table.specs.WellFormed.{wellFormed}
-use Rattle.transition.specs.States.{labelsOf, restOf, stateOf, tableOf}
-use Rattle.transition.specs.Steps.{Answer, written, stepOf}
+use Rattle.transition.specs.States.{tableOf}
+use Rattle.transition.specs.Steps.{written, stepOf}
 use Rattle.transition.specs.Demand.{run, snaps, seen, unbounded, Demand3}
 use Rattle.transition.proofs.States.{fresh-written}
+use Rattle.transition.proofs.Steps.{step-written}
 use Rattle.transition.proofs.Reached.{Reached, reached-held, reached-passes, reached-fresh, reached-step}
-use Rattle.table.specs.declared.Table.{Table}
-
--- on a well-formed table a step call is the machine's
-pub step-written : (t : Table) (c : Call) → wellFormed t ≡ true → let n = t .count in stepOf t c ≡ written n (step original n (digits n) (stateOf t) c)
-unfolding stepOf
-step-written t c e = rw (e, stepOf) refl
-
-pub step-refusals : (t : Table) (c : Call) → wellFormed t ≡ true → Refusal (t .count) c (stepOf t c .refusal)
-unfolding step
-step-refusals t c e = subst (λ (a : Answer). Refusal (t .count) c (a .refusal)) (sym (step-written t c e))
-    (refusals (t .count) c (ordered (t .count) (stands (digits (t .count)) (labelsOf t))) (restOf t))
 
 -- what holds of all answers to some calls holds of those to the first k of them
 all-taken : (P : Machine.Answer ℕ → Type 0) (n k : ℕ) (cs : Lists.List Call) (s : State ℕ) (al : Lists.List ℕ)
