@@ -8,7 +8,8 @@ use lib.ListN.{getD, replicate}
 use lib.Dec.{eqb}
 use Rattle.label.specs.Tests.{every, newest, ordered}
 use Rattle.label.specs.Labels.{Label, agrees, labelBefore, newLabel}
-use Rattle.label.specs.Rows.{digit, row, Valid, noRing}
+use Rattle.label.specs.Rows.{digit, row, noRing}
+use Rattle.label.specs.Valid.{Valid}
 
 -- the label in a row, and which of the n stations stands before which
 abbrev pub held : List (List ℕ) → ℕ → Label

@@ -9,14 +9,11 @@ use mathlib.Core.List.{[], _∷_}
 use lib.ListN.{length, getD}
 use mir.Val.{Val}
 use denote.Shadow.{shadow}
-use types.Run.{OneOf, miss}
-use denote.Enum.Declared.{tagOf}
 use borrow.Author.Tests.{ne-eqb}
-use Rattle.label.specs.Tests.{within}
 use Rattle.label.proofs.Facts.{getD-any}
 use Rattle.simulation.specs.Calls as Calls
 use Rattle.simulation.specs.Calls.{Call, judgeIn, judge, place, reportLines}
-use Rattle.simulation.proofs.Judged.{Verdict, verdict}
+use Rattle.simulation.proofs.Judged.{verdict}
 use Rattle.table.specs.Tables.{at}
 use Rattle.table.specs.WellFormed.{wellFormed}
 use Rattle.table.proofs.Orders.{passed}

@@ -1,5 +1,5 @@
 -- Tables reached from a fresh one (01, "The new label"): the newest station's pending label is its label, and the paper's rule agrees with 01's.
-use Prim.Native.Nat.{ℕ, _-_, _≤_}
+use Prim.Native.Nat.{ℕ, _≤_}
 use native.Mathlib.Omega.{arith}
 use mathlib.Core.Path.{_≡_, refl, sym, ap, subst, _∙_}
 use mathlib.Core.Bool.{true}

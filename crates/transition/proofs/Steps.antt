@@ -11,7 +11,6 @@ use Rattle.label.specs.Labels as Labels
 use Rattle.label.specs.Labels.{newLabel}
 use Rattle.label.proofs.Facts.{by-here, ordered-length}
 use Rattle.simulation.specs.Calls.{Call, place, Label, Scan, Phase, Move, judge}
-use Rattle.simulation.specs.Machine as Machine
 use Rattle.simulation.specs.Machine.{original, digits, stands, pendingAfter, labelStep, relabelled, scanOf, State, step}
 use Rattle.simulation.proofs.Labellings.{by-put}
 use Rattle.simulation.proofs.Judged.{own-place, Verdict, turned, begins, updates, snaps, ends, verdict, Refusal, refusals}
