@@ -19,10 +19,10 @@ use Rattle.transition.specs.Records.{hands}
 use Rattle.transition.proofs.Stores.{is-refused}
 use Rattle.transition.proofs.ReachedTables.{ReachedTable, table-passes, table-shaped, table-step, table-fresh}
 use Rattle.table.proofs.Shapes.{Shaped}
-use Rattle.moves.specs.Moves.{refusalNumber, moveOf, called}
+use Rattle.moves.specs.Moves.{refusalNumber, moveOf, kindOf, called}
 use Rattle.step.specs.Contracts.{over, Steps}
 use Rattle.parts.specs.Parts.{Parts, parts, freshRow, freshParts, assembled, orderOf, isUpdate, Ready, Carries}
-use Rattle.parts.proofs.PartLaws.{Judged, counted, parts-orderly, inside, asked, served}
+use Rattle.parts.proofs.PartLaws.{update-kind, Judged, counted, parts-orderly, inside, asked, served}
 use Rattle.parts.proofs.Fresh.{fresh-parts, fresh-sized}
 use Rattle.file.specs.Files.{printed}
 use Rattle.file.specs.Contracts.{Runnable, Prints}
@@ -79,8 +79,8 @@ module _ {p : Parts} {order : Lists.List ℕ} (f : Runnable p order) where
         listed = f .isOrder;
       })
 
-      pub line-kept : isUpdate w ≡ false → order ≡ orderOf (p′ .count) (p′ .labels)
-      line-kept x = f .isOrder ∙ rw (n, g .labels x) refl
+      pub line-kept : isUpdate (kindOf m) ≡ false → order ≡ orderOf (p′ .count) (p′ .labels)
+      line-kept x = f .isOrder ∙ rw (n, g .labels (update-kind k job m ∙ x)) refl
 
       pub line-reordered : {order′ : Lists.List ℕ} → order′ ≡ orderOf (p′ .count) (p′ .labels) → Runnable p′ order′
       line-reordered x = record { sized = g .sized; phased = g .phased (f .phased); reached = line-reached; isOrder = x }

@@ -2,9 +2,9 @@
 ghost use mathlib.Core.Path.{_≡_};
 ghost use mathlib.Core.Bool.{false};
 ghost use mathlib.Core.List.{[]};
-ghost use Prim.Native.Nat.{ℕ, _+_, _*_, _≤_, _<_};
+ghost use Prim.Native.Nat.{_+_, _*_, _≤_, _<_};
 ghost use lib.ListN.{length, take, drop};
-ghost use Rattle.moves.specs.Moves.{refusalNumber, moveOf, called};
+ghost use Rattle.moves.specs.Moves.{refusalNumber, kindOf, called};
 ghost use Rattle.moves.specs.declared.Refusal.the-variants.{Accepted};
 ghost use Rattle.step.specs.Contracts.{over};
 ghost use Rattle.rows.specs.Held.{Orderly, OrderedBefore};
@@ -74,7 +74,7 @@ pub fn report_header(s: Session, out: &mut [u8]) -> usize
 
 // Whether a move is an update, which gives a station another label.
 fn is_update(m: Move) -> bool
-    ensures { λ r. ⌜ ((k job : ℕ) → r ≡ isUpdate (moveOf k job m)) ⌝ }
+    ensures { λ r. ⌜ r ≡ isUpdate (kindOf m) ⌝ }
 {
     match m {
         Move::Refused(_) => false,

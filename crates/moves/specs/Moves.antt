@@ -37,6 +37,10 @@ moveOf k job Update = Calls.Move.updates k
 moveOf k job EndLabel = Calls.Move.ends k Calls.Label
 moveOf k job EndScan = Calls.Move.ends k Calls.Scan
 
+-- the same for what depends neither on the process nor on the job
+abbrev pub kindOf : Move → Calls.Move
+kindOf m = moveOf 0 0 m
+
 -- a call from its parts
 abbrev pub called : ℕ → ℕ → ℕ → ℕ → ℕ → Call
 called line code station job room = record { line = line; code = code; station = station; job = job; room = room }

@@ -6,7 +6,7 @@ ghost use Prim.Native.Nat.{ℕ, _-_, _≤_};
 ghost use Rattle.simulation.specs.Calls.{snaps, ends, unless, jobFits, notDue, roomFor, byPhase, judgeIn};
 ghost use Rattle.transition.specs.States.{operationOf, phaseOf};
 ghost use Rattle.transition.specs.Records.{inPhase, begun, snapped, scanned, updated, recordMade, numberOf, reportSize};
-ghost use Rattle.moves.specs.Moves.{refusalNumber, moveOf, called, placeOf};
+ghost use Rattle.moves.specs.Moves.{refusalNumber, moveOf, kindOf, called, placeOf};
 use table::Entry;
 use table::Operation;
 use table::Phase;
@@ -176,7 +176,7 @@ pub fn judge(n: usize, p: Phase, code: u64, station: u64, job: u64, room: usize)
 
 // The refusal of a move.
 pub fn refusal_of(m: Move) -> Refusal
-    ensures { λ r. ⌜ ((k job : ℕ) → refusalNumber r ≡ numberOf (moveOf k job m)) ⌝ }
+    ensures { λ r. ⌜ refusalNumber r ≡ numberOf (kindOf m) ⌝ }
 {
     match m {
         Move::Refused(r) => r,
@@ -193,7 +193,7 @@ pub fn refusal_of(m: Move) -> Refusal
 // The bytes of report that a move writes, of n stations.
 pub fn report_size(m: Move, n: usize) -> usize
     requires { ⌜ n ≤ 32 ⌝ }
-    ensures { λ r. ⌜ ((k job : ℕ) → r ≡ reportSize n (moveOf k job m)) ⌝ }
+    ensures { λ r. ⌜ r ≡ reportSize n (kindOf m) ⌝ }
 {
     match m {
         Move::Refused(_) => 0,

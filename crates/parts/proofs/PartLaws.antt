@@ -32,9 +32,9 @@ use Rattle.table.proofs.Shapes.{Shaped}
 use Rattle.transition.specs.States.{phaseOf, resultOf}
 use Rattle.transition.specs.Steps.{stepOf}
 use Rattle.transition.specs.Records.{store, inPhase, begun, snapped, scanned, updated, recordMade, recordAfter, numberOf, hands, reportSize, handed, answerAfter}
-use Rattle.moves.specs.Moves.{refusalNumber, moveOf, called, placeOf}
+use Rattle.moves.specs.Moves.{refusalNumber, moveOf, kindOf, called, placeOf}
 use Rattle.step.specs.Contracts.{over, Steps}
-use Rattle.moves.proofs.MoveLaws.{begun-job, place-below}
+use Rattle.moves.proofs.MoveLaws.{same-kind, begun-job, place-below}
 use Rattle.step.proofs.StepLaws.{Made, judged, report-long}
 use Rattle.step.proofs.ReportLaws.{one-line-more}
 use Rattle.parts.specs.Parts.{Parts, parts, phaseFor, entries, recordOf, stationAt, assembled, Sized, orderOf, isUpdate, Carries}
@@ -43,7 +43,7 @@ use Rattle.table.specs.declared.Phase.{Phase}
 use Rattle.table.specs.declared.Phase.the-variants.{Idle}
 use Rattle.moves.specs.declared.Refusal.the-variants.{Accepted}
 use Rattle.moves.specs.declared.Move.{Move}
-use Rattle.moves.specs.declared.Move.the-variants.{BeginLabel}
+use Rattle.moves.specs.declared.Move.the-variants.{Refused, BeginLabel, BeginScan, SnapLabel, SnapScan, Update, EndLabel, EndScan}
 use Rattle.table.specs.declared.Station.{Station}
 use Rattle.table.specs.declared.Table.{Table}
 use Rattle.step.specs.declared.Reply.{Reply}
@@ -156,6 +156,17 @@ one-row-more line stations jobs k head out buffer x h d o e =
     let a : f k ≡ getD (entries stations jobs) k blank = sym (getD-tabulate 32 0 k f blank h ∙ ap f (zero-add k)) in
     let g : x ≡ reportLine line 0 (k + 1) (f k .station) (f k .job) = e ∙ ap (λ (y : Lists.List ℕ). y ++ lineTail (k + 1) (f k .station) (f k .job)) d in
     one-line-more line (entries stations jobs) k blank out buffer x o (g ∙ ap (λ (y : Entry). reportLine line 0 (k + 1) (y .station) (y .job)) a) (omega (arith, length-tabulate 32 0 f))
+
+-- whether a move is an update, whichever process takes it
+pub update-kind : (k job : ℕ) (m : Move) → isUpdate (moveOf k job m) ≡ isUpdate (kindOf m)
+update-kind k job (Refused r) = refl
+update-kind k job BeginLabel = refl
+update-kind k job BeginScan = refl
+update-kind k job SnapLabel = refl
+update-kind k job SnapScan = refl
+update-kind k job Update = refl
+update-kind k job EndLabel = refl
+update-kind k job EndScan = refl
 
 -- how the code judges a call: by the phase that it finds at the place of the station
 pub record Judged (p : Parts) (code station job room k : ℕ) (m : Move) : Type 0 where
@@ -314,9 +325,9 @@ module _ (p : Parts) (z : Sized p) (ok : wellFormed (assembled p) ≡ true) wher
     made line = judged t g ok code station job room k (J .phase) m (J .placed) (J .found ∙ ap (λ (s : Station). s .phase) (sym (at-part p k here-low))) (J .moves) line
 
     -- what the move asks for
-    pub asked : (m ≡ BeginLabel → job ≤ 4294967295) × (hands w ≡ true → p .count * 29 ≤ room)
+    pub asked : (m ≡ BeginLabel → job ≤ 4294967295) × (hands (kindOf m) ≡ true → p .count * 29 ≤ room)
     unfolding assembled
-    asked = (begun-job (p .count) (phaseOf (J .phase)) (called 0 code station job room) _ m (J .moves 0), made 0 .fits)
+    asked = (begun-job (p .count) (phaseOf (J .phase)) (called 0 code station job room) _ m (J .moves 0), λ h. made 0 .fits (sym (same-kind k job m .1) ∙ h))
 
     -- a call whose move is carried out is served
     pub served : {buffer : Lists.List ℕ} {p′ : Parts} {r : Reply} {buffer′ : Lists.List ℕ} → Carries p k w line buffer p′ r buffer′ → Steps t c buffer (assembled p′) r buffer′

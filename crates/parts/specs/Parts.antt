@@ -14,7 +14,7 @@ use Rattle.simulation.specs.Calls.{reportLines}
 use Rattle.table.specs.Results.{entry}
 use Rattle.table.specs.WellFormed.{wellFormed}
 use Rattle.transition.specs.Records.{store, recordAfter, numberOf, hands, reportSize, handed}
-use Rattle.moves.specs.Moves.{refusalNumber, moveOf}
+use Rattle.moves.specs.Moves.{refusalNumber, kindOf}
 use Rattle.step.specs.Contracts.{over}
 use Rattle.table.specs.declared.Entry.{Entry}
 use Rattle.table.specs.declared.Phase.{Phase}
@@ -111,8 +111,8 @@ pub record Ready (p : Parts) (k job : ℕ) (m : Move) (order : Lists.List ℕ) (
   pub sized : Sized p
   pub passed : wellFormed (assembled p) ≡ true
   pub jobFits : m ≡ BeginLabel → job ≤ 4294967295
-  pub isOrder : isSnap (moveOf k job m) ≡ true → order ≡ orderOf (p .count) (p .labels)
-  pub hasRoom : hands (moveOf k job m) ≡ true → p .count * 29 ≤ room
+  pub isOrder : isSnap (kindOf m) ≡ true → order ≡ orderOf (p .count) (p .labels)
+  pub hasRoom : hands (kindOf m) ≡ true → p .count * 29 ≤ room
 
 -- the move w of the station at place k, carried out on the parts p: the parts, the reply and the report buffer left, all of it; and which labels stay
 pub record Carries (p : Parts) (k : ℕ) (w : Calls.Move) (line : ℕ) (buffer : Lists.List ℕ) (p′ : Parts) (r : Reply) (buffer′ : Lists.List ℕ) : Type 0 where

@@ -24,8 +24,8 @@ use Rattle.transition.specs.States.{phaseOf, restOf, resultOf}
 use Rattle.transition.specs.Steps.{refuse, stepOf}
 use Rattle.transition.specs.Records.{store, recordMade, recordAfter, numberOf, hands, reportSize, handed, answerAfter}
 use Rattle.transition.proofs.Stores.{hands-room, step-at, step-number, step-kept}
-use Rattle.moves.specs.Moves.{refusalNumber, moveOf, called, placeOf}
-use Rattle.moves.proofs.MoveLaws.{place-below}
+use Rattle.moves.specs.Moves.{refusalNumber, moveOf, kindOf, called, placeOf}
+use Rattle.moves.proofs.MoveLaws.{same-kind, place-below}
 use Rattle.step.specs.Contracts.{due, over, Decides, Steps}
 use Rattle.step.proofs.ReportLaws.{length-report-lines, length-result}
 use Rattle.step.specs.declared.Decision.{Decision}
@@ -97,12 +97,15 @@ judged t g ok code station job room k p m e ph h line = subst (Made t c) (sym sa
     same = ap (λ (i : ℕ). moveOf i job m) e ∙ h line ∙ ap (λ (q : Phase). judgeIn (t .count) (phaseOf q) c) (ph ∙ ap (λ (i : ℕ). at t i .phase) e)
 
 -- the code's decision: the record that the move leaves, and the bytes that it reports
-pub decide-law : (t : Table) → wellFormed t ≡ true → (code station job room : ℕ) (d : Decision) (w : Calls.Move) → d .place ≡ placeOf (t .count) station
-    → t .count ≤ length (at t (d .place) .«scan_result») → refusalNumber (d .refusal) ≡ numberOf w → d .«record» ≡ recordAfter t (d .place) w → d .written ≡ reportSize (t .count) w
-    → ((line : ℕ) → Made t (called line code station job room) w) → (line : ℕ) → Decides t (called line code station job room) d
-decide-law t ok code station job room d w k long r s n make line =
+pub decide-law : (t : Table) → wellFormed t ≡ true → (code station job room : ℕ) (d : Decision) (m : Move) → d .place ≡ placeOf (t .count) station
+    → t .count ≤ length (at t (d .place) .«scan_result») → refusalNumber (d .refusal) ≡ numberOf (kindOf m) → d .«record» ≡ recordAfter t (d .place) (moveOf (d .place) job m)
+    → d .written ≡ reportSize (t .count) (kindOf m) → ((line : ℕ) → Made t (called line code station job room) (moveOf (d .place) job m))
+    → (line : ℕ) → Decides t (called line code station job room) d
+decide-law t ok code station job room d m′ k long number s size make line =
     let m = make line in
     let c = called line code station job room in
+    let r = number ∙ same-kind (d .place) job m′ .0 in
+    let n = size ∙ ap (λ b. cond b (t .count * 29) 0) (same-kind (d .place) job m′ .1) in
     let a : stepOf t c ≡ answerAfter t (d .place) c w = m .answer ∙ ap (λ (i : ℕ). answerAfter t i c w) (sym k) in
     record {
       refusal = r ∙ sym (ap (λ x. x .refusal) a);
@@ -114,6 +117,9 @@ decide-law t ok code station job room d w k long r s n make line =
       fits = λ z. m .fits (handing (hands w) refl (λ y. z (n ∙ y)));
     }
   where
+    w : Calls.Move
+    w = moveOf (d .place) job m′
+
     handing : (b : Bool) → hands w ≡ b → cond b (t .count * 29) 0 ≢ 0 → hands w ≡ true
     handing true e z = e
     handing false e z = absurd (z refl)

@@ -17,7 +17,7 @@ use Rattle.table.specs.WellFormed.{wellFormed}
 use Rattle.transition.specs.Steps as Steps
 use Rattle.transition.specs.Steps.{stepOf}
 use Rattle.transition.proofs.Stores.{step-kept}
-use Rattle.moves.specs.Moves.{refusalNumber, moveOf}
+use Rattle.moves.specs.Moves.{refusalNumber, kindOf}
 use Rattle.moves.proofs.Move.{the-type}
 use Rattle.moves.proofs.MoveLaws.{noSnap, no-snap}
 use Rattle.step.specs.Contracts.{over}
@@ -40,15 +40,15 @@ pub not-started : (n : ℕ) (p : Parts) → within 2 32 n ≡ false → Starts n
 not-started n p e = record { refusal = rw e refl; parts = rw e refl }
 
 -- a move that is no snap asks for no scan order
-pub no-order : (k job : ℕ) (m : Move) → OneOf noSnap (tagOf the-type m) → isSnap (moveOf k job m) ≢ true
-no-order k job (Refused x) h e = true≢false (sym e)
-no-order k job BeginLabel h e = true≢false (sym e)
-no-order k job BeginScan h e = true≢false (sym e)
-no-order k job SnapLabel h e = no-snap SnapLabel h .0 refl
-no-order k job SnapScan h e = no-snap SnapScan h .1 refl
-no-order k job Update h e = true≢false (sym e)
-no-order k job EndLabel h e = true≢false (sym e)
-no-order k job EndScan h e = true≢false (sym e)
+pub no-order : (m : Move) → OneOf noSnap (tagOf the-type m) → isSnap (kindOf m) ≢ true
+no-order (Refused x) h e = true≢false (sym e)
+no-order BeginLabel h e = true≢false (sym e)
+no-order BeginScan h e = true≢false (sym e)
+no-order SnapLabel h e = no-snap SnapLabel h .0 refl
+no-order SnapScan h e = no-snap SnapScan h .1 refl
+no-order Update h e = true≢false (sym e)
+no-order EndLabel h e = true≢false (sym e)
+no-order EndScan h e = true≢false (sym e)
 
 pub sound-parts : (p : Parts) → sound p ≡ true → Phased p × (wellFormed (assembled p) ≡ true)
 unfolding sound

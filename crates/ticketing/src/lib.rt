@@ -5,7 +5,7 @@ ghost use Prim.Native.Nat.{ℕ};
 ghost use lib.ListN.{length};
 ghost use Rattle.rows.specs.Held.{Orderly};
 ghost use Rattle.table.specs.WellFormed.{wellFormed};
-ghost use Rattle.moves.specs.Moves.{moveOf, called};
+ghost use Rattle.moves.specs.Moves.{kindOf, called};
 ghost use Rattle.parts.specs.Parts.{parts, assembled, orderOf, isSnap};
 ghost use Rattle.ticketing.specs.Contracts.{Whole, Starts, Turns, Serves, ReportsFile};
 use moves::Move;
@@ -36,7 +36,7 @@ fn whole(
 // The scan order, for a move that asks for it.
 fn order_for(m: Move, labels: &[[u8; 31]; 32], n: usize) -> [usize; 32]
     requires { ⌜ Orderly n (now labels) ⌝ }
-    ensures { λ r. ⌜ ((k job : ℕ) → isSnap (moveOf k job m) ≡ true → r ≡ orderOf n (now (labels .entry))) ⌝ }
+    ensures { λ r. ⌜ (isSnap (kindOf m) ≡ true → r ≡ orderOf n (now (labels .entry))) ⌝ }
 {
     match m {
         Move::SnapLabel => rows::order::order(labels, n),

@@ -46,7 +46,7 @@ refresh-requires c κs =
       line-orderly (s .pre .0) (s .args .lines + 1) (s .args .code) (s .args .station) (s .args .job) _ m J refl done,
       (
         line-place (s .pre .0) (s .args .lines + 1) (s .args .code) (s .args .station) (s .args .job) _ m J,
-        (line-before (s .pre .0) (s .args .lines + 1) (s .args .code) (s .args .station) (s .args .job) _ m J refl done, λ e. line-kept (s .pre .0) (s .args .lines + 1) (s .args .code) (s .args .station) (s .args .job) _ m J refl done (sym (c .before .before .is-update .ensures _ _) ∙ e)),
+        (line-before (s .pre .0) (s .args .lines + 1) (s .args .code) (s .args .station) (s .args .job) _ m J refl done, λ e. line-kept (s .pre .0) (s .args .lines + 1) (s .args .code) (s .args .station) (s .args .job) _ m J refl done (sym (c .before .before .is-update .ensures) ∙ e)),
       ),
     )
 

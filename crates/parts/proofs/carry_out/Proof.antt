@@ -1,10 +1,9 @@
-use Prim.Native.Nat.{ℕ}
 use native.Mathlib.Omega.{arith}
 use mathlib.Core.Path.{refl, ap}
 use mathlib.Core.Bool.{Bool}
 use Rattle.simulation.specs.Calls as Calls
 use Rattle.rows.proofs.OrderLaws.{listed-below, order-front, orderly-total, last-newest}
-use Rattle.moves.specs.Moves.{moveOf}
+use Rattle.moves.specs.Moves.{kindOf}
 use Rattle.moves.specs.declared.Move.{Move}
 use Rattle.transition.specs.Records.{recordMade, hands}
 use Rattle.parts.specs.Parts.{isSnap}
@@ -13,11 +12,11 @@ use borrow.Author.Needs.{needs}
 use Rattle.parts.proofs.carry_out.Statement.{statement}
 use Rattle.parts.proofs.carry_out.Tie as tie
 
-abbrev snap : ℕ → ℕ → Move → Bool
-snap k job m = isSnap (moveOf k job m)
+abbrev snap : Move → Bool
+snap m = isSnap (kindOf m)
 
-abbrev report : ℕ → ℕ → Move → Bool
-report k job m = hands (moveOf k job m)
+abbrev report : Move → Bool
+report m = hands (kindOf m)
 
 enum-known-m : tie.Need-enum-known-m
 enum-known-m c = search needs
@@ -68,7 +67,7 @@ element-copy-out-newest : tie.Need-element-copy-out-newest
 element-copy-out-newest c = omega (arith, c .before .before .before .before .pre .inside, counted _ (c .before .before .before .before .pre .passed))
 
 pending-by-requires : tie.Need-pending-by-requires
-pending-by-requires c κs = let s = c .before .before .before .before .before .before in let o = parts-orderly _ (s .pre .sized) (s .pre .passed) in (o, (last-newest _ _ _ (orderly-total _ _ o) (omega (arith, o .low)) (order-front 32 _ _ _ (s .pre .isOrder (ap (snap (s .args .place) (s .args .job)) (c .before .before .before .enum-told3 .given .1)))), s .pre .inside))
+pending-by-requires c κs = let s = c .before .before .before .before .before .before in let o = parts-orderly _ (s .pre .sized) (s .pre .passed) in (o, (last-newest _ _ _ (orderly-total _ _ o) (omega (arith, o .low)) (order-front 32 _ _ _ (s .pre .isOrder (ap snap (c .before .before .before .enum-told3 .given .1)))), s .pre .inside))
 
 mul-t34 : tie.Need-mul-t34
 mul-t34 c = omega (arith, c .before .before .before .before .before .before .before .pre .inside, counted _ (c .before .before .before .before .before .before .before .pre .passed))
@@ -86,7 +85,7 @@ enum-told-4 : tie.Need-enum-told-4
 enum-told-4 c = search needs
 
 ordered-stations-requires : tie.Need-ordered-stations-requires
-ordered-stations-requires c κs = let s = c .before .before .before in (counted _ (s .pre .passed) .1, λ q l. omega (arith, counted _ (s .pre .passed) .1, listed-below _ _ _ (order-front 32 _ _ _ (s .pre .isOrder (ap (snap (s .args .place) (s .args .job)) (c .enum-told4 .given .1)))) q l))
+ordered-stations-requires c κs = let s = c .before .before .before in (counted _ (s .pre .passed) .1, λ q l. omega (arith, counted _ (s .pre .passed) .1, listed-below _ _ _ (order-front 32 _ _ _ (s .pre .isOrder (ap snap (c .enum-told4 .given .1)))) q l))
 
 mul-t41 : tie.Need-mul-t41
 mul-t41 c = omega (arith, c .before .before .before .before .pre .inside, counted _ (c .before .before .before .before .pre .passed))
@@ -95,7 +94,7 @@ element-set-from-result-stations : tie.Need-element-set-from-result-stations
 element-set-from-result-stations c = omega (arith, c .before .before .before .before .pre .inside, counted _ (c .before .before .before .before .pre .passed))
 
 ordered-jobs-requires : tie.Need-ordered-jobs-requires
-ordered-jobs-requires c κs = let s = c .before .before .before .before .before in (counted _ (s .pre .passed) .1, λ q l. omega (arith, counted _ (s .pre .passed) .1, listed-below _ _ _ (order-front 32 _ _ _ (s .pre .isOrder (ap (snap (s .args .place) (s .args .job)) (c .before .before .enum-told4 .given .1)))) q l))
+ordered-jobs-requires c κs = let s = c .before .before .before .before .before in (counted _ (s .pre .passed) .1, λ q l. omega (arith, counted _ (s .pre .passed) .1, listed-below _ _ _ (order-front 32 _ _ _ (s .pre .isOrder (ap snap (c .before .before .enum-told4 .given .1)))) q l))
 
 mul-t41-2 : tie.Need-mul-t41-2
 mul-t41-2 c = omega (arith, c .before .before .before .before .before .before .pre .inside, counted _ (c .before .before .before .before .before .before .pre .passed))
@@ -157,7 +156,7 @@ enum-told-7 c = search needs
 write-rows-requires : tie.Need-write-rows-requires
 write-rows-requires c κs =
     let s = c .before .before .before .before .before .before in
-    ((omega (arith, s .pre .inside, counted _ (s .pre .passed)), counted _ (s .pre .passed) .1), s .pre .hasRoom (ap (report (s .args .place) (s .args .job)) (c .before .before .before .enum-told7 .given .1)))
+    ((omega (arith, s .pre .inside, counted _ (s .pre .passed)), counted _ (s .pre .passed) .1), s .pre .hasRoom (ap report (c .before .before .before .enum-told7 .given .1)))
 
 element-write-phases-7 : tie.Need-element-write-phases-7
 element-write-phases-7 c = omega (arith, c .before .before .before .before .before .before .before .before .before .pre .inside, counted _ (c .before .before .before .before .before .before .before .before .before .pre .passed))
@@ -181,7 +180,7 @@ returns-4 : tie.Need-returns-4
 returns-4 c = let s = c .before .before .before .before .before .before .before .before in rw (c .before .before .before .before .before .enum-told3 .given .1) (carries-snap-label _ (s .pre .sized) (s .pre .passed) (s .args .place) (s .args .job) (s .args .line) (s .pre .inside) _ _ (c .accepted3 .ensures) _ (c .before .pending-by .ensures))
 
 returns-5 : tie.Need-returns-5
-returns-5 c = let s = c .before .before .before .before .before .before .before in rw (c .before .before .before .before .enum-told4 .given .1) (carries-snap-scan _ (s .pre .sized) (s .pre .passed) (s .args .place) (s .args .job) (s .args .line) (s .pre .inside) _ _ (c .accepted4 .ensures) _ _ _ (s .pre .isOrder (ap (snap (s .args .place) (s .args .job)) (c .before .before .before .before .enum-told4 .given .1))) (c .before .before .before .ordered-stations .ensures) (c .before .ordered-jobs .ensures))
+returns-5 c = let s = c .before .before .before .before .before .before .before in rw (c .before .before .before .before .enum-told4 .given .1) (carries-snap-scan _ (s .pre .sized) (s .pre .passed) (s .args .place) (s .args .job) (s .args .line) (s .pre .inside) _ _ (c .accepted4 .ensures) _ _ _ (s .pre .isOrder (ap snap (c .before .before .before .before .enum-told4 .given .1))) (c .before .before .before .ordered-stations .ensures) (c .before .ordered-jobs .ensures))
 
 returns-6 : tie.Need-returns-6
 returns-6 c = let s = c .before .before .before .before .before .before in rw (c .before .before .before .enum-told5 .given .1) (carries-update _ (s .pre .sized) (s .pre .passed) (s .args .place) (s .args .job) (s .args .line) (s .pre .inside) _ _ (c .accepted5 .ensures))

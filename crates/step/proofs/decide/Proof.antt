@@ -45,8 +45,8 @@ returns c =
     let p = passed t (s .pre) in
     let g = shaped t _ (s .good .0) in
     let inside : k .result < 32 = omega (arith, k .ensures, place-below (t .count) (s .args .station) (p .low), p .high) in
-    decide-law t (s .pre) _ _ _ _ _ _ (k .ensures) (omega (arith, g .each (k .result) inside .result, p .high))
-    (c .before .before .refusal-of .ensures _ _) (c .before .record-after .ensures) (c .report-size .ensures _ _)
+    decide-law t (s .pre) _ _ _ _ _ (judge .result) (k .ensures) (omega (arith, g .each (k .result) inside .result, p .high))
+    (c .before .before .refusal-of .ensures) (c .before .record-after .ensures) (c .report-size .ensures)
     (judged t g (s .pre) _ _ _ _ (k .result) _ (judge .result) (k .ensures) (record-read (λ s. s .phase) t _ (s .good .0) (k .result) refl inside) (judge .ensures))
 
 pub decide-spec : {M : Type 1} → statement M

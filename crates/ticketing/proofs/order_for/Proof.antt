@@ -16,13 +16,13 @@ order-requires-2 : tie.Need-order-requires-2
 order-requires-2 c κs = search needs
 
 returns : tie.Need-returns
-returns c = λ k job e. search needs
+returns c = search needs
 
 returns-2 : tie.Need-returns-2
-returns-2 c = λ k job e. search needs
+returns-2 c = search needs
 
 returns-3 : tie.Need-returns-3
-returns-3 c = λ k job e. absurd (no-order k job (c .before .args .m) (c .match .keys3) e)
+returns-3 c = λ e. absurd (no-order (c .before .args .m) (c .match .keys3) e)
 
 pub order-for-spec : {M : Type 1} → statement M
 order-for-spec =

@@ -37,7 +37,7 @@ carry-out-requires c κs =
       sized = s .pre .0 .sized;
       passed = s .pre .1;
       jobFits = ask .0;
-      isOrder = c .before .before .before .before .before .before .before .before .before .order-for .ensures _ _;
+      isOrder = c .before .before .before .before .before .before .before .before .before .order-for .ensures;
       hasRoom = ask .1;
     }
 
