@@ -1,4 +1,4 @@
--- The unbounded machine that is fed with numbers is the one that is fed with the advances to them.
+-- From numbers to advances: fed with the advances that come to some numbers, the unbounded machine runs as if fed with the numbers.
 use Prim.Native.Nat.{ℕ, _+_, _-_, _≤_}
 use native.Mathlib.Omega.{arith}
 use mathlib.Core.Path.{_≡_, refl, sym, ap, _∙_}
@@ -13,7 +13,7 @@ use Rattle.simulation.specs.Calls.{Call}
 use Rattle.simulation.specs.Machine.{Board, Labelling, put, numbers, stands, LabelStep, stay, snap, update, labelStep, labelSnap, pendingAfter, relabelled, carryOut, State, answer, step, snapsOf, run, snaps}
 use Rattle.simulation.specs.Numbering.{numbered, LabelSnap, met, labelSnaps, Fit, advance, advances}
 
--- one call, whose labels take the step w: the advance leads to the number, and is used up
+-- one step of the labels: the advance comes to the number, and is used up
 module _ (n : ℕ) (l : Labelling ℕ) (v : ℕ) where
   pub met-length : (w : LabelStep) → length (met n l w v) ≡ labelSnap w
   unfolding met
@@ -39,13 +39,13 @@ module _ (n : ℕ) (l : Labelling ℕ) (v : ℕ) where
   used-up (snap k) al = refl
   used-up (update k) al = refl
 
--- the answer tells the two apart by the labels alone
+-- the two ways to feed the machine differ in the labels left, if at all
 labels-tell : (B : Board) (n : ℕ) (s : State ℕ) (c : Call) (v a : ℕ) → let w = labelStep (B .judge n (s .rest) c) in
     relabelled n (numbers a) (s .labels) w ≡ relabelled n (numbered v) (s .labels) w → step B n (numbers a) s c ≡ step B n (numbered v) s c
 unfolding step
 labels-tell B n s c v a = ap (λ (l : Labelling ℕ). answer c l (carryOut (ordered n (stands (numbered v) (s .labels))) (s .rest) (B .judge n (s .rest) c)))
 
--- with these advances the machine runs as with the numbers, and uses them up
+-- all calls: the same answers, and all advances used up
 pub run-advances : (B : Board) (n most : ℕ) (cs : Lists.List Call) (s : State ℕ) (ns : Lists.List ℕ) → All (Fit most) (labelSnaps B n s ns cs)
     → (run B n numbers s (advances B n s ns cs) cs ≡ run B n numbered s ns cs) × (snaps B n numbers s (advances B n s ns cs) cs ≡ length (labelSnaps B n s ns cs))
 unfolding run snaps labelSnaps snapsOf
@@ -99,6 +99,6 @@ advances-whole most = all-map (Fit most) (λ a. 1 ≤ a) advance (λ x h. go x h
     go x h true e = omega arith
     go x h false e = let o = h .other e in omega arith
 
--- a higher limit
+-- a fitting number fits a higher limit
 pub fit-weaken : {b b′ : ℕ} → b ≤ b′ → (x : LabelSnap) → Fit b x → Fit b′ x
 fit-weaken le x h = record { newest = h .newest; other = λ e. let o = h .other e in (o .0, omega arith) }

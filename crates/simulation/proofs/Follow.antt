@@ -19,6 +19,8 @@ use Rattle.simulation.proofs.Numbers.{Upto, Old, Span}
 use Rattle.simulation.proofs.Simulable.{Simulable, order-kept, Stepped, stepped}
 use Rattle.simulation.proofs.Advances.{met-length, run-advances, advances-whole, fit-weaken}
 
+-- The proof goes by the calls, from the last to the first: what later calls do to a number (`later`) is known when a call gives it away.
+
 -- the unbounded machine beside another: the same rest, and numbers ν in place of the labels
 
 abbrev pub shadow : {A : Type 0} → Labelling ℕ → State A → State ℕ
@@ -27,7 +29,7 @@ shadow ν s = record { labels = ν; rest = s .rest }
 abbrev pub like : {A : Type 0} → Labelling ℕ → Answer A → Answer ℕ
 like ν a = record { state = shadow ν (a .state); refusal = a .refusal; bytes = a .bytes }
 
--- rules that read no number run without any
+-- rules that read no number are given none
 module _ {A : Type 0} (B : Board) (n : ℕ) (r : Rules A) (s : State A) (c : Call) (cs : Lists.List Call) where
   pub run-cons : let a = step B n r s c in run B n (λ _. r) s [] (c ∷ cs) ≡ a ∷ run B n (λ _. r) (a .state) [] cs
   unfolding run
@@ -38,187 +40,193 @@ module _ {A : Type 0} (B : Board) (n : ℕ) (r : Rules A) (s : State A) (c : Cal
   snaps-cons = rw (drop-nil {A = ℕ} (snapsOf B n s c)) refl
 
 -- a board whose calls ask of the labels what they are able to do
-module _ {A : Type 0} {n : ℕ} {r : Rules A} {a₀ : A} {Able : LabelStep → Type 0} (L : Simulable n r a₀ Able) where
-  module _ (B : Board) (able : (o : Rest) (c : Call) → Able (labelStep (B .judge n o c))) where
-    -- what a call makes of the numbers
-    renumbering : State A → Labelling ℕ → Call → Renumbering
-    renumbering s N c = renumber n r (L .slot) (s .labels) N (labelStep (B .judge n (s .rest) c))
+module _ {A : Type 0} {n : ℕ} {r : Rules A} {a₀ : A} {Able : LabelStep → Type 0} (L : Simulable n r a₀ Able)
+    (B : Board) (able : (o : Rest) (c : Call) → Able (labelStep (B .judge n o c))) where
+  -- what a call asks of the labels
+  abbrev asked : State A → Call → LabelStep
+  asked s c = labelStep (B .judge n (s .rest) c)
 
-    call-stepped : (s : State A) (N : Labelling ℕ) (c : Call) → L .R (s .labels) N → Stepped L (s .labels) N (labelStep (B .judge n (s .rest) c)) (renumbering s N c)
-    unfolding renumbering
-    call-stepped s N c i = stepped L (s .labels) N i _ (able (s .rest) c)
+  -- and what it does to numbers
+  renumbering : State A → Labelling ℕ → Call → Renumbering
+  renumbering s N c = renumber n r (L .slot) (s .labels) N (asked s c)
 
-    -- what the call leaves is again so
-    pub step-keeps : (s : State A) (N : Labelling ℕ) (c : Call) → L .R (s .labels) N → (N′ : Labelling ℕ) × L .R (step B n r s c .state .labels) N′
-    unfolding step
-    step-keeps s N c i = (_, call-stepped s N c i .ready)
+  call-stepped : (s : State A) (N : Labelling ℕ) (c : Call) → L .R (s .labels) N → Stepped L (s .labels) N (asked s c) (renumbering s N c)
+  unfolding renumbering
+  call-stepped s N c i = stepped L (s .labels) N i _ (able (s .rest) c)
 
-    -- the unbounded machine judges alike, by its own rest, and so answers alike
-    module _ (s : State A) (N : Labelling ℕ) (c : Call) (i : L .R (s .labels) N) (e : Renumbering) (S : Stepped L (s .labels) N (labelStep (B .judge n (s .rest) c)) e) where
-      follows : (f : ℕ → ℕ) → Rising f → (v : ℕ) → (1 ≤ snapsOf B n s c → v ≡ f (e .number))
-          → step B n (numbered v) (shadow (through (λ x. f (e .shift x)) N) s) c ≡ like (through f (e .beside)) (step B n r s c)
-      unfolding step snapsOf
-      follows f rise v h = ap₂ (λ (order : Lists.List ℕ) (l : Labelling ℕ). answer c l (carryOut order (s .rest) (B .judge n (s .rest) c)))
-          (sym (ordered-same n n _ _ (le-refl n) (order-kept L (s .labels) N i (λ x. f (e .shift x)) (λ x y u. rise _ _ (S .rising x y u)) v)))
-          (S .follow f rise v h)
+  -- the labels that it leaves are related to numbers again
+  pub step-keeps : (s : State A) (N : Labelling ℕ) (c : Call) → L .R (s .labels) N → (N′ : Labelling ℕ) × L .R (step B n r s c .state .labels) N′
+  unfolding step
+  step-keeps s N c i = (_, call-stepped s N c i .ready)
 
-    -- what later calls make of a number in use, and the numbers that they are given in the end
-    later : Lists.List Call → State A → Labelling ℕ → ℕ → ℕ
-    later [] s N x = x
-    later (c ∷ cs) s N x = let e = renumbering s N c in later cs (step B n r s c .state) (e .beside) (e .shift x)
+  -- the unbounded machine has the same rest, so it judges alike; its numbers order the processes alike, so it answers alike
+  module _ (s : State A) (N : Labelling ℕ) (c : Call) (i : L .R (s .labels) N) (e : Renumbering) (S : Stepped L (s .labels) N (asked s c) e) where
+    follows : (f : ℕ → ℕ) → Rising f → (v : ℕ) → (1 ≤ snapsOf B n s c → v ≡ f (e .number))
+        → step B n (numbered v) (shadow (through (λ x. f (e .shift x)) N) s) c ≡ like (through f (e .beside)) (step B n r s c)
+    unfolding step snapsOf
+    follows f rise v h = ap₂ (λ (order : Lists.List ℕ) (l : Labelling ℕ). answer c l (carryOut order (s .rest) (B .judge n (s .rest) c)))
+        (sym (ordered-same n n _ _ (le-refl n) (order-kept L (s .labels) N i (λ x. f (e .shift x)) (λ x y u. rise _ _ (S .rising x y u)) v)))
+        (S .follow f rise v h)
 
-    given : Lists.List Call → State A → Labelling ℕ → Lists.List ℕ
-    given [] s N = []
-    given (c ∷ cs) s N =
-        let s′ = step B n r s c .state in
-        let e = renumbering s N c in
-        replicate (snapsOf B n s c) (later cs s′ (e .beside) (e .number)) ++ given cs s′ (e .beside)
+  -- what all the calls make of a number that is in use before them, and the numbers that they are given when all is done
+  later : Lists.List Call → State A → Labelling ℕ → ℕ → ℕ
+  later [] s N x = x
+  later (c ∷ cs) s N x = let e = renumbering s N c in later cs (step B n r s c .state) (e .beside) (e .shift x)
 
-    -- one pass finds them
-    renumbered-is : (cs : Lists.List Call) (s : State A) (N : Labelling ℕ) (l : Lists.List ℕ) → renumbered n r (L .slot) B s N l cs ≡ map (later cs s N) l ++ given cs s N
-    unfolding renumbered later given renumbering
-    renumbered-is [] s N l = sym (append-nil (map (λ x. x) l) ∙ map-id l)
-    renumbered-is (c ∷ cs) s N l = renumbered-is cs s′ (e .beside) (map (e .shift) l ++ replicate ℓ (e .number))
-        ∙ ap (λ t. t ++ given cs s′ (e .beside)) (map-append f (map (e .shift) l) (replicate ℓ (e .number)) ∙ ap₂ _++_ (map-map f (e .shift) l) (map-replicate f ℓ (e .number)))
-        ∙ append-assoc (map (λ x. f (e .shift x)) l) (replicate ℓ (f (e .number))) (given cs s′ (e .beside))
-      where
-        ℓ : ℕ
-        ℓ = snapsOf B n s c
+  given : Lists.List Call → State A → Labelling ℕ → Lists.List ℕ
+  given [] s N = []
+  given (c ∷ cs) s N =
+      let s′ = step B n r s c .state in
+      let e = renumbering s N c in
+      replicate (snapsOf B n s c) (later cs s′ (e .beside) (e .number)) ++ given cs s′ (e .beside)
 
-        s′ : State A
-        s′ = step B n r s c .state
+  -- the one pass finds just these
+  renumbered-is : (cs : Lists.List Call) (s : State A) (N : Labelling ℕ) (l : Lists.List ℕ) → renumbered n r (L .slot) B s N l cs ≡ map (later cs s N) l ++ given cs s N
+  unfolding renumbered later given renumbering
+  renumbered-is [] s N l = sym (append-nil (map (λ x. x) l) ∙ map-id l)
+  renumbered-is (c ∷ cs) s N l = renumbered-is cs s′ (e .beside) (map (e .shift) l ++ replicate ℓ (e .number))
+      ∙ ap (λ t. t ++ given cs s′ (e .beside)) (map-append f (map (e .shift) l) (replicate ℓ (e .number)) ∙ ap₂ _++_ (map-map f (e .shift) l) (map-replicate f ℓ (e .number)))
+      ∙ append-assoc (map (λ x. f (e .shift x)) l) (replicate ℓ (f (e .number))) (given cs s′ (e .beside))
+    where
+      ℓ : ℕ
+      ℓ = snapsOf B n s c
 
-        e : Renumbering
-        e = renumbering s N c
+      s′ : State A
+      s′ = step B n r s c .state
 
-        f : ℕ → ℕ
-        f = later cs s′ (e .beside)
+      e : Renumbering
+      e = renumbering s N c
 
-    -- where the numbers up to b were in use: the numbers that the calls leave in use are those up to `most`
-    pub record Spans (s : State A) (N : Labelling ℕ) (cs : Lists.List Call) (f : ℕ → ℕ) (ns : Lists.List ℕ) (b : ℕ) : Type 0 where
-      pub most : ℕ
-      pub few : most ≤ b + snaps B n (λ _. r) s [] cs
-      pub old : f b ≤ most
-      pub upto : All (λ v. v ≤ most) ns
-      pub reach : (x : ℕ) → 1 ≤ x → x ≤ most → Old b f x ⊎ List·Memᴰ x ns
-      pub bound : All (Bounded n most) (run B n numbered (shadow (through f N) s) ns cs)
-      pub fit : All (Fit most) (labelSnaps B n (shadow (through f N) s) ns cs)
+      f : ℕ → ℕ
+      f = later cs s′ (e .beside)
 
-    -- the numbers ns, with which the unbounded machine follows to the end if those in use go through f before
-    pub record Sim (s : State A) (N : Labelling ℕ) (cs : Lists.List Call) (f : ℕ → ℕ) (ns : Lists.List ℕ) : Type 0 where
-      pub rising : Rising f
-      pub zero : f 0 ≡ 0
-      pub each : length ns ≡ snaps B n (λ _. r) s [] cs
-      pub one : length ns ≡ length (labelSnaps B n (shadow (through f N) s) ns cs)
-      pub same : map (seen n) (run B n (λ _. r) s [] cs) ≡ map (seen n) (run B n numbered (shadow (through f N) s) ns cs)
-      pub spans : (b : ℕ) → Upto n N b → Spans s N cs f ns b
+  -- if the numbers 1 to b are in use before the calls, 1 to `most` are after them, and the unbounded machine goes no higher on the way
+  pub record Spans (s : State A) (N : Labelling ℕ) (cs : Lists.List Call) (f : ℕ → ℕ) (ns : Lists.List ℕ) (b : ℕ) : Type 0 where
+    pub most : ℕ
+    pub few : most ≤ b + snaps B n (λ _. r) s [] cs
+    pub old : f b ≤ most
+    pub upto : All (λ v. v ≤ most) ns
+    pub reach : (x : ℕ) → 1 ≤ x → x ≤ most → Old b f x ⊎ List·Memᴰ x ns
+    pub bound : All (Bounded n most) (run B n numbered (shadow (through f N) s) ns cs)
+    pub fit : All (Fit most) (labelSnaps B n (shadow (through f N) s) ns cs)
 
-    module _ (ν : Labelling ℕ) (s : State A) (a : Answer ℕ) (ns ns′ : Lists.List ℕ) (c : Call) (cs : Lists.List Call)
-        (p : step B n (numbered (getD ns 0 0)) (shadow ν s) c ≡ a) (q : drop (snapsOf B n s c) ns ≡ ns′) where
-      run-fed : run B n numbered (shadow ν s) ns (c ∷ cs) ≡ a ∷ run B n numbered (a .state) ns′ cs
-      unfolding run snapsOf
-      run-fed = rw (p, q) refl
+  -- given the numbers ns, the unbounded machine answers as the other, if f was done to the numbers in use beforehand
+  pub record Sim (s : State A) (N : Labelling ℕ) (cs : Lists.List Call) (f : ℕ → ℕ) (ns : Lists.List ℕ) : Type 0 where
+    pub rising : Rising f
+    pub zero : f 0 ≡ 0
+    pub each : length ns ≡ snaps B n (λ _. r) s [] cs
+    pub one : length ns ≡ length (labelSnaps B n (shadow (through f N) s) ns cs)
+    pub same : map (seen n) (run B n (λ _. r) s [] cs) ≡ map (seen n) (run B n numbered (shadow (through f N) s) ns cs)
+    pub spans : (b : ℕ) → Upto n N b → Spans s N cs f ns b
 
-      met-fed : labelSnaps B n (shadow ν s) ns (c ∷ cs) ≡ met n ν (labelStep (B .judge n (s .rest) c)) (getD ns 0 0) ++ labelSnaps B n (a .state) ns′ cs
-      unfolding labelSnaps snapsOf
-      met-fed = rw (p, q) refl
+  -- the first of some calls, where the answer to it and the numbers left are known
+  module _ (ν : Labelling ℕ) (s : State A) (a : Answer ℕ) (ns ns′ : Lists.List ℕ) (c : Call) (cs : Lists.List Call)
+      (p : step B n (numbered (getD ns 0 0)) (shadow ν s) c ≡ a) (q : drop (snapsOf B n s c) ns ≡ ns′) where
+    run-fed : run B n numbered (shadow ν s) ns (c ∷ cs) ≡ a ∷ run B n numbered (a .state) ns′ cs
+    unfolding run snapsOf
+    run-fed = rw (p, q) refl
 
-    extend : (c : Call) (cs : Lists.List Call) (s : State A) (N : Labelling ℕ) → L .R (s .labels) N → (e : Renumbering) → Stepped L (s .labels) N (labelStep (B .judge n (s .rest) c)) e
-        → (f : ℕ → ℕ) (ns : Lists.List ℕ) → Sim (step B n r s c .state) (e .beside) cs f ns
-        → Sim s N (c ∷ cs) (λ x. f (e .shift x)) (replicate (snapsOf B n s c) (f (e .number)) ++ ns)
-    extend c cs s N i e S f ns T = record {
-      rising = λ x y h. T .rising _ _ (S .rising x y h);
-      zero = ap f (S .zero) ∙ T .zero;
-      each = rw (snaps-cons B n r s c cs, length-append, length-replicate) (ap (λ k. ℓ + k) (T .each));
-      one = rw met-here (length-append (replicate ℓ v) ns ∙ ap₂ _+_ (length-replicate ℓ v ∙ sym met-one) (T .one) ∙ sym (length-append x xs));
-      same = rw (run-cons B n r s c cs, runs) (ap (λ l. seen n a ∷ l) (T .same));
-      spans = λ b h. let U = S .span b h in spans b U (T .spans (U .b′) (U .upto));
-    }
-      where
-        a : Answer A
-        a = step B n r s c
+    met-fed : labelSnaps B n (shadow ν s) ns (c ∷ cs) ≡ met n ν (asked s c) (getD ns 0 0) ++ labelSnaps B n (a .state) ns′ cs
+    unfolding labelSnaps snapsOf
+    met-fed = rw (p, q) refl
 
-        ℓ : ℕ
-        ℓ = snapsOf B n s c
+  -- one call more, at the front
+  extend : (c : Call) (cs : Lists.List Call) (s : State A) (N : Labelling ℕ) → L .R (s .labels) N → (e : Renumbering) → Stepped L (s .labels) N (asked s c) e
+      → (f : ℕ → ℕ) (ns : Lists.List ℕ) → Sim (step B n r s c .state) (e .beside) cs f ns
+      → Sim s N (c ∷ cs) (λ x. f (e .shift x)) (replicate (snapsOf B n s c) (f (e .number)) ++ ns)
+  extend c cs s N i e S f ns T = record {
+    rising = λ x y h. T .rising _ _ (S .rising x y h);
+    zero = ap f (S .zero) ∙ T .zero;
+    each = rw (snaps-cons B n r s c cs, length-append, length-replicate) (ap (λ k. ℓ + k) (T .each));
+    one = rw met-here (length-append (replicate ℓ v) ns ∙ ap₂ _+_ (length-replicate ℓ v ∙ sym met-one) (T .one) ∙ sym (length-append x xs));
+    same = rw (run-cons B n r s c cs, runs) (ap (λ l. seen n a ∷ l) (T .same));
+    spans = λ b h. let U = S .span b h in spans b U (T .spans (U .b′) (U .upto));
+  }
+    where
+      a : Answer A
+      a = step B n r s c
 
-        v : ℕ
-        v = f (e .number)
+      ℓ : ℕ
+      ℓ = snapsOf B n s c
 
-        ν : Labelling ℕ
-        ν = through (λ y. f (e .shift y)) N
+      v : ℕ
+      v = f (e .number)
 
-        ν′ : Labelling ℕ
-        ν′ = through f (e .beside)
+      ν : Labelling ℕ
+      ν = through (λ y. f (e .shift y)) N
 
-        nums : Lists.List ℕ
-        nums = replicate ℓ v ++ ns
+      ν′ : Labelling ℕ
+      ν′ = through f (e .beside)
 
-        x : Lists.List LabelSnap
-        x = met n ν (labelStep (B .judge n (s .rest) c)) (getD nums 0 0)
+      nums : Lists.List ℕ
+      nums = replicate ℓ v ++ ns
 
-        xs : Lists.List LabelSnap
-        xs = labelSnaps B n (shadow ν′ (a .state)) ns cs
+      x : Lists.List LabelSnap
+      x = met n ν (asked s c) (getD nums 0 0)
 
-        met-one : length x ≡ ℓ
-        met-one = unfold snapsOf in met-length n ν (getD nums 0 0) (labelStep (B .judge n (s .rest) c))
+      xs : Lists.List LabelSnap
+      xs = labelSnaps B n (shadow ν′ (a .state)) ns cs
 
-        first : 1 ≤ ℓ → getD nums 0 0 ≡ v
-        first = first-replicate ℓ v 0 ns
+      met-one : length x ≡ ℓ
+      met-one = unfold snapsOf in met-length n ν (getD nums 0 0) (asked s c)
 
-        followed : step B n (numbered (getD nums 0 0)) (shadow ν s) c ≡ like ν′ a
-        followed = follows s N c i e S f (T .rising) (getD nums 0 0) first
+      first : 1 ≤ ℓ → getD nums 0 0 ≡ v
+      first = first-replicate ℓ v 0 ns
 
-        runs : run B n numbered (shadow ν s) nums (c ∷ cs) ≡ like ν′ a ∷ run B n numbered (shadow ν′ (a .state)) ns cs
-        runs = run-fed ν s (like ν′ a) nums ns c cs followed (drop-replicate ℓ v ns)
+      followed : step B n (numbered (getD nums 0 0)) (shadow ν s) c ≡ like ν′ a
+      followed = follows s N c i e S f (T .rising) (getD nums 0 0) first
 
-        met-here : labelSnaps B n (shadow ν s) nums (c ∷ cs) ≡ x ++ xs
-        met-here = met-fed ν s (like ν′ a) nums ns c cs followed (drop-replicate ℓ v ns)
+      runs : run B n numbered (shadow ν s) nums (c ∷ cs) ≡ like ν′ a ∷ run B n numbered (shadow ν′ (a .state)) ns cs
+      runs = run-fed ν s (like ν′ a) nums ns c cs followed (drop-replicate ℓ v ns)
 
-        -- the numbers in use after the call, and after the rest
-        spans : (b : ℕ) (U : Span n (labelSnap (labelStep (B .judge n (s .rest) c))) e b) → Spans (a .state) (e .beside) cs f ns (U .b′) → Spans s N (c ∷ cs) (λ y. f (e .shift y)) nums b
-        spans b U W = record {
-          most = W .most;
-          few = rw (snaps-cons B n r s c cs) (omega (arith, W .few, few));
-          old = below (e .shift b) (U .old);
-          upto = all-append (λ y. y ≤ W .most) (replicate ℓ v) ns (all-replicate (λ y. y ≤ W .most) ℓ v (λ _. below (e .number) (U .given))) (W .upto);
-          reach = λ y l u. reached y (W .reach y l u);
-          bound = rw runs ((λ x j l. below (e .beside x j) (U .upto x j l)), W .bound);
-          fit = rw met-here (all-append (Fit (W .most)) x xs (fits (W .most) (below (e .number) (U .given))) (W .fit));
-        }
-          where
-            few : U .b′ ≤ b + ℓ
-            few = unfold snapsOf in U .few
+      met-here : labelSnaps B n (shadow ν s) nums (c ∷ cs) ≡ x ++ xs
+      met-here = met-fed ν s (like ν′ a) nums ns c cs followed (drop-replicate ℓ v ns)
 
-            fits : (most : ℕ) → f (e .number) ≤ most → All (Fit most) x
-            fits most h = S .fit f (T .rising) (T .zero) most h (getD nums 0 0) (unfold snapsOf in first)
+      -- which numbers are in use after the call, and after all of them
+      spans : (b : ℕ) (U : Span n (labelSnap (asked s c)) e b) → Spans (a .state) (e .beside) cs f ns (U .b′) → Spans s N (c ∷ cs) (λ y. f (e .shift y)) nums b
+      spans b U W = record {
+        most = W .most;
+        few = rw (snaps-cons B n r s c cs) (omega (arith, W .few, few));
+        old = below (e .shift b) (U .old);
+        upto = all-append (λ y. y ≤ W .most) (replicate ℓ v) ns (all-replicate (λ y. y ≤ W .most) ℓ v (λ _. below (e .number) (U .given))) (W .upto);
+        reach = λ y l u. reached y (W .reach y l u);
+        bound = rw runs ((λ x j l. below (e .beside x j) (U .upto x j l)), W .bound);
+        fit = rw met-here (all-append (Fit (W .most)) x xs (fits (W .most) (below (e .number) (U .given))) (W .fit));
+      }
+        where
+          few : U .b′ ≤ b + ℓ
+          few = unfold snapsOf in U .few
 
-            below : (y : ℕ) → y ≤ U .b′ → f y ≤ W .most
-            below y h = omega (arith, rising-le (T .rising) y (U .b′) h, W .old)
+          fits : (most : ℕ) → f (e .number) ≤ most → All (Fit most) x
+          fits most h = S .fit f (T .rising) (T .zero) most h (getD nums 0 0) (unfold snapsOf in first)
 
-            shifted : (y : ℕ) → Old b (e .shift) y ⊎ ((1 ≤ labelSnap (labelStep (B .judge n (s .rest) c))) × (y ≡ e .number)) → Old b (λ y. f (e .shift y)) (f y) ⊎ List·Memᴰ (f y) nums
-            shifted y (inl (o, l, u, h)) = inl (o, l, u, ap f h)
-            shifted y (inr (h, q)) = inr (Memᴰ·append-left {s = replicate ℓ v} ns (Memᴰ·cast (ap f q) (member-replicate ℓ v (unfold snapsOf in h))))
+          below : (y : ℕ) → y ≤ U .b′ → f y ≤ W .most
+          below y h = omega (arith, rising-le (T .rising) y (U .b′) h, W .old)
 
-            reached : (y : ℕ) → Old (U .b′) f y ⊎ List·Memᴰ y ns → Old b (λ y. f (e .shift y)) y ⊎ List·Memᴰ y nums
-            reached y (inl (o, l, u, h)) = rw h (shifted o (U .reach o l u))
-            reached y (inr h) = inr (Memᴰ·append-right (replicate ℓ v) h)
+          shifted : (y : ℕ) → Old b (e .shift) y ⊎ ((1 ≤ labelSnap (asked s c)) × (y ≡ e .number)) → Old b (λ y. f (e .shift y)) (f y) ⊎ List·Memᴰ (f y) nums
+          shifted y (inl (o, l, u, h)) = inl (o, l, u, ap f h)
+          shifted y (inr (h, q)) = inr (Memᴰ·append-left {s = replicate ℓ v} ns (Memᴰ·cast (ap f q) (member-replicate ℓ v (unfold snapsOf in h))))
 
-    simulate : (cs : Lists.List Call) (s : State A) (N : Labelling ℕ) → L .R (s .labels) N → Sim s N cs (later cs s N) (given cs s N)
-    unfolding run snaps labelSnaps later given
-    simulate [] s N i = record {
-      rising = λ x y h. h;
-      zero = refl;
-      each = refl;
-      one = refl;
-      same = refl;
-      spans = λ b h. record { most = b; few = omega arith; old = omega arith; upto = tt; reach = λ x l u. inl (x, l, u, refl); bound = tt; fit = tt };
-    }
-    simulate (c ∷ cs) s N i =
-        let S = call-stepped s N c i in
-        extend c cs s N i _ S _ _ (simulate cs (step B n r s c .state) _ (unfold step in S .ready))
+          reached : (y : ℕ) → Old (U .b′) f y ⊎ List·Memᴰ y ns → Old b (λ y. f (e .shift y)) y ⊎ List·Memᴰ y nums
+          reached y (inl (o, l, u, h)) = rw h (shifted o (U .reach o l u))
+          reached y (inr h) = inr (Memᴰ·append-right (replicate ℓ v) h)
 
--- THE NUMBERS, for every sequence of calls from the fresh states: one for each accepted snap for a label, 0 where its process is the newest, else above
--- the top number; with them both machines show the same; without 0 they are 1, 2, .. without a gap; and no number exceeds the count of such snaps
+  simulate : (cs : Lists.List Call) (s : State A) (N : Labelling ℕ) → L .R (s .labels) N → Sim s N cs (later cs s N) (given cs s N)
+  unfolding run snaps labelSnaps later given
+  simulate [] s N i = record {
+    rising = λ x y h. h;
+    zero = refl;
+    each = refl;
+    one = refl;
+    same = refl;
+    spans = λ b h. record { most = b; few = omega arith; old = omega arith; upto = tt; reach = λ x l u. inl (x, l, u, refl); bound = tt; fit = tt };
+  }
+  simulate (c ∷ cs) s N i =
+      let S = call-stepped s N c i in
+      extend c cs s N i _ S _ _ (simulate cs (step B n r s c .state) _ (unfold step in S .ready))
+
+-- Numbers ns for calls on fresh states: one for each accepted snap for a label, and each fits; with them both machines show the same; none is left out
+-- from 1 to the highest; and no number, current or pending, ever exceeds the count of these snaps.
 pub record Numbers {A : Type 0} (B : Board) (n : ℕ) (r : Rules A) (a : A) (cs : Lists.List Call) (ns : Lists.List ℕ) : Type 0 where
   pub each : length ns ≡ snaps B n (λ _. r) (fresh a n) [] cs
   pub fits : Fits B n (snaps B n (λ _. r) (fresh a n) [] cs) (fresh 0 n) ns cs
@@ -226,7 +234,7 @@ pub record Numbers {A : Type 0} (B : Board) (n : ℕ) (r : Rules A) (a : A) (cs 
   pub bound : All (Bounded n (snaps B n (λ _. r) (fresh a n) [] cs)) (run B n numbered (fresh 0 n) ns cs)
   pub gapless : Gapless ns
 
--- THE SEQUENCE THEOREM: the numbers found are such numbers
+-- THE SEQUENCE THEOREM: the numbers that the pass finds are such, for every sequence of calls
 pub finds : {A : Type 0} {n : ℕ} {r : Rules A} {a : A} {Able : LabelStep → Type 0} (L : Simulable n r a Able) (B : Board)
     → ((o : Rest) (c : Call) → Able (labelStep (B .judge n o c))) → (cs : Lists.List Call)
     → Numbers B n r a cs (renumbered n r (L .slot) B (fresh a n) (λ x i. 0) [] cs)
@@ -270,7 +278,7 @@ finds {A} {n} {r} {a} L B able cs = subst (Numbers B n r a cs) (sym (renumbered-
     given-only v (inl (y, l, u, h)) = absurd (omega arith)
     given-only v (inr h) = h
 
--- THE SIMULATION: for every sequence of calls there are advances with which the two machines, from their fresh states, answer alike
+-- DEMAND 3 OF THE MACHINES: the advances that come to these numbers
 pub record Simulates {A : Type 0} (B : Board) (n : ℕ) (r : Rules A) (a : A) (cs : Lists.List Call) : Type 0 where
   pub advances : Lists.List ℕ
   pub whole : All (λ a. 1 ≤ a) advances
