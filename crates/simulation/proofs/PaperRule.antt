@@ -1,4 +1,4 @@
--- The paper's rule agrees with 01's where the invariant holds.
+-- Where the invariant holds, the paper's rule for a new label and 01's come to the same.
 use Prim.Native.Nat.{ℕ, zero, suc, _-_, _≤_}
 use native.Mathlib.Omega.{arith}
 use native.Mathlib.Decide.{ℕ-discrete}
@@ -27,9 +27,9 @@ compared {m} {a} {b} (less l h) = or-right (agrees m a b) (or-left _ (below-less
 compared {m} {a} {b} (same e h) = or-left _ (agree-agrees m a b (λ p l. ap (λ d. d p) e))
 compared {m} {a} {b} (more l h) = or-right (agrees m a b) (or-right (labelBelow m a b) (below-less l))
 
--- n processes, and labels of n - 1 digits
+-- labels of n processes, under the invariant
 module _ (n : ℕ) (some : 1 ≤ n) (l : Labelling Label) (N : Labelling ℕ) (r : Ready (n - 1) l N) where
-  -- the newest process's pending label is its current one
+  -- the newest process has its label pending too
   pub newest-pending : let z = newest n (stands (digits n) l) in l true z ≡ l false z
   newest-pending = rw (newest-labels n (n - 1) (omega arith) l N r) (r .inv .pending ∙ sym (r .inv .current))
 
@@ -61,7 +61,7 @@ module _ (n : ℕ) (some : 1 ≤ n) (l : Labelling Label) (N : Labelling ℕ) (r
   unfolding tot
   tot-holds = every-choice n _ _ choice-ordered
 
-  -- the two rules leave the same pending label
+  -- so the paper always makes a new label where 01 does
   pub paper-agrees : (k : ℕ) → paperPending n (digits n) l k ≡ pendingAfter n (digits n) l k
   unfolding paperPending pendingAfter
   paper-agrees k = rw tot-holds (swap _ _ (eqb k (newest n (stands (digits n) l))))

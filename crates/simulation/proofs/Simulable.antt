@@ -21,13 +21,13 @@ through-put f N k v = fun-ext (λ x. fun-ext (λ i. go (x && eqb i k) x i))
     go true x i = refl
     go false x i = refl
 
--- a snap by process k, once the newest process is known
+-- what a snap by process k makes pending, by whether it is the newest process z
 module _ {A : Type 0} (n : ℕ) (r : Rules A) (l : Labelling A) (k z : ℕ) (e : newest n (stands r l) ≡ z) where
   pub pend-new : k ≢ z → pendingAfter n r l k ≡ r .new (l false) z k
   unfolding pendingAfter
   pend-new d = rw (e, ne-eqb k z d) refl
 
-  -- the newest process's snap changes nothing
+  -- its own label again, so nothing changes
   pub snap-stays : k ≡ z → put l k (pendingAfter n r l k) ≡ l
   unfolding pendingAfter
   snap-stays q = rw (e, eq-eqb k z q) (fun-ext go)

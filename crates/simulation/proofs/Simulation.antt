@@ -1,5 +1,5 @@
--- BCTSS is simulable by UCTSS, for every number of processes: from the invariant (the paper's sections 5 to 7). With it, the sequence theorem of
--- document 01's board.
+-- The bounded labels owe what the sequence theorem asks, for every number of processes: the paper's invariant (sections 5 to 7) is the relation. So the
+-- theorem holds of document 01's board.
 use Prim.Native.Nat.{ℕ, suc, _-_, _≤_, _<_}
 use native.Mathlib.Omega.{arith}
 use native.Mathlib.Decide.{ℕ-discrete}
@@ -27,7 +27,7 @@ use Rattle.simulation.proofs.Judged.{Inside, inside}
 use Rattle.simulation.proofs.Simulable.{Simulable}
 use Rattle.simulation.proofs.Follow.{step-keeps, Numbers, finds, Simulates, simulates}
 
--- the new label leaves the top label within its m digits
+-- past its m digits a new label is filled
 pub new-behind : (m fill : ℕ) (t : ℕ → Label) (z k : ℕ) → z ≤ m → k ≤ m → k ≢ z → (p : ℕ) → m ≤ p → newLabel m fill t z k p ≡ fill
 unfolding newLabel
 new-behind m fill t z k lz lk d p h = next-label-behind fill (t z) (omega (arith, choice .inside))
@@ -35,21 +35,21 @@ new-behind m fill t z k lz lk d p h = next-label-behind fill (t z) (omega (arith
     choice : Choice m t (t z) k (level m t (t z) k)
     choice = level-spec m t (t z) k z lk lz (λ e. d (sym e)) refl
 
--- the invariant holds of the labels, with the numbers N beside them; and digits past the first m are 1
+-- labels and the numbers N beside them, under the invariant; past m digits each label is 1
 pub record Ready (m : ℕ) (l : Labelling Label) (N : Labelling ℕ) : Type 0 where
   pub z : ℕ
   pub top : Label
   pub inv : Inv m l N z top
   pub behind : (x : Bool) (i p : ℕ) → m ≤ p → l x i p ≡ 1
 
--- which process stands before which, by labels of m digits
+-- "stands before" by labels of m digits
 abbrev pub byLabel : ℕ → (ℕ → Label) → ℕ → ℕ → Bool
 byLabel m t i j = labelBefore m (t i) i (t j) j
 
 -- n processes, and labels of m = n - 1 digits
 module _ (n m : ℕ) (size : n ≡ suc m) where
   module _ (l : Labelling Label) (N : Labelling ℕ) (r : Ready m l N) where
-    -- labels and numbers order the processes alike
+    -- numbers give the same order
     pub same-order : Same n (byLabel m (l false)) (byNumber (N false))
     same-order i j li lj = by-cases (ℕ-discrete i j)
         (λ e. rw e (before-same m (l false j) j j ∙ sym (number-same (N false j) j j)))
@@ -63,7 +63,7 @@ module _ (n m : ℕ) (size : n ≡ suc m) where
       let u = update-keeps (r .inv) k (omega arith) in
       record { z = u .0; top = u .1; inv = u .2; behind = λ x i p h. r .behind (x || eqb i k) i p h }
 
-  -- a snap by a process that is not the newest finds its slot
+  -- a new label: its slot, and the invariant afterwards
   snaps : (l : Labelling Label) (N : Labelling ℕ) → Ready m l N → (k z : ℕ) → k < n → newest n (byLabel m (l false)) ≡ z → k ≢ z
       → let new = newLabel m 1 (l false) z k in
       let p = slotOf m (l true) (N true) (N false z) k new in
@@ -90,7 +90,7 @@ module _ (n m : ℕ) (size : n ≡ suc m) where
 pub fresh-ready : (m : ℕ) → Ready m (λ x i p. 1) (λ x i. 0)
 fresh-ready m = record { z = m; top = λ p. 1; inv = Invariant.fresh m; behind = λ x i p h. refl }
 
--- what demand 3 takes of labels that 1 fills, on every board that asks for no more than snaps and updates of its processes
+-- so these labels are simulable, on every board whose calls ask for snaps and updates of its n processes alone
 pub bounded : (n : ℕ) → 1 ≤ n → Simulable n (digits n) (λ p. 1) (Inside n)
 bounded n some = let size : n ≡ suc (n - 1) = omega arith in record {
   slot = slotOf (n - 1);
@@ -103,12 +103,12 @@ bounded n some = let size : n ≡ suc (n - 1) = omega arith in record {
 
 -- DOCUMENT 01'S BOARD
 module _ (n : ℕ) (some : 1 ≤ n) where
-  -- what a call leaves is again so
+  -- the invariant after a call
   pub ready-step : (s : State Label) (N : Labelling ℕ) (c : Call) → Ready (n - 1) (s .labels) N → (N′ : Labelling ℕ) × Ready (n - 1) (step original n (digits n) s c .state .labels) N′
   unfolding bounded
   ready-step s N c r = step-keeps (bounded n some) original (inside n) s N c r
 
-  -- THE NUMBERS of each sequence of calls, and THE SIMULATION
+  -- every sequence of calls has its numbers, and its advances
   pub numbering : (cs : Lists.List Call) → Numbers original n (digits n) (λ p. 1) cs (numbersOf original n cs)
   unfolding bounded
   numbering cs = finds (bounded n some) original (inside n) cs

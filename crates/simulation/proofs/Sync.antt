@@ -71,11 +71,11 @@ module _ {m : ℕ} {a b : Label} {u v : ℕ} where
   sync-before i j (same e h) = rw (e, h) (before-same m b i j ∙ sym (number-same v i j))
   sync-before i j (more l h) = before-more m a i b j l ∙ sym (number-more u i v j h)
 
--- the labels of two stations are in step
+-- any two stations have labels and numbers in step
 abbrev pub Synced : (m : ℕ) → Labelling Label → Labelling ℕ → Type 0
 Synced m L N = (x y : Bool) (i j : ℕ) → i ≤ m → j ≤ m → i ≢ j → Sync m (L x i) (N x i) (L y j) (N y j)
 
--- so labels of three stations never close a ring: agree before p, and have the digits 3, 4, 5 there (the paper's I, by its Lemma 4.2)
+-- which no ring of three labels allows, with equal digits before p and 3, 4, 5 there (the paper's I, by its Lemma 4.2)
 pub no-ring : {m : ℕ} {L : Labelling Label} {N : Labelling ℕ} → Synced m L N → (x y w : Bool) (i j l p : ℕ) → i ≤ m → j ≤ m → l ≤ m
     → i ≢ j → j ≢ l → l ≢ i → p < m → Agree p (L x i) (L y j) → Agree p (L y j) (L w l) → L x i p ≡ 3 → L y j p ≡ 4 → L w l p ≡ 5 → ⊥
 no-ring sync x y w i j l p bi bj bl ij jl li b s t three four five = omega (

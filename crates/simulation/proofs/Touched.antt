@@ -1,4 +1,4 @@
--- A move acts on its own processes alone, and a step call on the calling station's.
+-- What a move leaves as it is: every process but the one that takes it.
 use Prim.Native.Nat.{ℕ, _<_}
 use mathlib.Core.Path.{_≡_, refl}
 use mathlib.Core.Logic.{_≢_}
@@ -11,7 +11,7 @@ use Rattle.simulation.specs.Calls.{Call, place, Label, Scan, Phase, Entr
 use Rattle.simulation.specs.Machine.{Labelling, Rules, pendingAfter, labelStep, relabelled, scanOf, carryOut}
 use Rattle.simulation.proofs.Judged.{Own, own-place, Verdict, turned, begins, updates, snaps, ends}
 
--- the processes that a move acts on
+-- the process that takes the move
 abbrev pub touched : Move → ℕ → Bool
 touched (Move.refused x) i = false
 touched (Move.begins k job o) i = eqb i k
@@ -19,7 +19,7 @@ touched (Move.updates k) i = eqb i k
 touched (Move.snaps k o) i = eqb i k
 touched (Move.ends k o) i = eqb i k
 
--- the others keep their labels, records and results
+-- any other keeps labels, record and result
 pub labels-kept : {A : Type 0} (n : ℕ) (r : Rules A) (l : Labelling A) (w : Move) (i : ℕ) → touched w i ≡ false → (x : Bool) → relabelled n r l (labelStep w) x i ≡ l x i
 unfolding relabelled
 labels-kept n r l (Move.refused y) i e x = refl
@@ -62,7 +62,7 @@ results-all P order o scan h (Move.snaps k Scan) i = by-here (λ b. P (cond b (s
 results-all P order o scan h (Move.ends k Label) i = h i
 results-all P order o scan h (Move.ends k Scan) i = h i
 
--- of n processes, a call touches the caller alone
+-- and a call is taken by its caller, one of the n processes
 pub apart : {n : ℕ} {c : Call} {ph : Phase} {w : Move} → Verdict n c ph w → (i : ℕ) → (i < n → i ≢ place c) → touched w i ≡ false
 apart {n} {c} {ph} v i d = go v
   where

@@ -26,7 +26,7 @@ use Rattle.table.specs.declared.Phase.the-variants.{Idle}
 use Rattle.table.specs.declared.Station.{Station}
 use Rattle.table.specs.declared.Table.{Table}
 
--- the two laws, of a table
+-- both laws, stated of a table
 abbrev pub NewestKeeps : Table → Type 0
 NewestKeeps t = let z = newest (t .count) (stands (digits (t .count)) (labelsOf t)) in at t z .«pending_label» ≡ at t z .label
 
@@ -80,7 +80,7 @@ labelled d e = record {
 pub unreached : Table
 unreached = record { count = 3; stations = labelled 3 3 ∷ labelled 4 4 ∷ labelled 1 5 ∷ replicate 29 (freshStation 3) }
 
--- the paper's rule skips the new label of the first station, whose pending label stays 3.1; 01's sets it, to 4.2
+-- by the paper's rule the first station's snap makes no new label, and 3.1 stays pending; by 01's it makes 4.2
 pub rules-part : (wellFormed unreached ≡ true)
     × (row 2 (paperPending 3 (digits 3) (labelsOf unreached) 0) ≡ 3 ∷ 1 ∷ [])
     × (row 2 (pendingAfter 3 (digits 3) (labelsOf unreached) 0) ≡ 4 ∷ 2 ∷ [])

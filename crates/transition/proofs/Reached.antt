@@ -1,4 +1,4 @@
--- States reached from the fresh one: their tables are well-formed, so no call on them meets 13, and hold them.
+-- States reached from the fresh one. Their tables hold them and are well-formed, so that no call meets 13.
 use Prim.Native.Nat.{ℕ, _+_, _-_, _≤_, _<_}
 use native.Mathlib.Omega.{arith}
 use mathlib.Core.Path.{_≡_, refl, ap, _∙_}
@@ -31,7 +31,7 @@ pub record Reached (n : ℕ) (s : State Labels.Label) : Type 0 where
 
 module _ (n : ℕ) (low : 2 ≤ n) (high : n ≤ 32) where
   module _ {s : State Labels.Label} (r : Reached n s) where
-    -- the table of such a state holds it
+    -- its table holds it
     pub reached-held : stateOf (tableOf n s) ≡ s
     reached-held = held-written n high s (r .writable)
 
@@ -79,7 +79,7 @@ module _ (n : ℕ) (low : 2 ≤ n) (high : n ≤ 32) where
   unfolding scanOf stored
   scan-once o b = rw (map-map _ _ (ordered n b)) (stored-fits 32 (λ i. o .process i .job) b n high)
 
-  -- every step call leaves such a state
+  -- a step call leads from one to another
   pub reached-step : (s : State Labels.Label) → Reached n s → (c : Call) → Reached n (step original n (digits n) s c .state)
   reached-step s r c = record {
     N = next .0;

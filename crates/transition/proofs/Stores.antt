@@ -1,4 +1,4 @@
--- What a step call on a well-formed table stores: one record, at the calling station's place.
+-- The store law: on a well-formed table a step call stores one record, at its station's place, and this is the record.
 use Prim.Native.Nat.{ℕ, _-_, _*_, _≤_, _<_}
 use native.Mathlib.Omega.{arith}
 use mathlib.Core.Path.{_≡_, refl, sym, ap, ap₂, subst, _∙_}
@@ -38,7 +38,7 @@ use Rattle.table.specs.declared.Operation.the-variants.{Scan}
 use Rattle.table.specs.declared.Phase.the-variants.{Idle, Snap}
 use Rattle.table.specs.declared.Table.{Table}
 
--- a process's record is written down from what the state has of it
+-- states with the same labels, record and result of a process have the same record written down
 station-same : (n : ℕ) (s s′ : State Labels.Label) (i : ℕ) → ((x : Bool) → s .labels x i ≡ s′ .labels x i) → s .rest .process i ≡ s′ .rest .process i
     → s .rest .result i ≡ s′ .rest .result i → stationIn n s i ≡ stationIn n s′ i
 unfolding stationIn
@@ -51,7 +51,7 @@ station-same n s s′ i a b c = λ y. record {
   phase = phaseIn (b y .phase);
 }
 
--- two states that differ at process k alone
+-- and if only process k differs, the tables differ by one record
 store-written : (n : ℕ) → n ≤ 32 → (s s′ : State Labels.Label) (k : ℕ) → k < n → ((i : ℕ) → i ≢ k → stationIn n s i ≡ stationIn n s′ i)
     → store (tableOf n s) k (stationIn n s′ k) ≡ tableOf n s′
 unfolding tableOf
@@ -102,7 +102,7 @@ module _ (t : Table) (g : Shaped t) (e : wellFormed t ≡ true) where
   high : t .count ≤ 32
   high = passed t e .high
 
-  -- the label that a snap makes pending, and the result that it stores, as the code finds them in the table
+  -- what a snap finds, in the state and in the table
   pending-written : (k : ℕ) → k < t .count → row 31 (Machine.pendingAfter (t .count) (digits (t .count)) (labelsOf t) k) ≡ pendingAfter t k
   unfolding pendingAfter Machine.pendingAfter newestOf
   pending-written k l = by-here (λ b. row 31 (cond b (digit (at t k .«pending_label»)) new) ≡ cond b (at t k .«pending_label») (row 31 new)) (newestOf t) k
@@ -120,11 +120,11 @@ module _ (t : Table) (g : Shaped t) (e : wellFormed t ≡ true) where
     order : Lists.List ℕ
     order = ordered (t .count) (stands (digits (t .count)) (labelsOf t))
 
-    -- the state that a move leaves
+    -- the state after a move
     left : Move → State Labels.Label
     left w = record { labels = relabelled (t .count) (digits (t .count)) (labelsOf t) (labelStep w); rest = carryOut order (restOf t) w .rest }
 
-    -- the record of the caller in it
+    -- has this record of the caller
     record-written : {ph : Calls.Phase} {w : Move} → Verdict (t .count) c ph w → place c < t .count → stationIn (t .count) (left w) (place c) ≡ recordAfter t (place c) w
     unfolding left order stationIn relabelled carryOut recordMade
     record-written v l = go v
@@ -145,7 +145,7 @@ module _ (t : Table) (g : Shaped t) (e : wellFormed t ≡ true) where
         go (ends own Calls.Label q f) = rw (here-yes k) (ap (λ r. inPhase r Idle) same)
         go (ends own Calls.Scan q f) = rw (here-yes k) (ap (λ r. inPhase r Idle) same)
 
-    -- all that a move leaves
+    -- and differs there alone
     move-stores : {ph : Calls.Phase} {w : Move} → Verdict (t .count) c ph w → place c < t .count → tableOf (t .count) (left w) ≡ store t (place c) (recordAfter t (place c) w)
     unfolding left
     move-stores {w = w} v l = sym (store-written (t .count) high (stateOf t) (left w) (place c) l kept)
@@ -168,7 +168,7 @@ module _ (t : Table) (g : Shaped t) (e : wellFormed t ≡ true) where
     told (ends own Calls.Label q f) = refl
     told (ends own Calls.Scan q f) = refl
 
-    -- THE STORE LAW: the answer to a call of one of the n stations
+    -- THE STORE LAW, for a call of one of the n stations
     pub step-stores : place c < t .count → stepOf t c ≡ answerAfter t (place c) c (judge (t .count) (restOf t) c)
     unfolding step left order
     step-stores l =
@@ -178,12 +178,12 @@ module _ (t : Table) (g : Shaped t) (e : wellFormed t ≡ true) where
         let q = numbered order (restOf t) (judge (t .count) (restOf t) c) in
         step-written t c e ∙ λ x. record { table = p x; refusal = q x; bytes = reportLines (c .line) 1 (h x) }
 
-    -- and to a call that is refused
+    -- a refused call leaves the table
     pub step-refused : (x : ℕ) → judge (t .count) (restOf t) c ≡ Move.refused x → stepOf t c ≡ refuse t x
     unfolding step carryOut relabelled reportLines
     step-refused x h = step-written t c e ∙ rw h (ap (λ u. refuse u x) (written-held t g e))
 
-    -- both in one, where the code looks at place k: the caller's, or any if there is no such station
+    -- as the code has it, which reads place k: its station's, or whichever where there is no such station
     pub step-at : (k : ℕ) → (within 1 (t .count) (c .station) ≡ true → k ≡ place c)
         → stepOf t c ≡ answerAfter t k c (judgeIn (t .count) (phaseOf (at t k .phase)) c)
     unfolding recordMade reportLines

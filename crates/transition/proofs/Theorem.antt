@@ -1,4 +1,4 @@
--- Demand 3 for step calls: on tables reached from the fresh one, calls are the bounded machine's, written down; from the simulation between the machines.
+-- Demand 3 for step calls: calls on a reached table are the bounded machine's, written down, and the unbounded machine answers as that one does.
 use Prim.Native.Nat.{ℕ, zero, suc, _+_, _≤_}
 use native.Mathlib.Omega.{arith}
 use mathlib.Core.Path.{_≡_, refl, sym, ap, ap₂, subst, _∙_}
@@ -41,7 +41,7 @@ module _ (n : ℕ) (low : 2 ≤ n) (high : n ≤ 32) where
   answer s c = step original n (digits n) s c
 
   module _ {s : State Labels.Label} (r : Reached n s) (c : Call) where
-    -- on the table of a reached state too
+    -- a step call on the table of a reached state is the machine's
     pub reached-written : stepOf (tableOf n s) c ≡ written n (answer s c)
     unfolding tableOf
     reached-written = step-written (tableOf n s) c (reached-passes n low high r) ∙ ap (λ u. written n (answer u c)) (reached-held n low high r)

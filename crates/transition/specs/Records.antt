@@ -18,11 +18,11 @@ use Rattle.table.specs.declared.Phase.the-variants.{Idle, Snap, Update, End}
 use Rattle.table.specs.declared.Station.{Station}
 use Rattle.table.specs.declared.Table.{Table}
 
--- the table with another record at a place, from 0
+-- the table with this record at place k, from 0
 abbrev pub store : Table → ℕ → Station → Table
 store t k s = record { count = t .count; stations = set (t .stations) k s }
 
--- what each step makes of a record
+-- the record s after each kind of step
 module _ (s : Station) where
   abbrev pub inPhase : Phase → Station
   inPhase p = record { label = s .label; job = s .job; «pending_label» = s .«pending_label»; «pending_job» = s .«pending_job»; «scan_result» = s .«scan_result»; phase = p }
@@ -56,7 +56,7 @@ recordMade s new l (Move.snaps k Calls.Label) = snapped s new
 recordMade s new l (Move.snaps k Calls.Scan) = scanned s l
 recordMade s new l (Move.ends k o) = inPhase s Idle
 
--- the record at place k after a move of the station there
+-- the same for the record at place k of a table
 abbrev pub recordAfter : Table → ℕ → Move → Station
 recordAfter t k w = recordMade (at t k) (pendingAfter t k) (scanOf t) w
 

@@ -1,5 +1,5 @@
--- A step call on a table (01, "The steps", "The new label", "When a step is turned down"): 13 comes first; else the step of the state that it holds,
--- written down.
+-- A step call on the declared struct (01, "The steps", "When a step is turned down"): 13 if the table is not well-formed; else the machine's step, from the
+-- state that the table holds to the one that is written down.
 use Prim.Native.Nat.{ℕ}
 use mathlib.Core.Bool.{cond}
 use mathlib.Core.List as Lists
