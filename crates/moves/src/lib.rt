@@ -3,7 +3,7 @@ ghost use mathlib.Core.Path.{_≡_};
 ghost use mathlib.Core.Logic.{_≢_};
 ghost use mathlib.Core.List as Lists;
 ghost use Prim.Native.Nat.{ℕ, _-_, _≤_};
-ghost use Rattle.simulation.specs.Calls.{snaps, ends, unless, jobFits, notDue, roomFor, byPhase, judgeIn};
+ghost use Rattle.simulation.specs.Calls.{refused, snaps, ends, unless, jobFits, notDue, roomFor, byPhase, judgeIn};
 ghost use Rattle.transition.specs.States.{operationOf, phaseOf};
 ghost use Rattle.transition.specs.Records.{inPhase, begun, snapped, scanned, updated, recordMade, numberOf, reportSize};
 ghost use Rattle.moves.specs.Moves.{refusalNumber, moveOf, kindOf, called, placeOf};
@@ -66,28 +66,21 @@ pub enum Move {
     EndScan,
 }
 
-// The move, if a test holds; else the refusal.
-fn unless(holds: bool, r: Refusal, m: Move) -> Move
-    ensures { λ o. ⌜ ((k job : ℕ) → moveOf k job o ≡ unless holds (refusalNumber r) (moveOf k job m)) ⌝ }
-{
-    if holds { m } else { Move::Refused(r) }
-}
-
-// The refusal of a known step that is not due.
-fn not_due(code: u64) -> Refusal
+// A known step that is not due.
+fn not_due(code: u64) -> Move
     requires { ⌜ code ≤ 5 ⌝ }
-    ensures { λ r. ⌜ refusalNumber r ≡ notDue code ⌝ }
+    ensures { λ r. ⌜ ((k job : ℕ) → moveOf k job r ≡ refused (notDue code)) ⌝ }
 {
     if code <= 2 {
-        return Refusal::Busy;
+        return Move::Refused(Refusal::Busy);
     }
     if code == 3 {
-        return Refusal::NoSnapDue;
+        return Move::Refused(Refusal::NoSnapDue);
     }
     if code == 4 {
-        return Refusal::NoUpdateDue;
+        return Move::Refused(Refusal::NoUpdateDue);
     }
-    Refusal::NothingToEnd
+    Move::Refused(Refusal::NothingToEnd)
 }
 
 fn snap_for(o: Operation) -> Move
@@ -99,23 +92,20 @@ fn snap_for(o: Operation) -> Move
     }
 }
 
-fn end_of(o: Operation) -> Move
-    ensures { λ r. ⌜ ((k job : ℕ) → moveOf k job r ≡ ends k (operationOf o)) ⌝ }
+// An end that is due; that of a scan asks for room for its report lines.
+fn end_of(o: Operation, n: usize, room: usize) -> Move
+    requires { ⌜ n ≤ 32 ⌝ }
+    ensures { λ r. ⌜ ((line code station job : ℕ) → moveOf (station - 1) job r ≡ unless (roomFor n (called line code station job room) (operationOf o)) 7 (ends (station - 1) (operationOf o))) ⌝ }
 {
     match o {
         Operation::Label => Move::EndLabel,
-        Operation::Scan => Move::EndScan,
-    }
-}
-
-// Whether the report lines of n stations have room, if an end writes any.
-fn room_for(o: Operation, n: usize, room: usize) -> bool
-    requires { ⌜ n ≤ 32 ⌝ }
-    ensures { λ r. ⌜ ((line code station job : ℕ) → r ≡ roomFor n (called line code station job room) (operationOf o)) ⌝ }
-{
-    match o {
-        Operation::Label => true,
-        Operation::Scan => n * 29 <= room,
+        Operation::Scan => {
+            if n * 29 <= room {
+                Move::EndScan
+            } else {
+                Move::Refused(Refusal::BufferTooShort)
+            }
+        }
     }
 }
 
@@ -125,19 +115,33 @@ fn by_phase(n: usize, p: Phase, code: u64, room: usize) -> Move
     requires { ⌜ code ≤ 5 ⌝ }
     ensures { λ r. ⌜ ((line station job : ℕ) → moveOf (station - 1) job r ≡ byPhase n (called line code station job room) (phaseOf p)) ⌝ }
 {
-    let late = not_due(code);
     match p {
         Phase::Idle => {
             if code == 1 {
                 return Move::BeginLabel;
             }
-            unless(code == 2, late, Move::BeginScan)
+            if code == 2 {
+                return Move::BeginScan;
+            }
+            not_due(code)
         }
-        Phase::Snap(o) => unless(code == 3, late, snap_for(o)),
-        Phase::Update => unless(code == 4, late, Move::Update),
+        Phase::Snap(o) => {
+            if code == 3 {
+                return snap_for(o);
+            }
+            not_due(code)
+        }
+        Phase::Update => {
+            if code == 4 {
+                return Move::Update;
+            }
+            not_due(code)
+        }
         Phase::End(o) => {
-            let end = unless(room_for(o, n, room), Refusal::BufferTooShort, end_of(o));
-            unless(code == 5, late, end)
+            if code == 5 {
+                return end_of(o, n, room);
+            }
+            not_due(code)
         }
     }
 }
