@@ -3,7 +3,7 @@ ghost use mathlib.Core.Path.{_≡_};
 ghost use mathlib.Core.Logic.{_≢_};
 ghost use mathlib.Core.List as Lists;
 ghost use Prim.Native.Nat.{ℕ, _-_, _≤_};
-ghost use Rattle.simulation.specs.Calls.{refused, snaps, ends, unless, jobFits, notDue, roomFor, byPhase, judgeIn};
+ghost use Rattle.simulation.specs.Calls.{snaps, ends, unless, jobFits, roomFor, byPhase, judgeIn};
 ghost use Rattle.transition.specs.States.{operationOf, phaseOf};
 ghost use Rattle.transition.specs.Records.{inPhase, begun, snapped, scanned, updated, recordMade, numberOf, reportSize};
 ghost use Rattle.moves.specs.Moves.{refusalNumber, moveOf, kindOf, called, placeOf};
@@ -66,21 +66,23 @@ pub enum Move {
     EndScan,
 }
 
-// A known step that is not due.
-fn not_due(code: u64) -> Move
-    requires { ⌜ code ≤ 5 ⌝ }
-    ensures { λ r. ⌜ ((k job : ℕ) → moveOf k job r ≡ refused (notDue code)) ⌝ }
+// A begin (code 1 or 2), which asks for an idle station.
+fn begins(code: u64, p: Phase) -> Move
+    requires { ⌜ (1 ≤ code) × (code ≤ 2) ⌝ }
+    ensures { λ r. ⌜ ((n line station job room : ℕ) → moveOf (station - 1) job r ≡ byPhase n (called line code station job room) (phaseOf p)) ⌝ }
 {
-    if code <= 2 {
-        return Move::Refused(Refusal::Busy);
+    match p {
+        Phase::Idle => {
+            if code == 1 {
+                Move::BeginLabel
+            } else {
+                Move::BeginScan
+            }
+        }
+        Phase::Snap(_) => Move::Refused(Refusal::Busy),
+        Phase::Update => Move::Refused(Refusal::Busy),
+        Phase::End(_) => Move::Refused(Refusal::Busy),
     }
-    if code == 3 {
-        return Move::Refused(Refusal::NoSnapDue);
-    }
-    if code == 4 {
-        return Move::Refused(Refusal::NoUpdateDue);
-    }
-    Move::Refused(Refusal::NothingToEnd)
 }
 
 fn snap_for(o: Operation) -> Move
@@ -92,10 +94,32 @@ fn snap_for(o: Operation) -> Move
     }
 }
 
-// An end that is due; that of a scan asks for room for its report lines.
+// A snap, by the operation that it is due for.
+fn snaps(p: Phase) -> Move
+    ensures { λ r. ⌜ ((n line station job room : ℕ) → moveOf (station - 1) job r ≡ byPhase n (called line 3 station job room) (phaseOf p)) ⌝ }
+{
+    match p {
+        Phase::Idle => Move::Refused(Refusal::NoSnapDue),
+        Phase::Snap(o) => snap_for(o),
+        Phase::Update => Move::Refused(Refusal::NoSnapDue),
+        Phase::End(_) => Move::Refused(Refusal::NoSnapDue),
+    }
+}
+
+fn updates(p: Phase) -> Move
+    ensures { λ r. ⌜ ((n line station job room : ℕ) → moveOf (station - 1) job r ≡ byPhase n (called line 4 station job room) (phaseOf p)) ⌝ }
+{
+    match p {
+        Phase::Idle => Move::Refused(Refusal::NoUpdateDue),
+        Phase::Snap(_) => Move::Refused(Refusal::NoUpdateDue),
+        Phase::Update => Move::Update,
+        Phase::End(_) => Move::Refused(Refusal::NoUpdateDue),
+    }
+}
+
 fn end_of(o: Operation, n: usize, room: usize) -> Move
     requires { ⌜ n ≤ 32 ⌝ }
-    ensures { λ r. ⌜ ((line code station job : ℕ) → moveOf (station - 1) job r ≡ unless (roomFor n (called line code station job room) (operationOf o)) 7 (ends (station - 1) (operationOf o))) ⌝ }
+    ensures { λ r. ⌜ ((line station job : ℕ) → moveOf (station - 1) job r ≡ unless (roomFor n (called line 5 station job room) (operationOf o)) 7 (ends (station - 1) (operationOf o))) ⌝ }
 {
     match o {
         Operation::Label => Move::EndLabel,
@@ -109,50 +133,47 @@ fn end_of(o: Operation, n: usize, room: usize) -> Move
     }
 }
 
-// What a known step with a fitting job amounts to for a station in this phase.
-fn by_phase(n: usize, p: Phase, code: u64, room: usize) -> Move
+// An end; that of a scan asks for room for the report lines of n stations.
+fn ends(p: Phase, n: usize, room: usize) -> Move
     requires { ⌜ n ≤ 32 ⌝ }
-    requires { ⌜ code ≤ 5 ⌝ }
-    ensures { λ r. ⌜ ((line station job : ℕ) → moveOf (station - 1) job r ≡ byPhase n (called line code station job room) (phaseOf p)) ⌝ }
+    ensures { λ r. ⌜ ((line station job : ℕ) → moveOf (station - 1) job r ≡ byPhase n (called line 5 station job room) (phaseOf p)) ⌝ }
 {
     match p {
-        Phase::Idle => {
-            if code == 1 {
-                return Move::BeginLabel;
-            }
-            if code == 2 {
-                return Move::BeginScan;
-            }
-            not_due(code)
-        }
-        Phase::Snap(o) => {
-            if code == 3 {
-                return snap_for(o);
-            }
-            not_due(code)
-        }
-        Phase::Update => {
-            if code == 4 {
-                return Move::Update;
-            }
-            not_due(code)
-        }
-        Phase::End(o) => {
-            if code == 5 {
-                return end_of(o, n, room);
-            }
-            not_due(code)
-        }
+        Phase::Idle => Move::Refused(Refusal::NothingToEnd),
+        Phase::Snap(_) => Move::Refused(Refusal::NothingToEnd),
+        Phase::Update => Move::Refused(Refusal::NothingToEnd),
+        Phase::End(o) => end_of(o, n, room),
     }
 }
 
-fn job_fits(code: u64, job: u64) -> bool
-    ensures { λ r. ⌜ r ≡ jobFits code job ⌝ }
+// What a known step of one of n stations amounts to: its job is judged first, and then the phase.
+fn by_code(n: usize, code: u64, job: u64, room: usize, p: Phase) -> Move
+    requires { ⌜ n ≤ 32 ⌝ }
+    requires { ⌜ (1 ≤ code) × (code ≤ 5) ⌝ }
+    ensures { λ r. ⌜ ((line station : ℕ) → moveOf (station - 1) job r ≡ unless (jobFits code job) 11 (byPhase n (called line code station job room) (phaseOf p))) ⌝ }
 {
     if code == 1 {
-        return 1 <= job && job <= 4294967295;
+        if job < 1 {
+            return Move::Refused(Refusal::JobOutOfRange);
+        }
+        if 4294967295 < job {
+            return Move::Refused(Refusal::JobOutOfRange);
+        }
+        return begins(1, p);
     }
-    job == 0
+    if job != 0 {
+        return Move::Refused(Refusal::JobOutOfRange);
+    }
+    if code == 2 {
+        return begins(2, p);
+    }
+    if code == 3 {
+        return snaps(p);
+    }
+    if code == 4 {
+        return updates(p);
+    }
+    ends(p, n, room)
 }
 
 // What a call amounts to for a station in this phase, of n stations.
@@ -172,10 +193,7 @@ pub fn judge(n: usize, p: Phase, code: u64, station: u64, job: u64, room: usize)
     if (n as u64) < station {
         return Move::Refused(Refusal::UnknownStation);
     }
-    if !job_fits(code, job) {
-        return Move::Refused(Refusal::JobOutOfRange);
-    }
-    by_phase(n, p, code, room)
+    by_code(n, code, job, room, p)
 }
 
 // The refusal of a move.
