@@ -13,8 +13,8 @@ use Rattle.label.proofs.Facts.{both, right-no, within-true, every-at}
 use Rattle.table.specs.WellFormed.{wellFormed}
 use Rattle.table.proofs.Shapes.{Shaped}
 use Rattle.transition.specs.Steps.{Answer, stepOf}
-use Rattle.transition.proofs.Steps.{step-refusals}
-use Rattle.transition.proofs.Stores.{step-shaped, step-kept}
+use Rattle.transition.proofs.Steps.{step-refusals, step-shaped}
+use Rattle.transition.proofs.Stores.{step-kept}
 use Rattle.moves.specs.Moves.{refusalNumber}
 use Rattle.step.specs.Contracts.{over, Steps}
 use Rattle.step.specs.Routines as Routines

@@ -22,7 +22,7 @@ use Rattle.table.proofs.Orders.{passed, newest-station}
 use Rattle.table.proofs.Shapes.{Shaped}
 use Rattle.transition.specs.States.{labelsOf, restOf, stateOf, tableOf}
 use Rattle.transition.specs.Steps.{Answer, written, stepOf}
-use Rattle.transition.proofs.States.{Writable, held-writable, held-written}
+use Rattle.transition.proofs.States.{Writable, held-writable, held-written, written-shaped}
 use Rattle.table.specs.declared.Table.{Table}
 
 pub step-written : (t : Table) (c : Call) → wellFormed t ≡ true → let n = t .count in stepOf t c ≡ written n (step original n (digits n) (stateOf t) c)
@@ -78,8 +78,15 @@ module _ (n : ℕ) (high : n ≤ 32) (s : State Labels.Label) (w : Writable n s)
       order : Lists.List ℕ
       order = ordered n (stands (digits n) (s .labels))
 
--- so the table that a step leaves holds the state that the machine leaves, on every well-formed table, reached or not
-pub step-held : (t : Table) → Shaped t → wellFormed t ≡ true → (c : Call) → let n = t .count in stateOf (stepOf t c .table) ≡ step original n (digits n) (stateOf t) c .state
-unfolding tableOf newestOf
-step-held t g e c = ap (λ (a : Answer). stateOf (a .table)) (step-written t c e)
-    ∙ held-written (t .count) (passed t e .high) _ (writable-step (t .count) (passed t e .high) (stateOf t) (held-writable t g e) c (newest-station t e))
+-- SO THE TABLE THAT A STEP LEAVES, from any well-formed table, reached or not, holds the state that the machine leaves, in arrays of the right lengths
+module _ (t : Table) (g : Shaped t) (e : wellFormed t ≡ true) (c : Call) where
+  next : Writable (t .count) (step original (t .count) (digits (t .count)) (stateOf t) c .state)
+  unfolding newestOf
+  next = writable-step (t .count) (passed t e .high) (stateOf t) (held-writable t g e) c (newest-station t e)
+
+  pub step-held : let n = t .count in stateOf (stepOf t c .table) ≡ step original n (digits n) (stateOf t) c .state
+  unfolding tableOf
+  step-held = ap (λ (a : Answer). stateOf (a .table)) (step-written t c e) ∙ held-written (t .count) (passed t e .high) _ next
+
+  pub step-shaped : Shaped (stepOf t c .table)
+  step-shaped = subst (λ (a : Answer). Shaped (a .table)) (sym (step-written t c e)) (written-shaped (t .count) (passed t e .high) _ next)

@@ -1,12 +1,12 @@
 -- The store law: on a well-formed table a step call stores one record, at its station's place, and this is the record.
 use Prim.Native.Nat.{ℕ, _-_, _*_, _≤_, _<_}
 use native.Mathlib.Omega.{arith}
-use mathlib.Core.Path.{_≡_, refl, sym, ap, ap₂, subst, _∙_}
+use mathlib.Core.Path.{_≡_, refl, sym, ap, ap₂, _∙_}
 use mathlib.Core.Logic.{_≢_}
 use mathlib.Core.Bool.{Bool, true, false, cond, true≢false}
 use mathlib.Core.List as Lists
 use mathlib.Core.List.{_++_, map-map}
-use lib.ListN.{length, replicate, length-append, length-map, length-replicate}
+use lib.ListN.{replicate}
 use lib.Seq.{set-getD}
 use lib.Dec.{ltb}
 use borrow.Author.Tests.{lt-ltb, leb-true}
@@ -14,7 +14,7 @@ use Rattle.label.specs.Tests.{within, ordered}
 use Rattle.label.specs.Labels as Labels
 use Rattle.label.specs.Labels.{newLabel}
 use Rattle.label.specs.Rows.{digit, row}
-use Rattle.label.proofs.Facts.{by-here, within-true, ordered-length, length-tabulate, set-tabulate}
+use Rattle.label.proofs.Facts.{by-here, within-true, set-tabulate}
 use Rattle.label.proofs.RowLaws.{row-digit}
 use Rattle.simulation.specs.Calls as Calls
 use Rattle.simulation.specs.Calls.{Call, place, Rest, Move, judgeIn, judge, reportLines}
@@ -28,9 +28,9 @@ use Rattle.table.specs.Snaps.{stored, labels, newestOf, pendingAfter, scanOf}
 use Rattle.table.specs.Tables.{freshStation, at}
 use Rattle.table.specs.WellFormed.{wellFormed}
 use Rattle.table.proofs.Orders.{passed}
-use Rattle.table.proofs.Shapes.{Long, Shaped, store-shaped}
+use Rattle.table.proofs.Shapes.{Shaped}
 use Rattle.transition.specs.States.{phaseOf, phaseIn, labelsOf, restOf, stateOf, resultIn, stationIn, tableOf}
-use Rattle.transition.specs.Steps.{Answer, written, refuse, stepOf}
+use Rattle.transition.specs.Steps.{written, refuse, stepOf}
 use Rattle.transition.specs.Records.{store, inPhase, begun, snapped, scanned, updated, recordMade, recordAfter, numberOf, hands, handed, answerAfter}
 use Rattle.transition.proofs.States.{station-in-of, written-held}
 use Rattle.transition.proofs.Steps.{step-written}
@@ -86,17 +86,6 @@ hands-room (updates own q) h = absurd (true≢false (sym h))
 hands-room (snaps own o q) h = absurd (true≢false (sym h))
 hands-room (ends own Calls.Label q f) h = absurd (true≢false (sym h))
 hands-room {n} {c} (ends own Calls.Scan q f) h = leb-true (n * 29) (c .room) f
-
--- what a snap finds has the lengths of the struct's arrays
-pending-long : (t : Table) (k : ℕ) → length (at t k .«pending_label») ≡ 31 → length (pendingAfter t k) ≡ 31
-unfolding pendingAfter row
-pending-long t k l = by-here (λ b. length (cond b (at t k .«pending_label») (row 31 (newLabel (t .count - 1) 1 (labels t) (newestOf t) k))) ≡ 31) (newestOf t) k
-    (λ _. l)
-    (λ _. length-tabulate 31 0 _)
-
-scan-long : (t : Table) → t .count ≤ 32 → length (scanOf t) ≡ 32
-unfolding scanOf stored
-scan-long t h = simp (length-append, length-map, length-replicate, ordered-length) (omega arith)
 
 module _ (t : Table) (g : Shaped t) (e : wellFormed t ≡ true) where
   high : t .count ≤ 32
@@ -194,31 +183,6 @@ module _ (t : Table) (g : Shaped t) (e : wellFormed t ≡ true) where
         go false q =
             let s = judge-stranger (t .count) c q in
             step-refused (s .0) (s .1 _) ∙ rw (s .1 (phaseOf (at t k .phase))) (ap (λ l. refuse (record { count = t .count; stations = l }) (s .0)) (sym (set-getD (t .stations) k _)))
-
-    -- the arrays of the table that it leaves have their lengths again
-    pub step-shaped : Shaped (stepOf t c .table)
-    unfolding recordMade
-    step-shaped = subst (λ (a : Answer). Shaped (a .table)) (sym (step-at k (λ q. rw q refl)))
-        (store-shaped t k _ g (record-long (judgeIn (t .count) (phaseOf (at t k .phase)) c) (g .each k inside)))
-      where
-        k : ℕ
-        k = cond (within 1 (t .count) (c .station)) (place c) 0
-
-        inside : k < 32
-        inside = go (within 1 (t .count) (c .station)) refl
-          where
-            go : (b : Bool) → within 1 (t .count) (c .station) ≡ b → cond b (place c) 0 < 32
-            go true q = let i = within-true 1 (t .count) (c .station) q in omega (arith, high)
-            go false q = omega arith
-
-        record-long : (w : Move) → Long (at t k) → Long (recordAfter t k w)
-        record-long (Move.refused x) l = l
-        record-long (Move.begins j job Calls.Label) l = record { label = l .label; pending = l .pending; result = l .result }
-        record-long (Move.begins j job Calls.Scan) l = record { label = l .label; pending = l .pending; result = l .result }
-        record-long (Move.updates j) l = record { label = l .pending; pending = l .pending; result = l .result }
-        record-long (Move.snaps j Calls.Label) l = record { label = l .label; pending = pending-long t k (l .pending); result = l .result }
-        record-long (Move.snaps j Calls.Scan) l = record { label = l .label; pending = l .pending; result = scan-long t high }
-        record-long (Move.ends j o) l = record { label = l .label; pending = l .pending; result = l .result }
 
 -- REFUSALS: the number of a call is 13, or that of its move; if it is not 0 the call changes nothing and writes nothing
 module _ (t : Table) (c : Call) where
