@@ -21,8 +21,8 @@ use Rattle.table.proofs.Owned.{stations-long}
 use Rattle.table.proofs.Shapes.{Shaped}
 use Rattle.table.proofs.Table.{the-row}
 use Rattle.transition.specs.States.{phaseOf, restOf, resultOf}
-use Rattle.transition.specs.Steps.{refuse, stepOf}
-use Rattle.transition.specs.Records.{store, recordMade, recordAfter, numberOf, hands, reportSize, handed, answerAfter}
+use Rattle.transition.specs.Steps.{stepOf}
+use Rattle.transition.specs.Records.{store, recordMade, recordAfter, numberOf, hands, reportSize, handed, refuse, answerAfter}
 use Rattle.transition.proofs.Stores.{hands-room, step-at, step-number, step-kept}
 use Rattle.moves.specs.Moves.{refusalNumber, moveOf, kindOf, called, placeOf}
 use Rattle.moves.proofs.MoveLaws.{same-kind, place-below}

@@ -30,8 +30,8 @@ use Rattle.table.specs.WellFormed.{wellFormed}
 use Rattle.table.proofs.Orders.{passed}
 use Rattle.table.proofs.Shapes.{Shaped}
 use Rattle.transition.specs.States.{phaseOf, phaseIn, labelsOf, restOf, stateOf, resultIn, stationIn, tableOf}
-use Rattle.transition.specs.Steps.{written, refuse, stepOf}
-use Rattle.transition.specs.Records.{store, inPhase, begun, snapped, scanned, updated, recordMade, recordAfter, numberOf, hands, handed, answerAfter}
+use Rattle.transition.specs.Steps.{written, stepOf}
+use Rattle.transition.specs.Records.{store, inPhase, begun, snapped, scanned, updated, recordMade, recordAfter, numberOf, hands, handed, refuse, answerAfter}
 use Rattle.transition.proofs.States.{station-in-of, written-held}
 use Rattle.transition.proofs.Steps.{step-written}
 use Rattle.table.specs.declared.Operation.the-variants.{Scan}

@@ -84,6 +84,10 @@ reportSize n w = cond (hands w) (n * 29) 0
 abbrev pub handed : Table → ℕ → Move → Lists.List Calls.Entry
 handed t k w = cond (hands w) (resultOf (t .count) (at t k .«scan_result»)) []
 
+-- the answer to a refused call
+abbrev pub refuse : Table → ℕ → Answer
+refuse t x = record { table = t; refusal = x; bytes = [] }
+
 -- the answer to the call c, if it amounts to this move of the station at place k
 abbrev pub answerAfter : Table → ℕ → Call → Move → Answer
 answerAfter t k c w = record { table = store t k (recordAfter t k w); refusal = numberOf w; bytes = reportLines (c .line) 1 (handed t k w) }

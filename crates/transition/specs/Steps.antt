@@ -18,11 +18,8 @@ pub record Answer : Type 0 where
   pub refusal : ℕ
   pub bytes : Lists.List ℕ
 
-abbrev pub refuse : Table → ℕ → Answer
-refuse t x = record { table = t; refusal = x; bytes = [] }
-
 abbrev pub written : ℕ → Machine.Answer Labels.Label → Answer
 written n a = record { table = tableOf n (a .state); refusal = a .refusal; bytes = a .bytes }
 
 unfoldable pub stepOf : Table → Call → Answer
-stepOf t c = let n = t .count in cond (wellFormed t) (written n (step original n (digits n) (stateOf t) c)) (refuse t 13)
+stepOf t c = let n = t .count in cond (wellFormed t) (written n (step original n (digits n) (stateOf t) c)) (record { table = t; refusal = 13; bytes = [] })
