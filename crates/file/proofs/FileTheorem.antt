@@ -8,7 +8,7 @@ use mathlib.Core.List as Lists
 use mathlib.Core.List.{[], _∷_, _++_, map, append-nil, append-assoc}
 use lib.ListN.{take}
 use borrow.Author.Tests.{ne-eqb}
-use Rattle.label.specs.Tests.{All}
+use Rattle.basics.specs.Tests.{All}
 use Rattle.simulation.specs.Calls.{Call}
 use Rattle.table.specs.Tables.{freshTable}
 use Rattle.transition.specs.Steps.{stepOf}

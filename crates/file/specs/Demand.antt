@@ -6,7 +6,7 @@ use mathlib.Core.Logic.{_≢_}
 use mathlib.Core.List as Lists
 use mathlib.Core.List.{[], _∷_, _++_, map}
 use lib.ListN.{drop}
-use Rattle.label.specs.Tests.{All}
+use Rattle.basics.specs.Tests.{All}
 use Rattle.simulation.specs.Calls.{Call}
 use Rattle.simulation.specs.Machine as Machine
 use Rattle.simulation.specs.Machine.{Seen}

@@ -8,8 +8,8 @@ use mathlib.Core.List as Lists
 use mathlib.Core.List.{[], _∷_}
 use types.Run.{OneOf, miss}
 use denote.Enum.Declared.{tagOf}
-use Rattle.label.specs.Tests.{within}
-use Rattle.label.proofs.Facts.{within-true}
+use Rattle.basics.specs.Tests.{within}
+use Rattle.basics.proofs.Facts.{within-true}
 use Rattle.simulation.specs.Calls as Calls
 use Rattle.simulation.specs.Calls.{Call, judgeIn}
 use Rattle.simulation.proofs.Judged.{begin-fits, verdict}

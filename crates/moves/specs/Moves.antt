@@ -1,7 +1,7 @@
 -- What a step call amounts to: the numbers of the declared refusals, the declared moves, a call from its parts and the place of its station.
 use Prim.Native.Nat.{ℕ, _-_}
 use mathlib.Core.Bool.{cond}
-use Rattle.label.specs.Tests.{within}
+use Rattle.basics.specs.Tests.{within}
 use Rattle.simulation.specs.Calls as Calls
 use Rattle.simulation.specs.Calls.{Call}
 use Rattle.moves.specs.declared.Refusal.{Refusal}

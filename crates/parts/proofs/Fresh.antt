@@ -7,8 +7,8 @@ use mathlib.Core.List as Lists
 use mathlib.Core.List.{[]}
 use lib.ListN.{getD, replicate}
 use lib.Dec.{ltb}
-use Rattle.label.specs.Tests.{tabulate}
-use Rattle.label.proofs.Facts.{getD-tabulate, tabulate-same, replicate-tabulate}
+use Rattle.basics.specs.Tests.{tabulate}
+use Rattle.basics.proofs.Facts.{getD-tabulate, tabulate-same, replicate-tabulate}
 use Rattle.table.specs.Results.{entry, blank, freshEntry}
 use Rattle.table.specs.Tables.{freshStation, freshTable}
 use Rattle.parts.specs.Parts.{phaseFor, entries, stationAt, assembled, freshRow, freshParts, Sized}

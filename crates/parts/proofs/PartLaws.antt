@@ -13,10 +13,10 @@ use lib.Seq.{set-getD, getD-set-same, getD-set-other}
 use lib.Dec.{ltb}
 use borrow.Rule.Slice.PartMut.{putMid}
 use Rattle.columns.specs.Columns.{lineHead, lineTail, reportLine}
-use Rattle.label.specs.Tests.{tabulate}
+use Rattle.basics.specs.Tests.{tabulate}
 use Rattle.label.specs.Rows.{digit}
-use Rattle.label.proofs.Facts.{length-tabulate, getD-tabulate, tabulate-same, set-tabulate}
-use Rattle.label.proofs.Filled.{filled, filled-none, filled-more}
+use Rattle.basics.proofs.Facts.{length-tabulate, getD-tabulate, tabulate-same, set-tabulate}
+use Rattle.basics.proofs.Filled.{filled, filled-none, filled-more}
 use Rattle.rows.specs.Held.{standsIn, Orderly, pendingIn}
 use Rattle.rows.proofs.OrderLaws.{order-front, order-long}
 use Rattle.simulation.specs.Calls as Calls

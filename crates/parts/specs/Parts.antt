@@ -7,7 +7,7 @@ use mathlib.Core.List.{[], _++_}
 use mathlib.Core.Bool.{Bool, true, false, cond}
 use lib.ListN.{length, getD, replicate}
 use lib.Dec.{eqb, ltb}
-use Rattle.label.specs.Tests.{tabulate, ordered}
+use Rattle.basics.specs.Tests.{tabulate, ordered}
 use Rattle.rows.specs.Held.{standsIn}
 use Rattle.simulation.specs.Calls as Calls
 use Rattle.simulation.specs.Calls.{reportLines}

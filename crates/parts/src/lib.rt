@@ -5,7 +5,7 @@ ghost use mathlib.Core.List.{[]};
 ghost use Prim.Native.Nat.{ℕ, suc, _*_, _≤_, _<_};
 ghost use lib.ListN.{length, getD};
 ghost use lib.Dec.{ltb};
-ghost use Rattle.label.specs.Tests.{tabulate};
+ghost use Rattle.basics.specs.Tests.{tabulate};
 ghost use Rattle.simulation.specs.Calls.{reportLines};
 ghost use Rattle.transition.specs.States.{resultOf};
 ghost use Rattle.moves.specs.Moves.{moveOf};

@@ -1,4 +1,3 @@
-pub mod Checks
 pub mod OrderLaws
 pub mod ChoiceLaws
 pub mod Rings

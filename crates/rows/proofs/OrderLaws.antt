@@ -11,9 +11,9 @@ use lib.ListN.{length, length-append, length-replicate, getD, set, take, drop, r
 use lib.Seq.{take-all, take-suc, drop-cons, split-at, set-at, take-at, drop-at, take-append-le, drop-append-le, drop-append-add, length-take-le, getD-take}
 use lib.Dec.{eqb}
 use borrow.Author.Tests.{eqb-true, eqb-false}
-use Rattle.label.specs.Tests.{firstFrom, inserted, newest, ordered, All}
+use Rattle.basics.specs.Tests.{firstFrom, inserted, newest, ordered, All}
 use Rattle.label.specs.Labels.{labelBefore}
-use Rattle.label.proofs.Facts.{First, first, all-at, each-all, ordered-all, ordered-each, inserted-length, ordered-length, without, without-all}
+use Rattle.basics.proofs.Facts.{First, first, all-at, each-all, ordered-all, ordered-each, inserted-length, ordered-length, without, without-all}
 use Rattle.label.proofs.RowLaws.{ringless}
 use Rattle.label.proofs.Total.{Total, total, newest-only, one-way, other-way, Sorted, ordered-sorted, without-sorted, without-at, without-alike, put-back}
 use Rattle.rows.specs.Held.{held, standsIn, Orderly, OrderedBefore}

@@ -8,11 +8,11 @@ use mathlib.Core.List.{List, [], _∷_}
 use lib.ListN.{getD}
 use lib.Dec.{eqb}
 use borrow.Author.Tests.{eqb-true, eq-eqb, not-true, not-false}
-use Rattle.label.specs.Tests.{every}
+use Rattle.basics.specs.Tests.{every}
 use Rattle.label.specs.Labels.{Label, agrees}
 use Rattle.label.specs.Rows.{noRing}
 use Rattle.rows.specs.Held.{partsWith, noRingAt}
-use Rattle.label.proofs.Facts.{tf, is-false, and-both, both, every-all, every-at, every-no, every-same}
+use Rattle.basics.proofs.Facts.{tf, is-false, and-both, both, every-all, every-at, every-no, every-same}
 use Rattle.label.proofs.Order.{Agree, agrees-true, agree-agrees}
 use Rattle.label.proofs.RowLaws.{ring, ring-true, ring-of}
 

@@ -6,7 +6,7 @@ use mathlib.Core.Bool.{Bool, true, not, _&&_, cond}
 use mathlib.Core.List.{List, [], _++_}
 use lib.ListN.{getD, replicate}
 use lib.Dec.{eqb}
-use Rattle.label.specs.Tests.{every, newest, ordered}
+use Rattle.basics.specs.Tests.{every, newest, ordered}
 use Rattle.label.specs.Labels.{Label, agrees, labelBefore, newLabel}
 use Rattle.label.specs.Rows.{digit, row, noRing}
 use Rattle.label.specs.Valid.{Valid}

@@ -5,7 +5,7 @@ ghost use mathlib.Core.Bool.{not, _&&_, cond};
 ghost use Prim.Native.Nat.{ℕ, suc, _-_, _≤_, _<_};
 ghost use lib.ListN.{getD};
 ghost use lib.Dec.{eqb, leb, ltb};
-ghost use Rattle.label.specs.Tests.{count, firstFrom, newest, tabulate};
+ghost use Rattle.basics.specs.Tests.{count, firstFrom, newest, tabulate};
 ghost use Rattle.label.specs.Labels.{firstDifference, newLabel};
 ghost use Rattle.label.specs.Rows.{digit, row};
 ghost use Rattle.rows.specs.Held.{held, Orderly, pendingIn, standsIn};

@@ -6,7 +6,7 @@ ghost use mathlib.Core.List.{_∷_, _++_};
 ghost use Prim.Native.Nat.{ℕ, _+_, _-_, _≤_, _<_};
 ghost use lib.ListN.{length, getD, take, drop, replicate};
 ghost use lib.Dec.{eqb};
-ghost use Rattle.label.specs.Tests.{firstFrom, newest, ordered};
+ghost use Rattle.basics.specs.Tests.{firstFrom, newest, ordered};
 ghost use Rattle.rows.specs.Held.{standsIn, Orderly, OrderedBefore};
 
 // The newest of n stations: the one that all others stand before.

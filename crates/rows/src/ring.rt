@@ -2,7 +2,7 @@
 ghost use mathlib.Core.Path.{_≡_};
 ghost use mathlib.Core.Bool.{not};
 ghost use Prim.Native.Nat.{_-_, _≤_, _<_};
-ghost use Rattle.label.specs.Tests.{every};
+ghost use Rattle.basics.specs.Tests.{every};
 ghost use Rattle.label.specs.Rows.{noRing};
 ghost use Rattle.rows.specs.Held.{held, partsWith, noRingAt};
 

@@ -8,8 +8,8 @@ use mathlib.Core.List as Lists
 use lib.ListN.{length, getD, take, drop}
 use lib.Dec.{eqb, ltb}
 use borrow.Author.Tests.{eq-eqb, ne-eqb, ltb-false}
-use Rattle.label.specs.Tests.{within}
-use Rattle.label.proofs.Facts.{within-true}
+use Rattle.basics.specs.Tests.{within}
+use Rattle.basics.proofs.Facts.{within-true}
 use Rattle.columns.specs.Reading.{columnRead}
 use Rattle.columns.specs.declared.Column.{Column}
 use Rattle.columns.specs.declared.Column.the-variants.{Value, Bad}

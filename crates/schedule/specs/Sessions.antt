@@ -4,7 +4,7 @@ use mathlib.Core.Bool.{Bool, not, cond}
 use mathlib.Core.List as Lists
 use mathlib.Core.List.{[]}
 use lib.Dec.{eqb, ltb}
-use Rattle.label.specs.Tests.{within}
+use Rattle.basics.specs.Tests.{within}
 use Rattle.table.specs.Tables.{freshTable}
 use Rattle.table.specs.WellFormed.{wellFormed}
 use Rattle.transition.specs.Steps.{stepOf}

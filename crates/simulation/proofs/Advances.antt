@@ -7,8 +7,8 @@ use mathlib.Core.List as Lists
 use mathlib.Core.List.{[], _∷_, _++_, map, map-append}
 use lib.ListN.{length, getD, drop, length-append}
 use borrow.Author.Tests.{ne-eqb}
-use Rattle.label.specs.Tests.{newest, ordered, All}
-use Rattle.label.proofs.Facts.{by-here, all-parts, all-map}
+use Rattle.basics.specs.Tests.{newest, ordered, All}
+use Rattle.basics.proofs.Facts.{by-here, all-parts, all-map}
 use Rattle.simulation.specs.Calls.{Call}
 use Rattle.simulation.specs.Machine.{Board, Labelling, put, numbers, stands, LabelStep, stay, snap, update, labelStep, labelSnap, pendingAfter, relabelled, carryOut, State, answer, step, snapsOf, run, snaps}
 use Rattle.simulation.specs.Numbering.{numbered, LabelSnap, met, labelSnaps, Fit, advance, advances}

@@ -9,8 +9,8 @@ use mathlib.Core.List as Lists
 use mathlib.Core.List.{[], _∷_, _++_, map, map-map, map-id, map-append, append-assoc, append-nil, List·Memᴰ, Memᴰ·cast, Memᴰ·append-left, Memᴰ·append-right}
 use lib.ListN.{length, length-append, length-map, getD, drop, replicate, length-replicate}
 use lib.Seq.{drop-nil}
-use Rattle.label.specs.Tests.{All}
-use Rattle.label.proofs.Facts.{all-append, all-replicate, all-weaken, map-replicate, member-replicate, first-replicate, drop-replicate, ordered-same}
+use Rattle.basics.specs.Tests.{All}
+use Rattle.basics.proofs.Facts.{all-append, all-replicate, all-weaken, map-replicate, member-replicate, first-replicate, drop-replicate, ordered-same}
 use Rattle.simulation.specs.Calls.{Rest, Call}
 use Rattle.simulation.specs.Machine.{Board, Labelling, Rules, numbers, LabelStep, labelStep, labelSnap, carryOut, State, Answer, answer, fresh, step, snapsOf, run, snaps, seen, Bounded}
 use Rattle.simulation.specs.Numbering.{numbered, LabelSnap, met, labelSnaps, Fit, Fits, Gapless, advance, advances, through, Renumbering, renumber, renumbered}

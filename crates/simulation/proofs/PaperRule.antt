@@ -6,9 +6,9 @@ use mathlib.Core.Path.{_≡_, refl, sym, ap, _∙_}
 use mathlib.Core.Logic.{by-cases}
 use mathlib.Core.Bool.{Bool, true, false, not, _&&_, _||_, cond}
 use lib.Dec.{eqb}
-use Rattle.label.specs.Tests.{newest}
+use Rattle.basics.specs.Tests.{newest}
 use Rattle.label.specs.Labels.{Label, agrees, labelBelow}
-use Rattle.label.proofs.Facts.{both, and-both, or-left, or-right, implies, every-all}
+use Rattle.basics.proofs.Facts.{both, and-both, or-left, or-right, implies, every-all}
 use Rattle.label.proofs.Order.{agree-agrees, below-less}
 use Rattle.label.proofs.Total.{below-true}
 use Rattle.simulation.specs.Machine.{Labelling, digits, stands, pendingAfter}

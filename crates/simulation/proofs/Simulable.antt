@@ -7,8 +7,8 @@ use mathlib.Core.Logic.{_≢_}
 use mathlib.Core.Bool.{Bool, true, false, _&&_, _||_, cond}
 use lib.Dec.{eqb}
 use borrow.Author.Tests.{eqb-true, eq-eqb, ne-eqb}
-use Rattle.label.specs.Tests.{newest, All}
-use Rattle.label.proofs.Facts.{tf, by-here, Same, newest-same}
+use Rattle.basics.specs.Tests.{newest, All}
+use Rattle.basics.proofs.Facts.{tf, by-here, Same, newest-same}
 use Rattle.simulation.specs.Machine.{Labelling, put, copy, Rules, stands, pendingAfter, LabelStep, stay, snap, update, relabelled, labelSnap}
 use Rattle.simulation.specs.Numbering.{numbered, met, Fit, through, Slot, number, shift, Renumbering, besideOnly, placed, renumber}
 use Rattle.simulation.proofs.Sync.{Rising, rising-before, byNumber}

@@ -8,9 +8,9 @@ use mathlib.Core.Logic.{_≢_, by-cases}
 use mathlib.Core.Bool.{Bool, true, false, _||_, cond}
 use mathlib.Core.List as Lists
 use lib.Dec.{eqb}
-use Rattle.label.specs.Tests.{newest}
+use Rattle.basics.specs.Tests.{newest}
 use Rattle.label.specs.Labels.{Label, labelBefore, level, newLabel}
-use Rattle.label.proofs.Facts.{Same, newest-same}
+use Rattle.basics.proofs.Facts.{Same, newest-same}
 use Rattle.label.proofs.Order.{before-same, next-label-behind}
 use Rattle.label.proofs.Choice.{Choice, level-spec}
 use Rattle.simulation.specs.Calls.{Call}

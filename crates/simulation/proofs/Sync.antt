@@ -11,8 +11,8 @@ use Rattle.label.proofs.Order.{Agree, Lt, Lt-irrefl, Lt-asym, Le, le-not-gt, be
 use Rattle.simulation.proofs.Labellings.{by-put}
 use lib.Dec.{eqb, ltb}
 use Rattle.simulation.specs.Machine.{Labelling, put, copy, numberBefore}
-use Rattle.label.specs.Tests.{every, newest}
-use Rattle.label.proofs.Facts.{tf, every-all, every-at, First, first}
+use Rattle.basics.specs.Tests.{every, newest}
+use Rattle.basics.proofs.Facts.{tf, every-all, every-at, First, first}
 use borrow.Author.Tests.{ltb-false, lt-ltb, le-ltb, eq-eqb, ne-eqb, not-true}
 
 -- ---- the test "stands before" on numbers

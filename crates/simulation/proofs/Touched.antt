@@ -6,7 +6,7 @@ use mathlib.Core.Bool.{Bool, true, false, _&&_, _||_, cond}
 use mathlib.Core.List as Lists
 use lib.Dec.{eqb}
 use borrow.Author.Tests.{ne-eqb}
-use Rattle.label.proofs.Facts.{by-here}
+use Rattle.basics.proofs.Facts.{by-here}
 use Rattle.simulation.specs.Calls.{Call, place, Label, Scan, Phase, Entry, Rest, Move}
 use Rattle.simulation.specs.Machine.{Labelling, Rules, pendingAfter, labelStep, relabelled, scanOf, carryOut}
 use Rattle.simulation.proofs.Judged.{Own, own-place, Verdict, turned, begins, updates, snaps, ends}

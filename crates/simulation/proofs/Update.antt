@@ -11,7 +11,7 @@ use Rattle.label.specs.Labels.{Label, nextLabel}
 use Rattle.label.proofs.Order.{Agree, Within, Lt, Le, le-not-gt, next-label-before, next-label-at, next-label-behind, next-label-reach, next-label-order, next-label-again}
 use Rattle.label.specs.Labels.{others}
 use Rattle.label.proofs.Choice.{all, others-grow, all-grow, one-more}
-use Rattle.label.proofs.Facts.{by-here}
+use Rattle.basics.proofs.Facts.{by-here}
 use Rattle.simulation.specs.Machine.{Labelling, copy}
 use Rattle.simulation.proofs.Labellings.{here-yes}
 use Rattle.simulation.proofs.Sync.{number-lt, number-label, synced-copy, Newest}

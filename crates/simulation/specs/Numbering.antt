@@ -8,7 +8,7 @@ use mathlib.Core.List as Lists
 use mathlib.Core.List.{[], _∷_, _++_, map, List·Memᴰ}
 use lib.ListN.{length, getD, drop, replicate}
 use lib.Dec.{eqb, leb}
-use Rattle.label.specs.Tests.{newest, firstFrom, All}
+use Rattle.basics.specs.Tests.{newest, firstFrom, All}
 use Rattle.label.specs.Labels as Labels
 use Rattle.label.specs.Labels.{otherAgrees, labelBelow}
 use Rattle.simulation.specs.Calls.{Call}

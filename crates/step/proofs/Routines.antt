@@ -5,7 +5,7 @@ use mathlib.Core.List as Lists
 use mathlib.Core.List.{[], _∷_, map, map-map}
 use lib.ListN.{length, take}
 use lib.Seq.{take-at}
-use Rattle.label.specs.Tests.{All}
+use Rattle.basics.specs.Tests.{All}
 use Rattle.simulation.specs.Machine as Machine
 use Rattle.simulation.specs.Machine.{Seen}
 use Rattle.table.specs.Tables.{freshTable}

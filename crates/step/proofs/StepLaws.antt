@@ -10,7 +10,7 @@ use lib.ListN.{length, getD}
 use mir.Val.{Val}
 use denote.Shadow.{shadow}
 use borrow.Author.Tests.{ne-eqb}
-use Rattle.label.proofs.Facts.{getD-any}
+use Rattle.basics.proofs.Facts.{getD-any}
 use Rattle.simulation.specs.Calls as Calls
 use Rattle.simulation.specs.Calls.{Call, judgeIn, judge, place, reportLines}
 use Rattle.simulation.proofs.Judged.{verdict}

@@ -10,8 +10,8 @@ use lib.ListN.{length, getD, replicate, getD-replicate}
 use lib.Seq.{ext-getD}
 use lib.Dec.{eqb}
 use borrow.Author.Tests.{eqb-true, leb-true, le-leb}
-use Rattle.label.specs.Tests.{every, tabulate}
-use Rattle.label.proofs.Facts.{every-all, every-at, length-tabulate, getD-tabulate}
+use Rattle.basics.specs.Tests.{every, tabulate}
+use Rattle.basics.proofs.Facts.{every-all, every-at, length-tabulate, getD-tabulate}
 use Rattle.table.specs.Results.{entry, blank}
 use Rattle.table.specs.Tables.{freshStation, at}
 use Rattle.table.proofs.Shapes.{Long, Shaped}

@@ -8,8 +8,8 @@ use mathlib.Core.List.{[], _∷_, map}
 use lib.ListN.{length}
 use lib.Dec.{eqb}
 use borrow.Author.Tests.{eqb-true, eqb-false}
-use Rattle.label.specs.Tests.{within, every, All}
-use Rattle.label.proofs.Facts.{both, right-no, within-true, every-at}
+use Rattle.basics.specs.Tests.{within, every, All}
+use Rattle.basics.proofs.Facts.{both, right-no, within-true, every-at}
 use Rattle.table.specs.WellFormed.{wellFormed}
 use Rattle.table.proofs.Shapes.{Shaped}
 use Rattle.transition.specs.Steps.{Answer, stepOf}

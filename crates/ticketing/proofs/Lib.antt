@@ -1,4 +1,3 @@
-pub mod Flags
 pub mod Sound
 pub mod ApartLaws
 pub mod TurnLaws

@@ -12,12 +12,12 @@ use mathlib.Core.List.{[]}
 use lib.ListN.{length, getD, take}
 use lib.Dec.{eqb, ltb}
 use borrow.Author.Tests.{eq-eqb, ne-eqb}
-use Rattle.label.specs.Tests.{within, every, count}
-use Rattle.label.proofs.Facts.{both, left-no, right-no, within-of, every-same, length-tabulate, getD-tabulate}
+use Rattle.basics.specs.Tests.{within, every, count}
+use Rattle.basics.proofs.Facts.{both, left-no, right-no, within-of, every-same, length-tabulate, getD-tabulate}
 use Rattle.rows.specs.Held.{held}
-use Rattle.rows.proofs.Checks.{and-yes}
+use Rattle.basics.proofs.Loops.{and-yes}
 use Rattle.rows.proofs.Rings.{no-ring-same}
-use Rattle.rows.proofs.ChoiceLaws.{count-yes, count-no}
+use Rattle.basics.proofs.Counts.{count-yes, count-no}
 use Rattle.table.specs.Results.{entry, blank, freshEntry, sameEntry, times, resultFits}
 use Rattle.table.specs.WellFormed.{stationFits, isIdle, isFresh, wellFormed}
 use Rattle.label.specs.Rows.{digit, rowFits, noRing}

@@ -10,8 +10,8 @@ use lib.Dec.{eqb}
 use types.Run.{OneOf}
 use denote.Enum.Declared.{tagOf}
 use borrow.Author.Tests.{eqb-false, le-leb, lt-leb}
-use Rattle.label.specs.Tests.{within}
-use Rattle.label.proofs.Facts.{and-both}
+use Rattle.basics.specs.Tests.{within}
+use Rattle.basics.proofs.Facts.{and-both}
 use Rattle.simulation.specs.Calls.{Call}
 use Rattle.table.specs.WellFormed.{wellFormed}
 use Rattle.transition.specs.Steps as Steps

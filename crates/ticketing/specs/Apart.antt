@@ -4,7 +4,7 @@ use mathlib.Core.Bool.{Bool, _&&_}
 use mathlib.Core.List as Lists
 use lib.ListN.{getD}
 use lib.Dec.{leb}
-use Rattle.label.specs.Tests.{every, tabulate}
+use Rattle.basics.specs.Tests.{every, tabulate}
 use Rattle.label.specs.Rows.{rowFits}
 use Rattle.table.specs.Results.{blank, resultFits}
 use Rattle.table.specs.Tables.{at}

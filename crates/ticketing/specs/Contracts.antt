@@ -6,7 +6,7 @@ use mathlib.Core.List as Lists
 use mathlib.Core.List.{[]}
 use lib.ListN.{length, getD}
 use lib.Dec.{eqb, leb}
-use Rattle.label.specs.Tests.{within}
+use Rattle.basics.specs.Tests.{within}
 use Rattle.simulation.specs.Calls.{Call}
 use Rattle.transition.specs.Steps.{stepOf}
 use Rattle.step.specs.Contracts.{over, Steps}

@@ -4,7 +4,7 @@ use mathlib.Core.Path.{_≡_}
 use mathlib.Core.List as Lists
 use mathlib.Core.List.{[], _∷_, map}
 use lib.ListN.{length, getD}
-use Rattle.label.specs.Tests.{All}
+use Rattle.basics.specs.Tests.{All}
 use Rattle.simulation.specs.Calls.{Call}
 use Rattle.moves.specs.Moves.{refusalNumber, called}
 use Rattle.step.specs.Routines as Routines

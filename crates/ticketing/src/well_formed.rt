@@ -5,7 +5,7 @@ ghost use mathlib.Core.List.{[]};
 ghost use Prim.Native.Nat.{ℕ, suc, _+_, _-_, _≤_, _<_};
 ghost use lib.ListN.{getD};
 ghost use lib.Dec.{eqb};
-ghost use Rattle.label.specs.Tests.{every, count};
+ghost use Rattle.basics.specs.Tests.{every, count};
 ghost use Rattle.label.specs.Rows.{rowFits};
 ghost use Rattle.table.specs.Results.{blank, freshEntry, sameEntry, resultFits};
 ghost use Rattle.table.specs.WellFormed.{isFresh};

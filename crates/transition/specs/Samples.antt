@@ -1,20 +1,17 @@
 -- Samples P1 to P12 (01, "Shop samples"): one table, and one statement for all its rows.
 use Prim.Native.Nat.{ℕ, suc, _-_}
 use mathlib.Core.Path.{_≡_}
-use mathlib.Core.Bool.{true, cond}
+use mathlib.Core.Bool.{true, false, cond}
 use mathlib.Core.List as Lists
 use mathlib.Core.List.{[], _∷_, _++_, map}
-use lib.ListN.{length, take}
+use lib.ListN.{length}
 use lib.Dec.{eqb}
-use Rattle.label.specs.Tests.{ordered, tabulate, All}
+use Rattle.basics.specs.Tests.{ordered, tabulate, All}
 use Rattle.label.specs.Labels.{below, labelBelow}
 use Rattle.label.specs.Rows.{digit}
 use Rattle.simulation.specs.Calls.{Call}
 use Rattle.simulation.specs.Machine.{digits, stands}
-use Rattle.table.specs.Tables.{freshTable, at}
-use Rattle.transition.specs.States.{labelsOf}
-use Rattle.transition.specs.Steps.{stepOf}
-use Rattle.table.specs.declared.Table.{Table}
+use Rattle.transition.specs.Forms.{Form, freshTable, after}
 
 -- a direct call of station s; a label operation begins with the job 7
 unfoldable pub call : ℕ → ℕ → Call
@@ -25,16 +22,12 @@ unfoldable pub labelled : Lists.List ℕ → Lists.List Call
 labelled [] = []
 labelled (s ∷ l) = call s 1 ∷ call s 3 ∷ call s 4 ∷ call s 5 ∷ labelled l
 
-unfoldable pub after : Table → Lists.List Call → Table
-after t [] = t
-after t (c ∷ cs) = after (stepOf t c .table) cs
-
 -- the labels of a table's stations, and the stations, oldest first
-unfoldable pub shown : Table → Lists.List (Lists.List ℕ)
-shown t = tabulate (t .count) 0 (λ i. take (t .count - 1) (at t i .label))
+unfoldable pub shown : (F : Form) → F .Table → Lists.List (Lists.List ℕ)
+shown F t = let n = F .count t in tabulate n 0 (λ i. tabulate (n - 1) 0 (F .state t .labels false i))
 
-unfoldable pub order : Table → Lists.List ℕ
-order t = map suc (ordered (t .count) (stands (digits (t .count)) (labelsOf t)))
+unfoldable pub order : (F : Form) → F .Table → Lists.List ℕ
+order F t = let n = F .count t in map suc (ordered n (stands (digits n) (F .state t .labels)))
 
 -- a row: two digits, or two labels, of which the first is below the second; or n, the calls on the fresh table of n, and the labels and the order they lead to
 pub data Sample : Type 0 where
@@ -42,10 +35,10 @@ pub data Sample : Type 0 where
   labelsBelow : Lists.List ℕ → Lists.List ℕ → Sample
   reaches : ℕ → Lists.List Call → Lists.List (Lists.List ℕ) → Lists.List ℕ → Sample
 
-abbrev pub Holds : Sample → Type 0
-Holds (digitsBelow d e) = below d e ≡ true
-Holds (labelsBelow a b) = labelBelow (length a) (digit a) (digit b) ≡ true
-Holds (reaches n cs l o) = (shown (after (freshTable n) cs) ≡ l) × (order (after (freshTable n) cs) ≡ o)
+abbrev pub Holds : Form → Sample → Type 0
+Holds F (digitsBelow d e) = below d e ≡ true
+Holds F (labelsBelow a b) = labelBelow (length a) (digit a) (digit b) ≡ true
+Holds F (reaches n cs l o) = (shown F (after F (freshTable F n) cs) ≡ l) × (order F (after F (freshTable F n) cs) ≡ o)
 
 -- lists of one, two and three
 unfoldable pub one : {A : Type 0} → A → Lists.List A
@@ -77,5 +70,6 @@ samples =
     ∷ reaches 3 (stalled ++ two (call 2 4) (call 2 5) ++ labelled (one 2)) (three (two 2 5) (two 3 1) (two 2 4)) (three 3 1 2)
     ∷ []
 
-abbrev pub SamplesHold : Type 0
-SamplesHold = All Holds samples
+-- they hold of the tables of a form
+abbrev pub SamplesHold : Form → Type 0
+SamplesHold F = All (Holds F) samples

@@ -3,7 +3,7 @@ use mathlib.Core.Path.{_≡_, ap, _∙_}
 use native.Mathlib.Omega.{arith}
 use native.Mathlib.Numerals.{add-one}
 use borrow.Author.Tests.{ltb-true, ltb-false}
-use Rattle.label.proofs.Filled.{filled, filled-none, filled-more, filled-all}
+use Rattle.basics.proofs.Filled.{filled, filled-none, filled-more, filled-all}
 use borrow.Author.Needs.{needs}
 use Rattle.parts.proofs.fresh_row.Statement.{statement}
 use Rattle.parts.proofs.fresh_row.Tie as tie

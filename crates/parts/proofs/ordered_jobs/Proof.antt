@@ -2,7 +2,7 @@ use mathlib.Core.Path.{_≡_, refl, ap, _∙_}
 use Prim.Native.Nat.{ℕ, _-_, _≤_}
 use native.Mathlib.Omega.{arith}
 use lib.ListN.{getD}
-use Rattle.label.proofs.Filled.{filled, filled-none, filled-more}
+use Rattle.basics.proofs.Filled.{filled, filled-none, filled-more}
 use borrow.Author.Needs.{needs}
 use Rattle.parts.proofs.ordered_jobs.Statement.{statement}
 use Rattle.parts.proofs.ordered_jobs.Tie as tie

@@ -3,7 +3,7 @@ use Prim.Native.Nat.{ℕ, suc, _-_, _≤_}
 use native.Mathlib.Omega.{arith}
 use native.Mathlib.Numerals.{add-one}
 use lib.ListN.{getD}
-use Rattle.label.proofs.Filled.{filled, filled-none, filled-more}
+use Rattle.basics.proofs.Filled.{filled, filled-none, filled-more}
 use borrow.Author.Needs.{needs}
 use Rattle.parts.proofs.ordered_stations.Statement.{statement}
 use Rattle.parts.proofs.ordered_stations.Tie as tie

@@ -1,6 +1,6 @@
 use lib.Dec.{leb}
 use borrow.Author.Tests.{lt-leb}
-use Rattle.label.proofs.Facts.{left-no, right-no, within-of}
+use Rattle.basics.proofs.Facts.{left-no, right-no, within-of}
 use Rattle.ticketing.proofs.TurnLaws.{started, not-started}
 use borrow.Author.Needs.{needs}
 use Rattle.ticketing.proofs.tickets_fresh.Statement.{statement}

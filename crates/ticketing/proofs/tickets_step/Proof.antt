@@ -1,5 +1,5 @@
 use mathlib.Core.Path.{refl}
-use Rattle.rows.proofs.Checks.{was-false, was-true}
+use Rattle.basics.proofs.Loops.{was-false, was-true}
 use Rattle.ticketing.proofs.TurnLaws.{sound-parts, turned-down, turned}
 use borrow.Author.Needs.{needs}
 use Rattle.ticketing.proofs.tickets_step.Statement.{statement}

@@ -7,9 +7,9 @@ use lib.ListN.{length, getD, length-set, getD-replicate}
 use lib.Dec.{eqb}
 use borrow.Author.Needs.{needs}
 use borrow.Author.Tests.{eq-eqb, ne-eqb}
-use Rattle.label.specs.Tests.{count}
-use Rattle.label.proofs.Facts.{count-bound}
-use Rattle.rows.proofs.ChoiceLaws.{tally-hit, tally-miss}
+use Rattle.basics.specs.Tests.{count}
+use Rattle.basics.proofs.Facts.{count-bound}
+use Rattle.basics.proofs.Counts.{tally-hit, tally-miss}
 use Rattle.rows.proofs.choice.histogram.Statement.{statement}
 use Rattle.rows.proofs.choice.histogram.Tie as tie
 

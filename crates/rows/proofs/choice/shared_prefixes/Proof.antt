@@ -5,7 +5,7 @@ use borrow.Author.Needs.{needs}
 use Rattle.label.specs.Labels.{firstDifference}
 use Rattle.label.specs.Rows.{digit}
 use Rattle.rows.specs.Held.{held}
-use Rattle.label.proofs.Filled.{filled, filled-none, filled-more}
+use Rattle.basics.proofs.Filled.{filled, filled-none, filled-more}
 use Rattle.rows.proofs.choice.shared_prefixes.Statement.{statement}
 use Rattle.rows.proofs.choice.shared_prefixes.Tie as tie
 

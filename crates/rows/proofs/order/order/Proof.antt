@@ -1,7 +1,7 @@
 use Prim.Native.Nat.{_-_, _≤_}
 use mathlib.Core.Path.{_≡_, refl, sym, ap, _∙_}
 use native.Mathlib.Omega.{arith}
-use Rattle.label.specs.Tests.{ordered}
+use Rattle.basics.specs.Tests.{ordered}
 use Rattle.rows.specs.Held.{standsIn}
 use Rattle.rows.proofs.OrderLaws.{orderly-total, orderIn, order-long, order-others, order-sorted, order-turns, put-in}
 use borrow.Author.Needs.{needs}

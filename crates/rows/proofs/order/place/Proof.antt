@@ -7,7 +7,7 @@ use lib.Dec.{eqb}
 use borrow.Author.Count.{below-more}
 use borrow.Author.Needs.{needs}
 use borrow.Author.Tests.{eq-eqb, ne-eqb}
-use Rattle.label.proofs.Facts.{first-is}
+use Rattle.basics.proofs.Facts.{first-is}
 use Rattle.rows.proofs.order.place.Statement.{statement}
 use Rattle.rows.proofs.order.place.Tie as tie
 

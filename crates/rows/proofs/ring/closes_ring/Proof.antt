@@ -5,9 +5,9 @@ use native.Mathlib.Omega.{arith}
 use lib.ListN.{getD}
 use lib.Dec.{eqb}
 use borrow.Author.Tests.{eq-eqb, ne-eqb}
-use Rattle.label.proofs.Facts.{both, left-no, right-no}
+use Rattle.basics.proofs.Facts.{both, left-no, right-no}
 use Rattle.rows.specs.Held.{held, partsWith}
-use Rattle.rows.proofs.Checks.{and-yes}
+use Rattle.basics.proofs.Loops.{and-yes}
 use Rattle.rows.proofs.Rings.{read-else}
 use borrow.Author.Needs.{needs}
 use Rattle.rows.proofs.ring.closes_ring.Statement.{statement}

@@ -3,10 +3,10 @@ use native.Mathlib.Omega.{arith}
 use mathlib.Core.Path.{_≡_, sym, ap, _∙_}
 use mathlib.Core.Bool.{true, not}
 use borrow.Author.Needs.{needs}
-use Rattle.label.specs.Tests.{every}
-use Rattle.label.proofs.Facts.{every-no}
+use Rattle.basics.specs.Tests.{every}
+use Rattle.basics.proofs.Facts.{every-no}
 use Rattle.rows.specs.Held.{held, noRingAt}
-use Rattle.rows.proofs.Checks.{every-none, every-more, every-done}
+use Rattle.basics.proofs.Loops.{every-none, every-more, every-done}
 use Rattle.rows.proofs.ring.no_ring_at.Statement.{statement}
 use Rattle.rows.proofs.ring.no_ring_at.Tie as tie
 

@@ -8,11 +8,11 @@ use lib.ListN.{getD}
 use lib.Dec.{eqb}
 use borrow.Author.Needs.{needs}
 use borrow.Author.Tests.{eq-eqb, ne-eqb}
-use Rattle.label.specs.Tests.{every}
+use Rattle.basics.specs.Tests.{every}
 use Rattle.label.specs.Labels.{agrees}
 use Rattle.rows.specs.Held.{held}
-use Rattle.label.proofs.Facts.{both, left-no, right-no}
-use Rattle.rows.proofs.Checks.{every-none, every-more, every-done}
+use Rattle.basics.proofs.Facts.{both, left-no, right-no}
+use Rattle.basics.proofs.Loops.{every-none, every-more, every-done}
 use Rattle.rows.proofs.Rings.{some-here, read-else}
 use Rattle.rows.proofs.ring.parts_with.Statement.{statement}
 use Rattle.rows.proofs.ring.parts_with.Tie as tie

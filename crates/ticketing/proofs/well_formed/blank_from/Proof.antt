@@ -6,9 +6,9 @@ use mathlib.Core.Logic.{⊎-elim}
 use lib.ListN.{getD}
 use lib.Dec.{eqb}
 use borrow.Author.Tests.{eq-eqb, ne-eqb, not-true, not-false}
-use Rattle.label.specs.Tests.{every}
-use Rattle.label.proofs.Facts.{both, left-no, right-no}
-use Rattle.ticketing.proofs.Flags.{flag-up, flag-down, flag-stays, flag-end}
+use Rattle.basics.specs.Tests.{every}
+use Rattle.basics.proofs.Facts.{both, left-no, right-no}
+use Rattle.basics.proofs.Loops.{flag-up, flag-down, flag-stays, flag-end}
 use borrow.Author.Needs.{needs}
 use Rattle.ticketing.proofs.well_formed.blank_from.Statement.{statement}
 use Rattle.ticketing.proofs.well_formed.blank_from.Tie as tie

@@ -1,5 +1,5 @@
 use mathlib.Core.Path.{_∙_, sym}
-use Rattle.rows.proofs.Checks.{and-yes, and-no}
+use Rattle.basics.proofs.Loops.{and-yes, and-no}
 use Rattle.ticketing.proofs.Sound.{fresh-rows}
 use borrow.Author.Needs.{needs}
 use Rattle.ticketing.proofs.well_formed.holds_fresh_result.Statement.{statement}

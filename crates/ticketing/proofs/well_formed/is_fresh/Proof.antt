@@ -1,6 +1,6 @@
 use borrow.Author.Tests.{eq-eqb, ne-eqb}
-use Rattle.label.proofs.Facts.{both}
-use Rattle.rows.proofs.Checks.{and-yes, was-false, was-true}
+use Rattle.basics.proofs.Facts.{both}
+use Rattle.basics.proofs.Loops.{and-yes, was-false, was-true}
 use Rattle.table.specs.WellFormed.{isFresh}
 use Rattle.ticketing.proofs.Sound.{idle-zero, stale-label, stale-job, stale-pending, stale-pending-job, stale-result}
 use borrow.Author.Needs.{needs}

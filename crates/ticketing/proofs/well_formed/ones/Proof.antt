@@ -6,8 +6,8 @@ use Rattle.label.specs.Rows.{digit}
 use Rattle.label.proofs.Searches.{digit-read}
 use lib.Dec.{eqb}
 use borrow.Author.Tests.{eq-eqb, ne-eqb}
-use Rattle.label.specs.Tests.{every}
-use Rattle.ticketing.proofs.Flags.{flag-up, flag-down, flag-stays, flag-end, all-ones}
+use Rattle.basics.specs.Tests.{every}
+use Rattle.basics.proofs.Loops.{flag-up, flag-down, flag-stays, flag-end, all-ones}
 use borrow.Author.Needs.{needs}
 use Rattle.ticketing.proofs.well_formed.ones.Statement.{statement}
 use Rattle.ticketing.proofs.well_formed.ones.Tie as tie

@@ -2,9 +2,9 @@ use Prim.Native.Nat.{_+_, _-_, _≤_}
 use native.Mathlib.Omega.{arith}
 use mathlib.Core.Path.{_≡_, sym}
 use mathlib.Core.Bool.{true}
-use Rattle.label.specs.Tests.{every}
-use Rattle.label.proofs.Facts.{every-no}
-use Rattle.rows.proofs.Checks.{every-none, every-more, every-done, was-false, was-true}
+use Rattle.basics.specs.Tests.{every}
+use Rattle.basics.proofs.Facts.{every-no}
+use Rattle.basics.proofs.Loops.{every-none, every-more, every-done, was-false, was-true}
 use Rattle.table.specs.WellFormed.{isFresh}
 use Rattle.parts.specs.Parts.{parts, stationAt}
 use borrow.Author.Needs.{needs}

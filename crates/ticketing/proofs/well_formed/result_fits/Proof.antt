@@ -2,9 +2,9 @@ use Prim.Native.Nat.{_+_, _-_}
 use mathlib.Core.Bool.{_&&_}
 use lib.ListN.{getD}
 use lib.Dec.{eqb}
-use Rattle.label.specs.Tests.{every}
+use Rattle.basics.specs.Tests.{every}
 use mathlib.Core.Path.{sym, _∙_}
-use Rattle.rows.proofs.Checks.{and-yes, and-no}
+use Rattle.basics.proofs.Loops.{and-yes, and-no}
 use Rattle.ticketing.proofs.Sound.{result-rows}
 use borrow.Author.Needs.{needs}
 use Rattle.ticketing.proofs.well_formed.result_fits.Statement.{statement}

@@ -1,8 +1,8 @@
 use Prim.Native.Nat.{_-_}
 use mathlib.Core.Path.{sym, _∙_}
 use Rattle.label.specs.Rows.{rowFits}
-use Rattle.label.proofs.Facts.{both, left-no, right-no}
-use Rattle.rows.proofs.Checks.{and-yes, was-false, was-true}
+use Rattle.basics.proofs.Facts.{both, left-no, right-no}
+use Rattle.basics.proofs.Loops.{and-yes, was-false, was-true}
 use Rattle.table.specs.Results.{resultFits}
 use Rattle.parts.specs.Parts.{entries}
 use borrow.Author.Needs.{needs}

@@ -4,9 +4,9 @@ use mathlib.Core.Path.{_≡_, sym}
 use mathlib.Core.Bool.{true}
 use mathlib.Core.List.{[]}
 use lib.ListN.{getD}
-use Rattle.label.specs.Tests.{every}
-use Rattle.label.proofs.Facts.{every-no}
-use Rattle.rows.proofs.Checks.{every-none, every-more, every-done, was-false, was-true}
+use Rattle.basics.specs.Tests.{every}
+use Rattle.basics.proofs.Facts.{every-no}
+use Rattle.basics.proofs.Loops.{every-none, every-more, every-done, was-false, was-true}
 use Rattle.ticketing.specs.Apart.{rowsFit}
 use borrow.Author.Needs.{needs}
 use Rattle.ticketing.proofs.well_formed.stations_fit.Statement.{statement}

@@ -4,9 +4,9 @@ use mathlib.Core.Path.{_≡_, refl, ap, _∙_}
 use mathlib.Core.Bool.{true}
 use lib.ListN.{length, getD, length-set, getD-replicate}
 use lib.Dec.{eqb}
-use Rattle.label.specs.Tests.{count}
-use Rattle.label.proofs.Facts.{count-bound}
-use Rattle.rows.proofs.ChoiceLaws.{tally-hit}
+use Rattle.basics.specs.Tests.{count}
+use Rattle.basics.proofs.Facts.{count-bound}
+use Rattle.basics.proofs.Counts.{tally-hit}
 use borrow.Author.Needs.{needs}
 use Rattle.ticketing.proofs.well_formed.tally.Statement.{statement}
 use Rattle.ticketing.proofs.well_formed.tally.Tie as tie

@@ -1,7 +1,7 @@
 use lib.Dec.{leb}
 use borrow.Author.Tests.{lt-leb}
-use Rattle.label.proofs.Facts.{left-no, right-no}
-use Rattle.rows.proofs.Checks.{was-false, was-true}
+use Rattle.basics.proofs.Facts.{left-no, right-no}
+use Rattle.basics.proofs.Loops.{was-false, was-true}
 use Rattle.ticketing.proofs.Sound.{unknown-phase, wrong-count, unfit-station, stale-rest, by-rings}
 use borrow.Author.Needs.{needs}
 use Rattle.ticketing.proofs.well_formed.well_formed.Statement.{statement}

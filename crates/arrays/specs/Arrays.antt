@@ -1,0 +1,95 @@
+-- A table in four arrays of numbers, one for each kind of field, so that it can be lent and changed in place (01, "The record of a station").
+use Prim.Native.Nat.{ℕ}
+use mathlib.Core.Bool.{Bool, true, false, cond}
+use mathlib.Core.List as Lists
+use mathlib.Core.List.{[], _∷_}
+use lib.ListN.{getD}
+use lib.Dec.{eqb}
+use Rattle.basics.specs.Tests.{tabulate}
+use Rattle.label.specs.Labels as Labels
+use Rattle.label.specs.Rows.{digit, row}
+use Rattle.simulation.specs.Calls.{Label, Scan, Phase, Idle, Snap, Update, End, Entry, entry, Rest}
+use Rattle.simulation.specs.Machine.{State, freshRest}
+
+-- numbers in rows, and rows in planes
+abbrev pub Rows : Type 0
+Rows = Lists.List (Lists.List ℕ)
+
+abbrev pub Planes : Type 0
+Planes = Lists.List Rows
+
+-- planes of labels (current, pending), of jobs (current, pending) and of control bytes (the phase), each with a place for each station; and for each
+-- station the two rows of its scan result, stations and jobs
+pub record Arrays : Type 0 where
+  pub count : ℕ
+  pub labels : Planes
+  pub jobs : Rows
+  pub control : Rows
+  pub results : Planes
+
+-- the arrays of n stations, as a contract names them
+abbrev pub arrays : ℕ → Planes → Rows → Rows → Planes → Arrays
+arrays n l j c r = record { count = n; labels = l; jobs = j; control = c; results = r }
+
+-- what plane f has at place i
+abbrev pub cell : {A : Type 0} → Lists.List (Lists.List A) → ℕ → ℕ → A → A
+cell xs f i d = getD (getD xs f []) i d
+
+-- the plane of what is current (false) or pending (true), and both planes of what f gives for each station
+abbrev pub plane : Bool → ℕ
+plane x = cond x 1 0
+
+abbrev pub planes : {A : Type 0} → (Bool → ℕ → A) → Lists.List (Lists.List A)
+planes f = tabulate 32 0 (f false) ∷ tabulate 32 0 (f true) ∷ []
+
+-- the number of a phase, and the phase of a number; from 6 on a number is that of none, and is read as 5 is
+abbrev pub phaseNumber : Phase → ℕ
+phaseNumber Idle = 0
+phaseNumber (Snap Label) = 1
+phaseNumber (Snap Scan) = 2
+phaseNumber Update = 3
+phaseNumber (End Label) = 4
+phaseNumber (End Scan) = 5
+
+abbrev pub phaseFor : ℕ → Phase
+phaseFor b =
+    cond (eqb b 0) Idle
+    (cond (eqb b 1) (Snap Label)
+    (cond (eqb b 2) (Snap Scan)
+    (cond (eqb b 3) Update
+    (cond (eqb b 4) (End Label) (End Scan)))))
+
+-- the rows of a scan result, with 0s past its last entry; and the result of n entries that rows hold
+abbrev pub resultRows : Lists.List Entry → Rows
+resultRows l = tabulate 32 0 (λ p. getD l p (entry 0 0) .station) ∷ tabulate 32 0 (λ p. getD l p (entry 0 0) .job) ∷ []
+
+abbrev pub resultOf : ℕ → Rows → Lists.List Entry
+resultOf n rows = tabulate n 0 (λ p. entry (cell rows 0 p 0) (cell rows 1 p 0))
+
+-- the rows at place i; past the array those of a fresh station
+abbrev pub rowsAt : Arrays → ℕ → Rows
+rowsAt a i = getD (a .results) i (resultRows (freshRest (a .count) .result i))
+
+-- READING: the state that arrays hold
+abbrev pub labelRow : Arrays → Bool → ℕ → Lists.List ℕ
+labelRow a x i = cell (a .labels) (plane x) i []
+
+abbrev pub restOf : Arrays → Rest
+restOf a = record {
+  process = λ i. record { job = cell (a .jobs) 0 i 0; pendingJob = cell (a .jobs) 1 i 0; phase = phaseFor (cell (a .control) 0 i 0) };
+  result = λ i. resultOf (a .count) (rowsAt a i);
+}
+
+abbrev pub stateOf : Arrays → State Labels.Label
+stateOf a = record { labels = λ x i. digit (labelRow a x i); rest = restOf a }
+
+-- WRITING DOWN: the arrays of n stations that hold a state
+abbrev pub jobsOf : State Labels.Label → Bool → ℕ → ℕ
+jobsOf s x i = let p = s .rest .process i in cond x (p .pendingJob) (p .job)
+
+unfoldable pub arraysOf : ℕ → State Labels.Label → Arrays
+arraysOf n s = arrays n
+    (planes (λ x i. row 31 (s .labels x i)))
+    (planes (jobsOf s))
+    (tabulate 32 0 (λ i. phaseNumber (s .rest .process i .phase)) ∷ [])
+    (tabulate 32 0 (λ i. resultRows (s .rest .result i)))

@@ -1,0 +1,4 @@
+pub mod Facts
+pub mod Filled
+pub mod Loops
+pub mod Counts
