@@ -13,22 +13,21 @@ use Rattle.basics.proofs.Facts.{within-true}
 use Rattle.simulation.specs.Calls as Calls
 use Rattle.simulation.specs.Calls.{Call, judgeIn}
 use Rattle.simulation.proofs.Judged.{begin-fits, verdict}
-use Rattle.transition.specs.Records.{numberOf, hands}
-use Rattle.moves.specs.Moves.{moveOf, kindOf, placeOf}
+use Rattle.moves.specs.Moves.{moveOf, kindOf, numberOf, placeOf}
 use Rattle.moves.specs.declared.Move.{Move}
 use Rattle.moves.specs.declared.Move.the-variants.{Refused, BeginLabel, BeginScan, SnapLabel, SnapScan, Update, EndLabel, EndScan}
 use Rattle.moves.proofs.Move.{the-type}
 
--- what a move tells of itself, whichever process takes it
-pub same-kind : (k job : ℕ) (m : Move) → (numberOf (kindOf m) ≡ numberOf (moveOf k job m)) × (hands (kindOf m) ≡ hands (moveOf k job m))
-same-kind k job (Refused r) = (refl, refl)
-same-kind k job BeginLabel = (refl, refl)
-same-kind k job BeginScan = (refl, refl)
-same-kind k job SnapLabel = (refl, refl)
-same-kind k job SnapScan = (refl, refl)
-same-kind k job Update = (refl, refl)
-same-kind k job EndLabel = (refl, refl)
-same-kind k job EndScan = (refl, refl)
+-- the number of a move, whichever process takes it
+pub same-kind : (k job : ℕ) (m : Move) → numberOf (kindOf m) ≡ numberOf (moveOf k job m)
+same-kind k job (Refused r) = refl
+same-kind k job BeginLabel = refl
+same-kind k job BeginScan = refl
+same-kind k job SnapLabel = refl
+same-kind k job SnapScan = refl
+same-kind k job Update = refl
+same-kind k job EndLabel = refl
+same-kind k job EndScan = refl
 
 -- the tags of the moves that are no snap
 abbrev pub noSnap : Lists.List ℕ

@@ -1,13 +1,30 @@
--- What a step call amounts to: the numbers of the declared refusals, the declared moves, a call from its parts and the place of its station.
+-- What a step call amounts to: the declared phases, refusals and moves as the machine has them, a call from its parts and the place of its station.
 use Prim.Native.Nat.{ℕ, _-_}
 use mathlib.Core.Bool.{cond}
 use Rattle.basics.specs.Tests.{within}
 use Rattle.simulation.specs.Calls as Calls
 use Rattle.simulation.specs.Calls.{Call}
+use Rattle.moves.specs.declared.Operation.{Operation}
+use Rattle.moves.specs.declared.Operation.the-variants.{Label, Scan}
+use Rattle.moves.specs.declared.Phase.{Phase}
+use Rattle.moves.specs.declared.Phase.the-variants.{Idle, Snap, Update, End}
 use Rattle.moves.specs.declared.Refusal.{Refusal}
-use Rattle.moves.specs.declared.Refusal.the-variants.{Accepted, StationCount, UnknownStation, Busy, NoSnapDue, NoUpdateDue, NothingToEnd, BufferTooShort, IncompleteLine, MalformedColumn, UnknownStep, JobOutOfRange, TooManyLines, IllFormedTable}
+use Rattle.moves.specs.declared.Refusal.the-variants.{Accepted, StationCount, UnknownStation, Busy, NoSnapDue, NoUpdateDue, NothingToEnd}
+use Rattle.moves.specs.declared.Refusal.the-variants.{BufferTooShort, IncompleteLine, MalformedColumn, UnknownStep, JobOutOfRange, TooManyLines, IllFormedTable}
 use Rattle.moves.specs.declared.Move.{Move}
-use Rattle.moves.specs.declared.Move.the-variants.{Refused, BeginLabel, BeginScan, SnapLabel, SnapScan, Update, EndLabel, EndScan}
+use Rattle.moves.specs.declared.Move.the-variants as Moves
+use Rattle.moves.specs.declared.Move.the-variants.{Refused, BeginLabel, BeginScan, SnapLabel, SnapScan, EndLabel, EndScan}
+
+-- the declared operations and phases as the machine's
+abbrev pub operationOf : Operation → Calls.Operation
+operationOf Label = Calls.Label
+operationOf Scan = Calls.Scan
+
+abbrev pub phaseOf : Phase → Calls.Phase
+phaseOf Idle = Calls.Idle
+phaseOf (Snap o) = Calls.Snap (operationOf o)
+phaseOf Update = Calls.Update
+phaseOf (End o) = Calls.End (operationOf o)
 
 -- 01, "When a step is turned down": the number of each refusal
 abbrev pub refusalNumber : Refusal → ℕ
@@ -33,13 +50,21 @@ moveOf k job BeginLabel = Calls.Move.begins k job Calls.Label
 moveOf k job BeginScan = Calls.Move.begins k job Calls.Scan
 moveOf k job SnapLabel = Calls.Move.snaps k Calls.Label
 moveOf k job SnapScan = Calls.Move.snaps k Calls.Scan
-moveOf k job Update = Calls.Move.updates k
+moveOf k job Moves.Update = Calls.Move.updates k
 moveOf k job EndLabel = Calls.Move.ends k Calls.Label
 moveOf k job EndScan = Calls.Move.ends k Calls.Scan
 
 -- the same for what depends neither on the process nor on the job
 abbrev pub kindOf : Move → Calls.Move
 kindOf m = moveOf 0 0 m
+
+-- the refusal number of a move
+abbrev pub numberOf : Calls.Move → ℕ
+numberOf (Calls.Move.refused x) = x
+numberOf (Calls.Move.begins k job o) = 0
+numberOf (Calls.Move.updates k) = 0
+numberOf (Calls.Move.snaps k o) = 0
+numberOf (Calls.Move.ends k o) = 0
 
 -- a call from its parts
 abbrev pub called : ℕ → ℕ → ℕ → ℕ → ℕ → Call

@@ -1,16 +1,22 @@
-// What a step call amounts to, its refusal, and what it makes of the calling station's record.
+// What a step call amounts to, and its refusal.
 ghost use mathlib.Core.Path.{_≡_};
-ghost use mathlib.Core.Logic.{_≢_};
-ghost use mathlib.Core.List as Lists;
 ghost use Prim.Native.Nat.{ℕ, _-_, _≤_};
 ghost use Rattle.simulation.specs.Calls.{snaps, ends, unless, jobFits, roomFor, byPhase, judgeIn};
-ghost use Rattle.transition.specs.States.{operationOf, phaseOf};
-ghost use Rattle.transition.specs.Records.{inPhase, begun, snapped, scanned, updated, recordMade, numberOf, reportSize};
-ghost use Rattle.moves.specs.Moves.{refusalNumber, moveOf, kindOf, called, placeOf};
-use table::Entry;
-use table::Operation;
-use table::Phase;
-use table::Station;
+ghost use Rattle.moves.specs.Moves.{operationOf, phaseOf, refusalNumber, moveOf, kindOf, numberOf, called, placeOf};
+
+// What a process is doing: it takes a label, or it scans (document 01: mark, list).
+pub enum Operation {
+    Label,
+    Scan,
+}
+
+// What a process is due to do next (document 01: idle; due to look, write, end). The paper's pc with its op.
+pub enum Phase {
+    Idle,
+    Snap(Operation),
+    Update,
+    End(Operation),
+}
 
 // Why a call is turned down, in the order of document 01's numbers; `Accepted` is 0. Its trade words stand beside the names.
 pub enum Refusal {
@@ -209,124 +215,6 @@ pub fn refusal_of(m: Move) -> Refusal
         Move::Update => Refusal::Accepted,
         Move::EndLabel => Refusal::Accepted,
         Move::EndScan => Refusal::Accepted,
-    }
-}
-
-// The bytes of report that a move writes, of n stations.
-pub fn report_size(m: Move, n: usize) -> usize
-    requires { ⌜ n ≤ 32 ⌝ }
-    ensures { λ r. ⌜ r ≡ reportSize n (kindOf m) ⌝ }
-{
-    match m {
-        Move::Refused(_) => 0,
-        Move::BeginLabel => 0,
-        Move::BeginScan => 0,
-        Move::SnapLabel => 0,
-        Move::SnapScan => 0,
-        Move::Update => 0,
-        Move::EndLabel => 0,
-        Move::EndScan => n * 29,
-    }
-}
-
-// The record in another phase.
-fn in_phase(s: Station, p: Phase) -> Station
-    ensures { λ r. ⌜ r ≡ inPhase s p ⌝ }
-{
-    let a = s.label;
-    let b = s.pending_label;
-    let e = s.scan_result;
-    Station {
-        label: a,
-        job: s.job,
-        pending_label: b,
-        pending_job: s.pending_job,
-        scan_result: e,
-        phase: p,
-    }
-}
-
-// The record after a label operation's begin.
-fn begun(s: Station, job: u32) -> Station
-    ensures { λ r. ⌜ r ≡ begun s job ⌝ }
-{
-    let a = s.label;
-    let b = s.pending_label;
-    let e = s.scan_result;
-    Station {
-        label: a,
-        job: s.job,
-        pending_label: b,
-        pending_job: job,
-        scan_result: e,
-        phase: Phase::Snap(Operation::Label),
-    }
-}
-
-// The record after a snap for a label.
-pub fn snapped(s: Station, new: [u8; 31]) -> Station
-    ensures { λ r. ⌜ r ≡ snapped s new ⌝ }
-{
-    let a = s.label;
-    let e = s.scan_result;
-    Station {
-        label: a,
-        job: s.job,
-        pending_label: new,
-        pending_job: s.pending_job,
-        scan_result: e,
-        phase: Phase::Update,
-    }
-}
-
-// The record after a snap for a scan.
-pub fn scanned(s: Station, result: [Entry; 32]) -> Station
-    ensures { λ r. ⌜ r ≡ scanned s result ⌝ }
-{
-    let a = s.label;
-    let b = s.pending_label;
-    Station {
-        label: a,
-        job: s.job,
-        pending_label: b,
-        pending_job: s.pending_job,
-        scan_result: result,
-        phase: Phase::End(Operation::Scan),
-    }
-}
-
-// The record after an update.
-fn updated(s: Station) -> Station
-    ensures { λ r. ⌜ r ≡ updated s ⌝ }
-{
-    let new = s.pending_label;
-    let job = s.pending_job;
-    let e = s.scan_result;
-    Station {
-        label: new,
-        job,
-        pending_label: new,
-        pending_job: job,
-        scan_result: e,
-        phase: Phase::End(Operation::Label),
-    }
-}
-
-// What a move makes of a record, unless it is a snap, which wants the table.
-pub fn moved(s: Station, m: Move, job: u64) -> Station
-    requires { ⌜ (m ≢ Move.SnapLabel) × (m ≢ Move.SnapScan) ⌝ }
-    requires { ⌜ (m ≡ Move.BeginLabel → job ≤ 4294967295) ⌝ }
-    ensures { λ r. ⌜ ((k : ℕ) (new : Lists.List ℕ) (l : Lists.List Entry) → r ≡ recordMade s new l (moveOf k job m)) ⌝ }
-{
-    match m {
-        Move::Refused(_) => s,
-        Move::BeginLabel => begun(s, job as u32),
-        Move::BeginScan => in_phase(s, Phase::Snap(Operation::Scan)),
-        Move::SnapLabel => s,
-        Move::SnapScan => s,
-        Move::Update => updated(s),
-        Move::EndLabel => in_phase(s, Phase::Idle),
-        Move::EndScan => in_phase(s, Phase::Idle),
     }
 }
 

@@ -1,7 +1,7 @@
 use mathlib.Core.Path.{sym, ap}
 use Rattle.simulation.specs.Calls.{snaps}
-use Rattle.table.specs.declared.Operation.{Operation}
-use Rattle.transition.specs.States.{operationOf}
+use Rattle.moves.specs.declared.Operation.{Operation}
+use Rattle.moves.specs.Moves.{operationOf}
 use borrow.Author.Needs.{needs}
 use Rattle.moves.proofs.snap_for.Statement.{statement}
 use Rattle.moves.proofs.snap_for.Tie as tie
