@@ -1,0 +1,155 @@
+-- Demand 3 for step calls on tables of every lawful form: calls on the table of a reached state are the bounded machine's, written down, and the unbounded
+-- machine answers as that one does.
+use Prim.Native.Nat.{ℕ, zero, suc, _+_, _*_, _≤_, _<_}
+use native.Mathlib.Omega.{arith}
+use mathlib.Core.Path.{_≡_, refl, sym, ap, ap₂, subst, _∙_}
+use mathlib.Core.Logic.{_≢_}
+use mathlib.Core.Bool.{true}
+use mathlib.Core.List as Lists
+use mathlib.Core.List.{[], _∷_, map}
+use lib.ListN.{take}
+use Rattle.basics.specs.Tests.{ordered, All}
+use Rattle.label.specs.Labels as Labels
+use Rattle.simulation.specs.Calls.{Call}
+use Rattle.simulation.specs.Machine as Machine
+use Rattle.simulation.specs.Machine.{original, digits, numbers, stands, State, fresh, step, snapsOf, Bounded}
+use Rattle.simulation.proofs.Judged.{Refusal, refusals}
+use Rattle.simulation.proofs.Follow.{run-cons, snaps-cons, Simulates}
+use Rattle.simulation.proofs.Simulation.{simulation}
+use Rattle.transition.specs.Forms.{Form, Answer, freshTable, answered, stepOf, after}
+use Rattle.transition.specs.Demand.{run, snaps, seen, unbounded, Demand3}
+use Rattle.transition.proofs.Written.{Writable}
+use Rattle.transition.proofs.Reached.{Reached, reached-fresh, reached-step}
+
+-- what a form owes: a table holds the state that was written down, and is well-formed if that state is reached
+pub record Lawful (F : Form) : Type 0 where
+  pub counted : (n : ℕ) (s : State Labels.Label) → F .count (F .written n s) ≡ n
+  pub held : (n : ℕ) → n ≤ 32 → (s : State Labels.Label) → Writable n s → F .state (F .written n s) ≡ s
+  pub passes : (n : ℕ) → 2 ≤ n → n ≤ 32 → (s : State Labels.Label) → Reached n s → F .wellFormed (F .written n s) ≡ true
+
+-- what holds of all answers to some calls holds of those to the first k of them
+all-taken : (P : Machine.Answer ℕ → Type 0) (n k : ℕ) (cs : Lists.List Call) (s : State ℕ) (al : Lists.List ℕ)
+    → All P (Machine.run original n numbers s al cs) → All P (Machine.run original n numbers s al (take k cs))
+unfolding Machine.run
+all-taken P n zero cs s al a = tt
+all-taken P n (suc k) [] s al a = tt
+all-taken P n (suc k) (c ∷ cs) s al a = (a .0, all-taken P n k cs _ _ (a .1))
+
+-- on a well-formed table a step call is the machine's step, written down
+pub step-written : (F : Form) (t : F .Table) (c : Call) → F .wellFormed t ≡ true → let n = F .count t in
+    stepOf F t c ≡ answered F n (step original n (digits n) (F .state t) c)
+unfolding stepOf
+step-written F t c e = rw (e, stepOf) refl
+
+-- so its number is one that `judge` gives
+pub step-refusals : (F : Form) (t : F .Table) (c : Call) → F .wellFormed t ≡ true → Refusal (F .count t) c (stepOf F t c .refusal)
+unfolding step
+step-refusals F t c e = subst (λ (a : Answer (F .Table)). Refusal (F .count t) c (a .refusal)) (sym (step-written F t c e))
+    (refusals (F .count t) c (ordered (F .count t) (stands (digits (F .count t)) (F .state t .labels))) (F .state t .rest))
+
+-- a sequence of calls on the table of the state s is one on the bounded machine, and none of them is refused by 13
+pub record Runs (F : Form) (n : ℕ) (s : State Labels.Label) (cs : Lists.List Call) : Type 0 where
+  pub same : map (seen F) (run F (F .written n s) cs) ≡ map (Machine.seen n) (Machine.run original n (λ _. digits n) s [] cs)
+  pub count : snaps F (F .written n s) cs ≡ Machine.snaps original n (λ _. digits n) s [] cs
+  pub never13 : All (λ a. a .refusal ≢ 13) (run F (F .written n s) cs)
+
+module _ (F : Form) (L : Lawful F) (n : ℕ) (low : 2 ≤ n) (high : n ≤ 32) where
+  abbrev answer : State Labels.Label → Call → Machine.Answer Labels.Label
+  answer s c = step original n (digits n) s c
+
+  module _ {s : State Labels.Label} (r : Reached n s) where
+    pub reached-held : F .state (F .written n s) ≡ s
+    reached-held = L .held n high s (r .writable)
+
+    pub reached-passes : F .wellFormed (F .written n s) ≡ true
+    reached-passes = L .passes n low high s r
+
+    module _ (c : Call) where
+      -- a step call on the table of a reached state is the machine's
+      pub reached-written : stepOf F (F .written n s) c ≡ answered F n (answer s c)
+      reached-written = step-written F (F .written n s) c reached-passes
+          ∙ ap₂ (λ k u. answered F k (step original k (digits k) u c)) (L .counted n s) reached-held
+
+      pub reached-next : Reached n (answer s c .state)
+      reached-next = reached-step n (omega arith) high s r c
+
+      seen-written : seen F (answered F n (answer s c)) ≡ Machine.seen n (answer s c)
+      seen-written = ap₂ (λ k u. Machine.seen k (record { state = u; refusal = answer s c .refusal; bytes = answer s c .bytes }))
+          (L .counted n (answer s c .state)) (L .held n high (answer s c .state) (reached-next .writable))
+
+      not-13 : answer s c .refusal ≢ 13
+      unfolding step
+      not-13 e = omega (arith, refusals n c (ordered n (stands (digits n) (s .labels))) (s .rest) .most)
+
+      run-written : (cs : Lists.List Call) → run F (F .written n s) (c ∷ cs) ≡ answered F n (answer s c) ∷ run F (F .written n (answer s c .state)) cs
+      unfolding run
+      run-written cs = rw reached-written refl
+
+      snaps-written : (cs : Lists.List Call) → snaps F (F .written n s) (c ∷ cs) ≡ snapsOf original n s c + snaps F (F .written n (answer s c .state)) cs
+      unfolding snaps snapsOf
+      snaps-written cs = rw (reached-passes, reached-written)
+          (ap₂ (λ k (u : State Labels.Label). snapsOf original k u c + snaps F (F .written n (answer s c .state)) cs) (L .counted n s) reached-held)
+
+      one-more : (cs : Lists.List Call) → Runs F n (answer s c .state) cs → Runs F n s (c ∷ cs)
+      one-more cs R = record {
+        same = ap (map (seen F)) (run-written cs) ∙ ap₂ _∷_ seen-written (R .same) ∙ ap (map (Machine.seen n)) (sym (run-cons original n (digits n) s c cs));
+        count = snaps-written cs ∙ ap (λ k. snapsOf original n s c + k) (R .count) ∙ sym (snaps-cons original n (digits n) s c cs);
+        never13 = subst (All (λ a. a .refusal ≢ 13)) (sym (run-written cs)) (not-13, R .never13);
+      }
+
+  runs : (cs : Lists.List Call) (s : State Labels.Label) → Reached n s → Runs F n s cs
+  unfolding Machine.run Machine.snaps run snaps
+  runs [] s r = record { same = refl; count = refl; never13 = tt }
+  runs (c ∷ cs) s r = one-more r c cs (runs cs (answer s c .state) (reached-next r c))
+
+  -- DEMAND 3, for every number of stations from 2 to 32 and every sequence of step calls on the fresh table
+  pub demand : (calls : Lists.List Call) → Demand3 F n calls
+  demand calls = record {
+    advances = S .advances;
+    whole = S .whole;
+    each = S .each ∙ sym (R .count);
+    eachᵘ = S .eachᵘ;
+    same = R .same ∙ S .same;
+    bound = λ k. all-taken (Bounded n (snaps F (freshTable F n) calls)) n k calls (fresh 0 n) (S .advances)
+        (subst (λ b. All (Bounded n b) (unbounded n (S .advances) calls)) (sym (R .count)) (S .bound));
+    never13 = R .never13;
+  }
+    where
+      S : Simulates original n (digits n) (λ p. 1) calls
+      S = simulation n (omega arith) calls
+
+      R : Runs F n (fresh (λ p. 1) n) calls
+      R = runs calls (fresh (λ p. 1) n) (reached-fresh n (omega arith))
+
+-- TABLES REACHED from the fresh one of n stations: those of reached states. Every step call leads from one to another.
+pub record ReachedTable (F : Form) (n : ℕ) (t : F .Table) : Type 0 where
+  pub state : State Labels.Label
+  pub reached : Reached n state
+  pub holds : t ≡ F .written n state
+
+module _ (F : Form) (L : Lawful F) (n : ℕ) (low : 2 ≤ n) (high : n ≤ 32) where
+  pub table-fresh : ReachedTable F n (freshTable F n)
+  table-fresh = record { state = fresh (λ p. 1) n; reached = reached-fresh n (omega arith); holds = refl }
+
+  module _ (t : F .Table) (r : ReachedTable F n t) where
+    pub table-count : F .count t ≡ n
+    table-count = ap (F .count) (r .holds) ∙ L .counted n (r .state)
+
+    pub table-passes : F .wellFormed t ≡ true
+    table-passes = ap (F .wellFormed) (r .holds) ∙ reached-passes F L n low high (r .reached)
+
+    -- a call is refused by 7 only where there is no room for the lines of all stations
+    pub table-short : (c : Call) → stepOf F t c .refusal ≡ 7 → c .room < n * 29
+    table-short c e = subst (λ k. c .room < k * 29) table-count (step-refusals F t c table-passes .short e)
+
+    pub table-step : (c : Call) → ReachedTable F n (stepOf F t c .table)
+    table-step c = record {
+      state = step original n (digits n) (r .state) c .state;
+      reached = reached-next F L n low high (r .reached) c;
+      holds = ap (λ u. stepOf F u c .table) (r .holds) ∙ ap (λ (a : Answer (F .Table)). a .table) (reached-written F L n low high (r .reached) c);
+    }
+
+  pub table-after : (calls : Lists.List Call) (t : F .Table) → ReachedTable F n t → ReachedTable F n (after F t calls)
+  unfolding after
+  table-after [] t r = r
+  table-after (c ∷ calls) t r = table-after calls (stepOf F t c .table) (table-step t r c)
