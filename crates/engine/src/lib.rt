@@ -1,0 +1,240 @@
+// The one engine: step calls on a table in four arrays, which are lent and changed in place.
+ghost use mathlib.Core.Path.{_≡_};
+ghost use mathlib.Core.Bool.{true};
+ghost use mathlib.Core.List.{[]};
+ghost use Prim.Native.Nat.{ℕ, _*_, _≤_, _<_};
+ghost use lib.ListN.{length, getD};
+ghost use Rattle.basics.specs.Tests.{newest};
+ghost use Rattle.rows.specs.Held.{standsIn, Orderly};
+ghost use Rattle.simulation.specs.Calls.{reportLines};
+ghost use Rattle.simulation.specs.Machine.{labelStep};
+ghost use Rattle.transition.specs.Forms.{over};
+ghost use Rattle.transition.specs.Sequences.{Steps};
+ghost use Rattle.moves.specs.Moves.{refusalNumber, phaseOf, moveOf};
+ghost use Rattle.moves.specs.declared.Move.the-variants.{BeginLabel, SnapLabel, SnapScan, EndScan};
+ghost use Rattle.arrays.specs.Arrays.{arrays, phaseFor, phaseNumber, resultOf};
+ghost use Rattle.arrays.specs.WellFormed.{wellFormed};
+ghost use Rattle.arrays.specs.Form.{lent};
+ghost use Rattle.engine.specs.Stores.{orderOf, scanRows, labelsAfter, jobsAfter, resultsAfter, phaseAfter};
+ghost use Rattle.engine.specs.Contracts.{callOf, Replies, Ready, Carries};
+use arrays::Control;
+use arrays::Jobs;
+use arrays::Labels;
+use arrays::Results;
+use moves::Move;
+use moves::Operation;
+use moves::Phase;
+use moves::Refusal;
+
+// The planes.
+const CURRENT: usize = 0;
+
+const PENDING: usize = 1;
+
+const PHASE: usize = 0;
+
+// The numbers of the phases.
+const IDLE: u8 = 0;
+
+const SNAP_LABEL: u8 = 1;
+
+const SNAP_SCAN: u8 = 2;
+
+const UPDATE: u8 = 3;
+
+const END_LABEL: u8 = 4;
+
+const END_SCAN: u8 = 5;
+
+// What a caller is told: the refusal, and how many bytes of report were written.
+pub struct Reply {
+    pub refusal: Refusal,
+    pub written: usize,
+}
+
+// A step call as its caller makes it; report lines bear the number `line`.
+pub struct Request {
+    pub code: u64,
+    pub station: u64,
+    pub job: u64,
+    pub line: u64,
+}
+
+// A call that has been judged: its move, the place of its station, its job, the number that its report lines bear, and the newest station.
+pub struct Task {
+    pub action: Move,
+    pub place: usize,
+    pub job: u64,
+    pub line: u64,
+    pub newest: usize,
+}
+
+// The phase that a number stands for.
+pub fn phase_of(b: u8) -> Phase
+    ensures { λ r. ⌜ phaseOf r ≡ phaseFor b ⌝ }
+{
+    if b == IDLE {
+        return Phase::Idle;
+    }
+    if b == SNAP_LABEL {
+        return Phase::Snap(Operation::Label);
+    }
+    if b == SNAP_SCAN {
+        return Phase::Snap(Operation::Scan);
+    }
+    if b == UPDATE {
+        return Phase::Update;
+    }
+    if b == END_LABEL {
+        return Phase::End(Operation::Label);
+    }
+    Phase::End(Operation::Scan)
+}
+
+// The first n stations of an order, from 1, with their jobs; nothing past them.
+fn scan_result(order: &[usize; 32], jobs: &[u32; 32], n: usize) -> [[u32; 32]; 2]
+    requires { ⌜ n ≤ 32 ⌝ }
+    requires { ⌜ ((p : ℕ) → p < n → getD (now order) p 0 < 32) ⌝ }
+    ensures { λ r. ⌜ r ≡ scanRows n (now (order .entry)) (now (jobs .entry)) ⌝ }
+{
+    let mut stations = [0u32; 32];
+    let mut listed = [0u32; 32];
+    let mut p: usize = 0;
+    while p < n {
+        let i = order[p];
+        stations[p] = (i + 1) as u32;
+        listed[p] = jobs[i];
+        p += 1;
+    }
+    [stations, listed]
+}
+
+// Writes the report lines of the first n entries of a scan result to the front of `out`.
+fn write_result(rows: &[[u32; 32]; 2], n: usize, line: u64, out: &mut [u8])
+    requires { ⌜ n ≤ 32 ⌝ }
+    requires { ⌜ n * 29 ≤ length (now out) ⌝ }
+    ensures { λ _. ⌜ now (out .exit) ≡ over (reportLines line 1 (resultOf n (now (rows .entry)))) (now (out .entry)) ⌝ }
+{
+    let mut head = [0u8; 11];
+    columns::write_head(&mut head, line, 0);
+    let mut k = 0;
+    while k < n {
+        let at = k * 29;
+        columns::write_listed_line(
+            &mut out[at..at + 29],
+            head,
+            k as u64 + 1,
+            rows[0][k],
+            rows[1][k],
+        );
+        k += 1;
+    }
+}
+
+// A move's change to the labels at a place.
+fn store_labels(m: Move, place: usize, n: usize, newest: usize, labels: &mut Labels)
+    requires { ⌜ (place < n) × (n ≤ 32) ⌝ }
+    requires { ⌜ (m ≡ SnapLabel → Orderly n (getD (now labels) 0 []) × (newest ≡ newest n (standsIn n (getD (now labels) 0 [])))) ⌝ }
+    ensures { λ _. ⌜ ((job : ℕ) → now (labels .exit) ≡ labelsAfter n (now (labels .entry)) (labelStep (moveOf place job m))) ⌝ }
+{
+    match m {
+        Move::SnapLabel => {
+            let own = labels[PENDING][place];
+            labels[PENDING][place] = rows::choice::pending_by(
+                &labels[CURRENT],
+                n,
+                newest,
+                place,
+                own,
+            );
+        }
+        Move::Update => {
+            labels[CURRENT][place] = labels[PENDING][place];
+        }
+        _ => {}
+    }
+}
+
+// Its change to the jobs.
+fn store_jobs(m: Move, place: usize, job: u64, jobs: &mut Jobs)
+    requires { ⌜ place < 32 ⌝ }
+    requires { ⌜ (m ≡ BeginLabel → job ≤ 4294967295) ⌝ }
+    ensures { λ _. ⌜ now (jobs .exit) ≡ jobsAfter (now (jobs .entry)) (moveOf place job m) ⌝ }
+{
+    match m {
+        Move::BeginLabel => {
+            jobs[PENDING][place] = job as u32;
+        }
+        Move::Update => {
+            jobs[CURRENT][place] = jobs[PENDING][place];
+        }
+        _ => {}
+    }
+}
+
+// Its change to the scan results.
+fn store_result(
+    m: Move,
+    place: usize,
+    n: usize,
+    order: &[usize; 32],
+    jobs: &Jobs,
+    results: &mut Results,
+)
+    requires { ⌜ (place < 32) × (n ≤ 32) ⌝ }
+    requires { ⌜ (m ≡ SnapScan → (p : ℕ) → p < n → getD (now order) p 0 < 32) ⌝ }
+    ensures { λ _. ⌜ ((job : ℕ) → now (results .exit)
+        ≡ resultsAfter n (now (order .entry)) (getD (now (jobs .entry)) 0 []) (now (results .entry)) (moveOf place job m)) ⌝ }
+{
+    match m {
+        Move::SnapScan => {
+            results[place] = scan_result(order, &jobs[CURRENT], n);
+        }
+        _ => {}
+    }
+}
+
+// The number of the phase after a move; a refused call leaves it.
+fn phase_after(m: Move, old: u8) -> u8
+    ensures { λ r. ⌜ ((k job : ℕ) → r ≡ phaseAfter old (moveOf k job m)) ⌝ }
+{
+    match m {
+        Move::Refused(_) => old,
+        Move::BeginLabel => SNAP_LABEL,
+        Move::BeginScan => SNAP_SCAN,
+        Move::SnapLabel => UPDATE,
+        Move::SnapScan => END_SCAN,
+        Move::Update => END_LABEL,
+        Move::EndLabel => IDLE,
+        Move::EndScan => IDLE,
+    }
+}
+
+// The reply to a move; the end of a scan writes its report.
+fn report_due(
+    m: Move,
+    place: usize,
+    n: usize,
+    line: u64,
+    results: &Results,
+    report: &mut [u8],
+) -> Reply
+    requires { ⌜ (place < 32) × (n ≤ 32) ⌝ }
+    requires { ⌜ (m ≡ EndScan → n * 29 ≤ length (now report)) ⌝ }
+    ensures { λ r. ⌜ ((job : ℕ) → Replies n line (moveOf place job m) (getD (now (results .entry)) place [])
+        (now (report .entry)) r (now (report .exit))) ⌝ }
+{
+    match m {
+        Move::EndScan => {
+            write_result(&results[place], n, line, report);
+            Reply {
+                refusal: Refusal::Accepted,
+                written: n * 29,
+            }
+        }
+        _ => Reply {
+            refusal: moves::refusal_of(m),
+            written: 0,
+        },
+    }
+}
