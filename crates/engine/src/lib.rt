@@ -10,7 +10,7 @@ ghost use Rattle.simulation.specs.Calls.{reportLines};
 ghost use Rattle.simulation.specs.Machine.{labelStep};
 ghost use Rattle.transition.specs.Forms.{over};
 ghost use Rattle.transition.specs.Sequences.{Steps};
-ghost use Rattle.moves.specs.Moves.{refusalNumber, phaseOf, moveOf};
+ghost use Rattle.moves.specs.Moves.{refusalNumber, phaseOf, moveOf, kindOf};
 ghost use Rattle.moves.specs.declared.Move.the-variants.{BeginLabel, SnapLabel, SnapScan, EndScan};
 ghost use Rattle.arrays.specs.Arrays.{arrays, phaseFor, phaseNumber, resultOf};
 ghost use Rattle.arrays.specs.WellFormed.{wellFormed};
@@ -132,21 +132,15 @@ fn write_result(rows: &[[u32; 32]; 2], n: usize, line: u64, out: &mut [u8])
 }
 
 // A move's change to the labels at a place.
-fn store_labels(m: Move, place: usize, n: usize, newest: usize, labels: &mut Labels)
+fn store_labels(m: Move, place: usize, n: usize, top: usize, labels: &mut Labels)
     requires { ⌜ (place < n) × (n ≤ 32) ⌝ }
-    requires { ⌜ (m ≡ SnapLabel → Orderly n (getD (now labels) 0 []) × (newest ≡ newest n (standsIn n (getD (now labels) 0 [])))) ⌝ }
-    ensures { λ _. ⌜ ((job : ℕ) → now (labels .exit) ≡ labelsAfter n (now (labels .entry)) (labelStep (moveOf place job m))) ⌝ }
+    requires { ⌜ (m ≡ SnapLabel → Orderly n (getD (now labels) 0 []) × (top ≡ newest n (standsIn n (getD (now labels) 0 [])))) ⌝ }
+    ensures { λ _. ⌜ now (labels .exit) ≡ labelsAfter n (now (labels .entry)) (labelStep (moveOf place 0 m)) ⌝ }
 {
     match m {
         Move::SnapLabel => {
             let own = labels[PENDING][place];
-            labels[PENDING][place] = rows::choice::pending_by(
-                &labels[CURRENT],
-                n,
-                newest,
-                place,
-                own,
-            );
+            labels[PENDING][place] = rows::choice::pending_by(&labels[CURRENT], n, top, place, own);
         }
         Move::Update => {
             labels[CURRENT][place] = labels[PENDING][place];
@@ -183,8 +177,8 @@ fn store_result(
 )
     requires { ⌜ (place < 32) × (n ≤ 32) ⌝ }
     requires { ⌜ (m ≡ SnapScan → (p : ℕ) → p < n → getD (now order) p 0 < 32) ⌝ }
-    ensures { λ _. ⌜ ((job : ℕ) → now (results .exit)
-        ≡ resultsAfter n (now (order .entry)) (getD (now (jobs .entry)) 0 []) (now (results .entry)) (moveOf place job m)) ⌝ }
+    ensures { λ _. ⌜ now (results .exit)
+        ≡ resultsAfter n (now (order .entry)) (getD (now (jobs .entry)) 0 []) (now (results .entry)) (moveOf place 0 m) ⌝ }
 {
     match m {
         Move::SnapScan => {
@@ -196,7 +190,7 @@ fn store_result(
 
 // The number of the phase after a move; a refused call leaves it.
 fn phase_after(m: Move, old: u8) -> u8
-    ensures { λ r. ⌜ ((k job : ℕ) → r ≡ phaseAfter old (moveOf k job m)) ⌝ }
+    ensures { λ r. ⌜ r ≡ phaseAfter old (kindOf m) ⌝ }
 {
     match m {
         Move::Refused(_) => old,
@@ -221,8 +215,7 @@ fn report_due(
 ) -> Reply
     requires { ⌜ (place < 32) × (n ≤ 32) ⌝ }
     requires { ⌜ (m ≡ EndScan → n * 29 ≤ length (now report)) ⌝ }
-    ensures { λ r. ⌜ ((job : ℕ) → Replies n line (moveOf place job m) (getD (now (results .entry)) place [])
-        (now (report .entry)) r (now (report .exit))) ⌝ }
+    ensures { λ r. ⌜ Replies n line (kindOf m) (getD (now (results .entry)) place []) (now (report .entry)) r (now (report .exit)) ⌝ }
 {
     match m {
         Move::EndScan => {
