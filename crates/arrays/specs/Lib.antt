@@ -1,3 +1,4 @@
 pub mod Arrays
 pub mod WellFormed
 pub mod Form
+pub mod Sizes
