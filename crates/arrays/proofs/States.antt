@@ -3,7 +3,7 @@ use Prim.Native.Nat.{ℕ, zero, suc, _+_, _-_, _≤_, _<_}
 use native.Mathlib.Nat.{zero-add}
 use native.Mathlib.Omega.{arith}
 use native.Mathlib.Decide.{decLt}
-use mathlib.Core.Path.{_≡_, refl, sym, ap, ap₂, subst, _∙_}
+use mathlib.Core.Path.{_≡_, refl, sym, ap, ap₂, subst, _∙_, fun-ext}
 use mathlib.Core.Logic.{by-cases}
 use mathlib.Core.Bool.{Bool, true, false, _&&_, cond}
 use mathlib.Core.List as Lists
@@ -13,7 +13,7 @@ use lib.Seq.{ext-getD}
 use lib.Dec.{eqb, leb, ltb}
 use borrow.Author.Tests.{eqb-true, eq-eqb, le-leb, lt-ltb, le-ltb}
 use Rattle.basics.specs.Tests.{every, count, tabulate}
-use Rattle.basics.proofs.Facts.{both, and-both, within-of, every-all, every-at, length-tabulate, getD-tabulate, tabulate-same}
+use Rattle.basics.proofs.Facts.{both, and-both, within-of, every-all, every-at, getD-any, length-tabulate, getD-tabulate, tabulate-same}
 use Rattle.basics.proofs.Counts.{count-same}
 use Rattle.label.specs.Labels as Labels
 use Rattle.label.specs.Rows.{digit, row, rowFits, noRing}
@@ -246,3 +246,96 @@ module _ (n : ℕ) (low : 2 ≤ n) (high : n ≤ 32) (s : State Labels.Label) (r
 pub lent-lawful : Lawful lent
 unfolding arraysOf
 lent-lawful = record { counted = λ n s. refl; held = held-written; passes = reached-passes }
+
+-- WELL-FORMED ARRAYS are those of the state that they hold
+module _ (a : Arrays) (g : Shaped a) (e : wellFormed a ≡ true) where
+  high : a .count ≤ 32
+  high = passed a e .high
+
+  rows-here : (i : ℕ) → i < 32 → rowsAt a i ≡ getD (a .results) i []
+  rows-here i l = getD-any (a .results) i _ [] (omega (arith, g .results .long))
+
+  blank-at : (i : ℕ) → i < 32 → Blank (a .count) (rowsAt a i)
+  blank-at i l = by-cases (decLt i (a .count))
+      (λ u. fits-blank (a .count) (rowsAt a i) high (passed a e .each i u .result))
+      (λ u. fresh-blank (a .count) (rowsAt a i) (passed a e .rest i (omega arith) l .result))
+
+  phase-known : (i : ℕ) → i < 32 → cell (a .control) 0 i 0 ≤ 5
+  phase-known i l = by-cases (decLt i (a .count)) (λ u. passed a e .each i u .phase) (λ u. omega (arith, passed a e .rest i (omega arith) l .phase))
+
+  labels-back : planes (λ x i. row 31 (stateOf a .labels x i)) ≡ a .labels
+  labels-back = ap₂ (λ b c. b ∷ c ∷ []) (each 0 (omega arith)) (each 1 (omega arith)) ∙ two-lists (a .labels) [] (g .labels .long)
+    where
+      each : (f : ℕ) → f < 2 → tabulate 32 0 (λ i. row 31 (digit (cell (a .labels) f i []))) ≡ getD (a .labels) f []
+      each f h = tabulate-is 32 (getD (a .labels) f []) [] _ (g .labels .each f h) (λ i l. row-digit 31 _ (g .label f h .each i l))
+
+  jobs-back : planes (jobsOf (stateOf a)) ≡ a .jobs
+  jobs-back = ap₂ (λ b c. b ∷ c ∷ [])
+      (tabulate-is 32 (getD (a .jobs) 0 []) 0 _ (g .jobs .each 0 (omega arith)) (λ i l. refl))
+      (tabulate-is 32 (getD (a .jobs) 1 []) 0 _ (g .jobs .each 1 (omega arith)) (λ i l. refl))
+      ∙ two-lists (a .jobs) [] (g .jobs .long)
+
+  control-back : tabulate 32 0 (λ i. phaseNumber (stateOf a .rest .process i .phase)) ∷ [] ≡ a .control
+  control-back = ap (λ b. b ∷ []) (tabulate-is 32 (getD (a .control) 0 []) 0 _ (g .control .each 0 (omega arith)) (λ i l. number-back _ (phase-known i l)))
+      ∙ one-list (a .control) [] (g .control .long)
+
+  results-back : tabulate 32 0 (λ i. resultRows (stateOf a .rest .result i)) ≡ a .results
+  results-back = tabulate-is 32 (a .results) [] _ (g .results .long) (λ i l.
+      rows-back (a .count) (rowsAt a i) high (subst (Sized 2 32) (sym (rows-here i l)) (g .result i l)) (blank-at i l) ∙ rows-here i l)
+
+  pub written-held : arraysOf (a .count) (stateOf a) ≡ a
+  unfolding arraysOf
+  written-held = λ y. arrays (a .count) (labels-back y) (jobs-back y) (control-back y) (results-back y)
+
+  -- and that state can be written down
+  pub held-writable : Writable (a .count) (stateOf a)
+  held-writable = record {
+    behind = λ x i p h. by-cases (decLt i 32)
+        (λ l. List·getD-eq-default (labelRow a x i) 1 (omega (arith, label-long x i l)))
+        (λ l. ap (λ (r : Lists.List ℕ). digit r p) (label-none x i (omega arith)));
+    long = λ i. length-tabulate (a .count) 0 _;
+    past = λ i h. by-cases (decLt i 32) (λ l. unused i h l) (λ l. missing i (omega arith));
+  }
+    where
+      label-long : (x : Bool) (i : ℕ) → i < 32 → length (labelRow a x i) ≡ 31
+      label-long false i l = g .label 0 (omega arith) .each i l
+      label-long true i l = g .label 1 (omega arith) .each i l
+
+      label-none : (x : Bool) (i : ℕ) → 32 ≤ i → labelRow a x i ≡ []
+      label-none false i l = List·getD-eq-default (getD (a .labels) 0 []) [] (omega (arith, g .labels .each 0 (omega arith)))
+      label-none true i l = List·getD-eq-default (getD (a .labels) 1 []) [] (omega (arith, g .labels .each 1 (omega arith)))
+
+      entries : (i : ℕ) → i < 32 → a .count ≤ i → resultOf (a .count) (rowsAt a i) ≡ freshRest (a .count) .result i
+      entries i l h = tabulate-same (a .count) 0 _ _ (λ p u.
+          let c = fresh-cells (a .count) (rowsAt a i) (passed a e .rest i h l .result) p (omega (arith, high)) in
+          ap₂ entry (c .0 ∙ rw (lt-ltb p (a .count) (omega arith)) refl) (c .1))
+
+      unused : (i : ℕ) → a .count ≤ i → i < 32 → Unused (a .count) (stateOf a) i
+      unused i h l = let f = passed a e .rest i h l in record {
+        labels = λ x. fun-ext (λ p. fits-behind 31 0 (labelRow a x i) (label-long x i l) (f .label x) p (omega arith));
+        process = λ y. record { job = f .job y; pendingJob = f .pendingJob y; phase = phaseFor (f .phase y) };
+        result = entries i l h;
+      }
+
+      none : (xs : Rows) (f i : ℕ) → length (getD xs f []) ≡ 32 → 32 ≤ i → cell xs f i 0 ≡ 0
+      none xs f i h l = List·getD-eq-default (getD xs f []) 0 (omega arith)
+
+      missing : (i : ℕ) → 32 ≤ i → Unused (a .count) (stateOf a) i
+      missing i l = record {
+        labels = λ x. ap digit (label-none x i l);
+        process = λ y. record {
+          job = none (a .jobs) 0 i (g .jobs .each 0 (omega arith)) l y;
+          pendingJob = none (a .jobs) 1 i (g .jobs .each 1 (omega arith)) l y;
+          phase = phaseFor (none (a .control) 0 i (g .control .each 0 (omega arith)) l y);
+        };
+        result = ap (resultOf (a .count)) past
+            ∙ result-back (a .count) (freshRest (a .count) .result i) high (length-tabulate (a .count) 0 _);
+      }
+        where
+          past : rowsAt a i ≡ resultRows (freshRest (a .count) .result i)
+          past = List·getD-eq-default (a .results) _ (omega (arith, g .results .long))
+
+  -- so a step leaves arrays that hold the state which the machine leaves, from any well-formed table, reached or not
+  pub step-held : (c : Call) → let n = a .count in stateOf (stepOf lent a c .table) ≡ step original n (digits n) (stateOf a) c .state
+  step-held c = ap (λ (x : Answer Arrays). stateOf (x .table)) (step-written lent a c e)
+      ∙ held-written (a .count) high _ (writable-step (a .count) high (stateOf a) held-writable c (newest-station a e))
