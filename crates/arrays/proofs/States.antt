@@ -128,7 +128,7 @@ fits-blank n rows h e p l u =
 
 fresh-cells : (n : ℕ) (rows : Rows) → resultFresh n rows ≡ true → (p : ℕ) → p < 32 → (cell rows 0 p 0 ≡ cond (ltb p n) (suc p) 0) × (cell rows 1 p 0 ≡ 0)
 unfolding resultFresh
-fresh-cells n rows e p u = 
+fresh-cells n rows e p u =
     let b = and-both (eqb (cell rows 0 p 0) (cond (ltb p n) (suc p) 0)) (eqb (cell rows 1 p 0) 0) (every-at 32 _ e p u) in (eqb-true _ _ (b .0), eqb-true _ 0 (b .1))
 
 fresh-blank : (n : ℕ) (rows : Rows) → resultFresh n rows ≡ true → Blank n rows
@@ -214,10 +214,12 @@ module _ (n : ℕ) (low : 2 ≤ n) (high : n ≤ 32) (s : State Labels.Label) (r
       at p = rw (w .past i h .result) (by-cases (decLt p n)
           (λ l. rw (lt-ltb p n l) (
             station-cell (tabulate n 0 f) p small ∙ ap (λ (x : Entry). x .station) (inside l),
-            job-cell (tabulate n 0 f) p small ∙ ap (λ (x : Entry). x .job) (inside l)))
+            job-cell (tabulate n 0 f) p small ∙ ap (λ (x : Entry). x .job) (inside l),
+          ))
           (λ l. rw (le-ltb p n (omega arith)) (
             station-cell (tabulate n 0 f) p small ∙ ap (λ (x : Entry). x .station) (outside (omega arith)),
-            job-cell (tabulate n 0 f) p small ∙ ap (λ (x : Entry). x .job) (outside (omega arith)))))
+            job-cell (tabulate n 0 f) p small ∙ ap (λ (x : Entry). x .job) (outside (omega arith)),
+          )))
         where
           small : length (tabulate n 0 f) ≤ 32
           small = omega (arith, length-tabulate n 0 f)
@@ -252,7 +254,7 @@ module _ (a : Arrays) (g : Shaped a) (e : wellFormed a ≡ true) where
   high : a .count ≤ 32
   high = passed a e .high
 
-  rows-here : (i : ℕ) → i < 32 → rowsAt a i ≡ getD (a .results) i []
+  pub rows-here : (i : ℕ) → i < 32 → rowsAt a i ≡ getD (a .results) i []
   rows-here i l = getD-any (a .results) i _ [] (omega (arith, g .results .long))
 
   blank-at : (i : ℕ) → i < 32 → Blank (a .count) (rowsAt a i)
@@ -263,23 +265,23 @@ module _ (a : Arrays) (g : Shaped a) (e : wellFormed a ≡ true) where
   phase-known : (i : ℕ) → i < 32 → cell (a .control) 0 i 0 ≤ 5
   phase-known i l = by-cases (decLt i (a .count)) (λ u. passed a e .each i u .phase) (λ u. omega (arith, passed a e .rest i (omega arith) l .phase))
 
-  labels-back : planes (λ x i. row 31 (stateOf a .labels x i)) ≡ a .labels
+  pub labels-back : planes (λ x i. row 31 (stateOf a .labels x i)) ≡ a .labels
   labels-back = ap₂ (λ b c. b ∷ c ∷ []) (each 0 (omega arith)) (each 1 (omega arith)) ∙ two-lists (a .labels) [] (g .labels .long)
     where
       each : (f : ℕ) → f < 2 → tabulate 32 0 (λ i. row 31 (digit (cell (a .labels) f i []))) ≡ getD (a .labels) f []
       each f h = tabulate-is 32 (getD (a .labels) f []) [] _ (g .labels .each f h) (λ i l. row-digit 31 _ (g .label f h .each i l))
 
-  jobs-back : planes (jobsOf (stateOf a)) ≡ a .jobs
+  pub jobs-back : planes (jobsOf (stateOf a)) ≡ a .jobs
   jobs-back = ap₂ (λ b c. b ∷ c ∷ [])
       (tabulate-is 32 (getD (a .jobs) 0 []) 0 _ (g .jobs .each 0 (omega arith)) (λ i l. refl))
       (tabulate-is 32 (getD (a .jobs) 1 []) 0 _ (g .jobs .each 1 (omega arith)) (λ i l. refl))
       ∙ two-lists (a .jobs) [] (g .jobs .long)
 
-  control-back : tabulate 32 0 (λ i. phaseNumber (stateOf a .rest .process i .phase)) ∷ [] ≡ a .control
+  pub control-back : tabulate 32 0 (λ i. phaseNumber (stateOf a .rest .process i .phase)) ∷ [] ≡ a .control
   control-back = ap (λ b. b ∷ []) (tabulate-is 32 (getD (a .control) 0 []) 0 _ (g .control .each 0 (omega arith)) (λ i l. number-back _ (phase-known i l)))
       ∙ one-list (a .control) [] (g .control .long)
 
-  results-back : tabulate 32 0 (λ i. resultRows (stateOf a .rest .result i)) ≡ a .results
+  pub results-back : tabulate 32 0 (λ i. resultRows (stateOf a .rest .result i)) ≡ a .results
   results-back = tabulate-is 32 (a .results) [] _ (g .results .long) (λ i l.
       rows-back (a .count) (rowsAt a i) high (subst (Sized 2 32) (sym (rows-here i l)) (g .result i l)) (blank-at i l) ∙ rows-here i l)
 

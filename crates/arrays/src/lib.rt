@@ -1,4 +1,14 @@
-// A table in four arrays, which are lent.
+// A table in four arrays, which are lent: their types, and the fresh table.
+ghost use mathlib.Core.Path.{_≡_};
+ghost use mathlib.Core.Bool.{cond};
+ghost use Prim.Native.Nat.{ℕ, suc};
+ghost use lib.Dec.{ltb};
+ghost use Rattle.basics.specs.Tests.{tabulate};
+ghost use Rattle.simulation.specs.Machine.{freshRest};
+ghost use Rattle.transition.specs.Forms.{freshTable};
+ghost use Rattle.arrays.specs.Arrays.{arrays, resultRows};
+ghost use Rattle.arrays.specs.Form.{lent};
+ghost use Rattle.arrays.specs.Sizes.{Shaped};
 
 // Current and pending labels.
 pub type Labels = [[[u8; 31]; 32]; 2];
@@ -6,8 +16,55 @@ pub type Labels = [[[u8; 31]; 32]; 2];
 // Current and pending jobs.
 pub type Jobs = [[u32; 32]; 2];
 
-// What a station is due to do: its phase, as a number.
+// What each station is due to do: its phase, as a number.
 pub type Control = [[u8; 32]; 1];
 
 // The stations, from 1, and the jobs of each station's scan result.
 pub type Results = [[[u32; 32]; 2]; 32];
+
+// The lengths of lent arrays, which are known of arrays passed by value. Nothing is left of the copies when this is compiled.
+pub fn shaped(labels: Labels, jobs: Jobs, control: Control, results: Results)
+    ensures { λ _. ⌜ ((n : ℕ) → Shaped (arrays n labels jobs control results)) ⌝ }
+{}
+
+// The stations 1 to n, and 0s past them.
+fn first_stations(n: usize) -> [u32; 32]
+    ensures { λ r. ⌜ r ≡ tabulate 32 0 (λ p. cond (ltb p n) (suc p) 0) ⌝ }
+{
+    let mut r = [0u32; 32];
+    let mut p: usize = 0;
+    while p < 32 && p < n {
+        r[p] = (p + 1) as u32;
+        p += 1;
+    }
+    r
+}
+
+// The scan result of a fresh station: the stations 1 to n without a job.
+pub fn fresh_result(n: usize) -> [[u32; 32]; 2]
+    ensures { λ r. ⌜ r ≡ resultRows (freshRest n .result 0) ⌝ }
+{
+    [first_stations(n), [0u32; 32]]
+}
+
+// Writes the fresh table of n stations over what is lent.
+pub fn refresh(
+    n: usize,
+    labels: &mut Labels,
+    jobs: &mut Jobs,
+    control: &mut Control,
+    results: &mut Results,
+)
+    ensures { λ _. ⌜ arrays n (now (labels .exit)) (now (jobs .exit)) (now (control .exit)) (now (results .exit)) ≡ freshTable lent n ⌝ }
+{
+    let label = [1u8; 31];
+    let plane = [label; 32];
+    let none = [0u32; 32];
+    let idle = [0u8; 32];
+    let result = fresh_result(n);
+    *labels = [plane; 2];
+    *jobs = [none; 2];
+    let phases = [idle; 1];
+    *control = phases;
+    *results = [result; 32];
+}
