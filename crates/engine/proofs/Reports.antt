@@ -1,0 +1,71 @@
+-- The report lines of a scan result: how many bytes they are, and one line more at their end.
+use Prim.Native.Nat.{ℕ, zero, suc, _+_, _-_, _*_}
+use native.Mathlib.Nat.{zero-add}
+use native.Mathlib.Numerals.{add-one}
+use native.Mathlib.Omega.{arith}
+use mathlib.Core.Path.{_≡_, refl, sym, ap, ap₂, _∙_}
+use mathlib.Core.List as Lists
+use mathlib.Core.List.{[], _∷_, _++_, append-assoc, append-nil}
+use lib.ListN.{length, drop, length-append}
+use lib.Seq.{take-at, drop-at, drop-drop}
+use borrow.Rule.Slice.PartMut.{putMid}
+use Rattle.basics.specs.Tests.{tabulate}
+use Rattle.basics.proofs.Facts.{length-tabulate}
+use Rattle.columns.specs.Columns.{lineHead, lineTail, reportLine}
+use Rattle.columns.proofs.ColumnLaws.{length-report-line}
+use Rattle.simulation.specs.Calls.{Entry, entry, reportLines}
+use Rattle.transition.specs.Forms.{over}
+use Rattle.arrays.specs.Arrays.{Rows, cell, resultOf}
+
+-- the report line of an entry
+abbrev lineAt : ℕ → ℕ → Entry → Lists.List ℕ
+lineAt line place e = reportLine line 0 place (e .station) (e .job)
+
+pub lines-length : (line from : ℕ) (l : Lists.List Entry) → length (reportLines line from l) ≡ length l * 29
+unfolding reportLines
+lines-length line from [] = refl
+lines-length line from (e ∷ l) =
+    simp length-append (omega (arith, length-report-line line 0 from (e .station) (e .job), lines-length line (suc from) l))
+
+-- the lines of n entries
+pub result-length : (line n : ℕ) (rows : Rows) → length (reportLines line 1 (resultOf n rows)) ≡ n * 29
+result-length line n rows = lines-length line 1 (resultOf n rows) ∙ ap (λ (k : ℕ). k * 29) (length-tabulate n 0 _)
+
+-- the last of the lines apart
+lines-last : (line from k h : ℕ) (f : ℕ → Entry)
+    → reportLines line from (tabulate (suc k) h f) ≡ reportLines line from (tabulate k h f) ++ lineAt line (from + k) (f (h + k))
+unfolding reportLines tabulate
+lines-last line from zero h f =
+    let a : from ≡ from + 0 = omega arith in
+    let b : h ≡ h + 0 = omega arith in
+    append-nil (lineAt line from (f h)) ∙ ap₂ (λ (p q : ℕ). lineAt line p (f q)) a b
+lines-last line from (suc k) h f =
+    let a : suc from + k ≡ from + suc k = omega arith in
+    let b : suc h + k ≡ h + suc k = omega arith in
+    let first = lineAt line from (f h) in
+    let middle = reportLines line (suc from) (tabulate k (suc h) f) in
+    ap (λ (l : Lists.List ℕ). first ++ l)
+    (lines-last line (suc from) k (suc h) f ∙ ap₂ (λ (p q : ℕ). middle ++ lineAt line p (f q)) a b)
+    ∙ sym (append-assoc first middle (lineAt line (from + suc k) (f (h + suc k))))
+
+-- a buffer after x was put behind the bytes at its front
+put-behind : (bytes x buffer : Lists.List ℕ) → putMid (length bytes) (length x) (over bytes buffer) x ≡ over (bytes ++ x) buffer
+put-behind bytes x buffer =
+    let rest = drop (length bytes) buffer in
+    rw (take-at bytes rest (length bytes) refl, drop-at bytes rest (length bytes) refl, drop-drop (length x) (length bytes) buffer, length-append bytes x)
+    (sym (append-assoc bytes x (drop (length bytes + length x) buffer)))
+
+-- the line of entry k, made with the head that all of them have, put behind the k lines before it
+pub one-line-more : (line : ℕ) (rows : Rows) (k : ℕ) (head out buffer x : Lists.List ℕ) → head ≡ lineHead line 0
+    → out ≡ over (reportLines line 1 (resultOf k rows)) buffer → x ≡ head ++ lineTail (k + 1) (cell rows 0 k 0) (cell rows 1 k 0)
+    → putMid (k * 29) (k * 29 + 29 - k * 29) out x ≡ over (reportLines line 1 (resultOf (k + 1) rows)) buffer
+unfolding reportLine
+one-line-more line rows k head out buffer x d o e =
+    let f : ℕ → Entry = λ p. entry (cell rows 0 p 0) (cell rows 1 p 0) in
+    let lines = reportLines line 1 (resultOf k rows) in
+    let g : x ≡ lineAt line (k + 1) (f k) = e ∙ ap (λ (y : Lists.List ℕ). y ++ lineTail (k + 1) (f k .station) (f k .job)) d in
+    let p : 1 + k ≡ k + 1 = omega arith in
+    let more : reportLines line 1 (resultOf (k + 1) rows) ≡ lines ++ x = rw (add-one k, lines-last line 1 k 0 f, p, zero-add k, g) in
+    let a : k * 29 ≡ length lines = sym (result-length line k rows) in
+    let b : k * 29 + 29 - k * 29 ≡ length x = omega (arith, ap length g, length-report-line line 0 (k + 1) (f k .station) (f k .job)) in
+    rw (o, b, a, more) (put-behind lines x buffer)
