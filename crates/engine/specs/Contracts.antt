@@ -9,12 +9,12 @@ use Rattle.basics.specs.Tests.{newest}
 use Rattle.label.specs.Labels as Labels
 use Rattle.rows.specs.Held.{standsIn}
 use Rattle.simulation.specs.Calls as Calls
-use Rattle.simulation.specs.Calls.{Call, reportLines}
+use Rattle.simulation.specs.Calls.{Call, judgeIn, reportLines}
 use Rattle.simulation.specs.Machine as Machine
 use Rattle.simulation.specs.Machine.{digits, moved}
 use Rattle.transition.specs.Forms.{over}
-use Rattle.moves.specs.Moves.{refusalNumber, moveOf, numberOf, called}
-use Rattle.arrays.specs.Arrays.{Rows, Arrays, stateOf, arraysOf}
+use Rattle.moves.specs.Moves.{refusalNumber, moveOf, numberOf, called, placeOf}
+use Rattle.arrays.specs.Arrays.{Rows, Arrays, cell, phaseFor, stateOf, arraysOf}
 use Rattle.arrays.specs.WellFormed.{wellFormed}
 use Rattle.engine.specs.Stores.{orderOf, handedOut}
 use Rattle.moves.specs.declared.Move.the-variants.{BeginLabel, SnapLabel, SnapScan, EndScan}
@@ -55,3 +55,11 @@ pub record Carries (a : Arrays) (x : Task) (buffer : Lists.List ℕ) (a′ : Arr
   pub number : refusalNumber (r .refusal) ≡ doneOf a x .refusal
   pub count : r .written ≡ length (doneOf a x .bytes)
   pub report : buffer′ ≡ over (doneOf a x .bytes) buffer
+
+-- the call that q makes, judged on a table of n stations with these control bytes, room for its report and newest station: the task x
+pub record Judges (n : ℕ) (control : Rows) (q : Request) (room top : ℕ) (x : Task) : Type 0 where
+  pub place : x .place ≡ placeOf n (q .station)
+  pub action : moveOf (x .place) (q .job) (x .action) ≡ judgeIn n (phaseFor (cell control 0 (x .place) 0)) (callOf q room)
+  pub job : x .job ≡ q .job
+  pub line : x .line ≡ q .line
+  pub newest : x .newest ≡ top

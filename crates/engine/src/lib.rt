@@ -16,7 +16,7 @@ ghost use Rattle.arrays.specs.Arrays.{arrays, phaseFor, phaseNumber, resultOf};
 ghost use Rattle.arrays.specs.WellFormed.{wellFormed};
 ghost use Rattle.arrays.specs.Form.{lent};
 ghost use Rattle.engine.specs.Stores.{orderOf, scanRows, labelsAfter, jobsAfter, resultsAfter, phaseAfter};
-ghost use Rattle.engine.specs.Contracts.{callOf, Replies, Ready, Carries};
+ghost use Rattle.engine.specs.Contracts.{callOf, Replies, Ready, Carries, Judges};
 use arrays::Control;
 use arrays::Jobs;
 use arrays::Labels;
@@ -230,4 +230,93 @@ fn report_due(
             written: 0,
         },
     }
+}
+
+// Carries out a task on a well-formed table of n stations with this scan order.
+pub fn carry_out(
+    n: usize,
+    task: Task,
+    order: &[usize; 32],
+    labels: &mut Labels,
+    jobs: &mut Jobs,
+    control: &mut Control,
+    results: &mut Results,
+    report: &mut [u8],
+) -> Reply
+    requires { ⌜ Ready (arrays n (now labels) (now jobs) (now control) (now results)) task (now order) (length (now report)) ⌝ }
+    ensures { λ r. ⌜ Carries (arrays n (now (labels .entry)) (now (jobs .entry)) (now (control .entry)) (now (results .entry))) task
+        (now (report .entry)) (arrays n (now (labels .exit)) (now (jobs .exit)) (now (control .exit)) (now (results .exit))) r (now (report .exit)) ⌝ }
+{
+    arrays::shaped(*labels, *jobs, *control, *results);
+    let m = task.action;
+    let place = task.place;
+    let reply = report_due(m, place, n, task.line, results, report);
+    store_labels(m, place, n, task.newest, labels);
+    store_result(m, place, n, order, jobs, results);
+    store_jobs(m, place, task.job, jobs);
+    control[PHASE][place] = phase_after(m, control[PHASE][place]);
+    reply
+}
+
+// Judges a call on a table of n stations with this room for its report; `top` is the newest station, as far as it is known.
+pub fn judge(n: usize, q: Request, control: &Control, room: usize, top: usize) -> Task
+    requires { ⌜ (2 ≤ n) × (n ≤ 32) ⌝ }
+    ensures { λ r. ⌜ Judges n (now (control .entry)) q room top r ⌝ }
+{
+    let station = q.station;
+    let job = q.job;
+    let place = moves::place_of(station, n);
+    let phase = phase_of(control[PHASE][place]);
+    Task {
+        action: moves::judge(n, phase, q.code, station, job, room),
+        place,
+        job,
+        line: q.line,
+        newest: top,
+    }
+}
+
+// The newest station, for a move that asks for it.
+fn newest_for(m: Move, rows: &[[u8; 31]; 32], n: usize) -> usize
+    requires { ⌜ Orderly n (now rows) ⌝ }
+    ensures { λ r. ⌜ (m ≡ SnapLabel → r ≡ newest n (standsIn n (now (rows .entry)))) ⌝ }
+{
+    match m {
+        Move::SnapLabel => rows::order::newest(rows, n),
+        _ => 0,
+    }
+}
+
+// The scan order, for a move that asks for it.
+fn order_for(m: Move, rows: &[[u8; 31]; 32], n: usize) -> [usize; 32]
+    requires { ⌜ Orderly n (now rows) ⌝ }
+    ensures { λ r. ⌜ (m ≡ SnapScan → r ≡ orderOf n (now (rows .entry))) ⌝ }
+{
+    match m {
+        Move::SnapScan => rows::order::order(rows, n),
+        _ => [0usize; 32],
+    }
+}
+
+// A step call on a well-formed table of n stations.
+fn serve(
+    n: usize,
+    request: Request,
+    labels: &mut Labels,
+    jobs: &mut Jobs,
+    control: &mut Control,
+    results: &mut Results,
+    report: &mut [u8],
+) -> Reply
+    requires { ⌜ wellFormed (arrays n (now labels) (now jobs) (now control) (now results)) ≡ true ⌝ }
+    ensures { λ r. ⌜ Steps lent (arrays n (now (labels .entry)) (now (jobs .entry)) (now (control .entry)) (now (results .entry)))
+        (callOf request (length (now (report .entry)))) (now (report .entry))
+        (arrays n (now (labels .exit)) (now (jobs .exit)) (now (control .exit)) (now (results .exit)))
+        (refusalNumber (r .refusal)) (r .written) (now (report .exit)) ⌝ }
+{
+    let mut task = judge(n, request, control, report.len(), 0);
+    let m = task.action;
+    task.newest = newest_for(m, &labels[CURRENT], n);
+    let order = order_for(m, &labels[CURRENT], n);
+    carry_out(n, task, &order, labels, jobs, control, results, report)
 }
