@@ -1,2 +1,5 @@
 pub mod SessionLaws
 pub mod SessionTheorem
+pub mod Runs
+pub mod Cuts
+pub mod FileTheorem

@@ -1,104 +1,131 @@
--- Demand 3 of reading sessions, from the contract of `serve` and the theorem about `stepOf`.
-use Prim.Native.Nat.{ℕ, _+_}
+-- Demand 3 of reading sessions on tables of every lawful form, from the contract that each served line keeps and the theorem about `stepOf`.
+use Prim.Native.Nat.{ℕ, _+_, _≤_}
 use mathlib.Core.Path.{_≡_, refl, sym, ap, ap₂, subst, _∙_}
 use mathlib.Core.Logic.{_≢_}
-use mathlib.Core.Bool.{false}
 use mathlib.Core.List as Lists
 use mathlib.Core.List.{[], _∷_, map, map-map}
 use lib.ListN.{length, take, drop}
 use Rattle.basics.specs.Tests.{All}
 use Rattle.simulation.specs.Calls.{Call}
 use Rattle.simulation.specs.Machine as Machine
-use Rattle.table.specs.Tables.{freshTable}
-use Rattle.transition.specs.Steps.{stepOf}
+use Rattle.transition.specs.Forms.{Form, over, freshTable, stepOf}
 use Rattle.transition.specs.Demand.{run, seen, unbounded, Demand3}
-use Rattle.transition.proofs.ReachedTables.{table-fresh}
-use Rattle.transition.proofs.Theorem as Theorem
+use Rattle.transition.proofs.Theorem.{Lawful, demand}
+use Rattle.transition.proofs.Sequences.{bytes-read, bytes-counted, rest-kept, same-counts}
 use Rattle.moves.specs.Moves.{refusalNumber, called}
-use Rattle.step.specs.Contracts.{over}
-use Rattle.step.proofs.Routines.{bytes-read, bytes-counted, rest-kept, same-counts}
-use Rattle.schedule.specs.Sessions.{session, headerOf, isFinal, refused, nextLine, stepLine, serveOf}
-use Rattle.schedule.specs.Contracts.{Serves}
-use Rattle.schedule.specs.Demand.{Made, Sequence, callThen, stepCalls, endThen, ending, steps, answered, left, ended, Stays, SessionDemand}
-use Rattle.schedule.proofs.SessionLaws.{serves-as, serve-final, Numbered, next-numbered, Live, live-serve, next-live, Opened, opened}
 use Rattle.moves.specs.declared.Refusal.{Refusal}
 use Rattle.moves.specs.declared.Refusal.the-variants.{Accepted}
+use Rattle.schedule.specs.Lines.{nextLine, headerRead}
+use Rattle.schedule.specs.Sessions.{Session, session, Served, standing, ended, openedBy, headerOf, stepLine, serveOf, Serves}
+use Rattle.schedule.specs.Demand.{callThen, stepCalls, endThen, ending, ServedLine, given, ServedBy}
+use Rattle.schedule.specs.Demand.{sessionCalls, sessionEnding, steps, replied, left, Stays, SessionDemand}
+use Rattle.schedule.proofs.SessionLaws.{serves-as, serve-final, Numbered, next-numbered, header-stations, Live, fresh-live, live-serve, next-live}
 use Rattle.schedule.specs.declared.Line.{Line}
 use Rattle.schedule.specs.declared.Line.the-variants.{Step, Refused}
-use Rattle.schedule.specs.declared.Session.{Session}
+use Rattle.schedule.specs.declared.Header.the-variants.{Stations}
 
--- A FINAL REFUSAL
+module _ (F : Form) where
+  -- what came back for the line x is the outcome o
+  abbrev Gave : ServedLine (F .Table) → Served (F .Table) → Type 0
+  Gave x o = Serves o (x .session) (x .refusal) (x .written) (x .buffer) (x .buffer′)
 
-refused-stays : (z : Session) (x : Made) → Serves (refused z (refusalNumber (z .refusal))) (x .served) (x .buffer) (x .buffer′) → Stays z x
-refused-stays z x s = record { session = s .session; refusal = s .refusal; written = s .written; report = s .report }
+  -- the lines that follow x are served by the session that is specified
+  go-on : {o : Served (F .Table)} (x : ServedLine (F .Table)) (xs : Lists.List (ServedLine (F .Table))) → Gave x o → ServedBy F (x .session) xs
+      → ServedBy F (o .session) xs
+  go-on x xs g q = subst (λ (y : Session (F .Table)). ServedBy F y xs) (g .session) q
 
--- every call on a session that has one, be it of the header or of a line, meets it
-pub final-stays : (z : Session) → refusalNumber (z .refusal) ≢ 0 → (xs : Lists.List Made) → Sequence z xs → All (Stays z) xs
-final-stays z f [] q = tt
-final-stays z f (x ∷ xs) q =
-    let s = refused-stays z x (serves-as (sym (serve-final z (x .line) (length (x .buffer)) f)) (q .0)) in
-    (s, final-stays z f xs (subst (λ (y : Session). Sequence y xs) (s .session) (q .1)))
+  -- A FINAL REFUSAL
+
+  standing-stays : (z : Session (F .Table)) (x : ServedLine (F .Table)) → Gave x (standing z) → Stays z x
+  standing-stays z x s = record { session = s .session; number = s .number; count = s .count; report = s .report }
+
+  -- every call on a session that has one, be it of the header or of a line, meets it
+  pub final-stays : (z : Session (F .Table)) → refusalNumber (z .refusal) ≢ 0 → (xs : Lists.List (ServedLine (F .Table))) → ServedBy F z xs → All (Stays z) xs
+  final-stays z f [] q = tt
+  final-stays z f (x ∷ xs) q =
+      let s : Gave x (standing z) = serves-as (sym (serve-final F z (x .line) (length (x .buffer)) f)) (q .0) in
+      (standing-stays z x s, final-stays z f xs (go-on x xs s (q .1)))
+
+  -- every buffer keeps what was not written
+  lines-kept : (s : Session (F .Table)) (xs : Lists.List (ServedLine (F .Table))) → ServedBy F s xs
+      → All (λ x. x .buffer′ ≡ over (replied x .bytes) (x .buffer)) xs
+  lines-kept s [] q = tt
+  lines-kept s (x ∷ xs) q =
+      (rest-kept (serveOf F s (x .line) (length (x .buffer)) .bytes) (x .buffer) (q .0 .count) (q .0 .report), lines-kept (x .session) xs (q .1))
 
 -- THE STEP LINES are the calls, and behind them every call meets the final refusal r
 
-record Reads (s : Session) (xs : Lists.List Made) (calls : Lists.List Call) (r : Refusal) : Type 0 where
-  answers : map answered (take (length calls) xs) ≡ run (s .table) calls
-  counts : map (λ x. x .served .reply .written) (take (length calls) xs) ≡ map (λ x. length (answered x .bytes)) (take (length calls) xs)
+record Reads (F : Form) (s : Session (F .Table)) (xs : Lists.List (ServedLine (F .Table))) (calls : Lists.List Call) (r : Refusal) : Type 0 where
+  answers : map replied (take (length calls) xs) ≡ run F (s .table) calls
+  counts : map (λ x. x .written) (take (length calls) xs) ≡ map (λ x. length (replied x .bytes)) (take (length calls) xs)
   final : All (Stays (ended (left s (take (length calls) xs)) r)) (drop (length calls) xs)
 
-reads : (xs : Lists.List Made) (s : Session) → Live s → Sequence s xs → Reads s xs (stepCalls (s .lines) xs) (ending (s .lines) xs)
-unfolding stepCalls ending run
-reads [] s v q = record { answers = refl; counts = refl; final = tt }
-reads (x ∷ xs) s v q = go (nextLine (s .lines) (x .line)) (next-numbered (s .lines) (x .line)) (serves-as (sym (live-serve s v (x .line) (length (x .buffer)))) (q .0)) (reads xs)
-  where
-    go : (w : Line) → Numbered w → Serves (stepLine s (length (x .buffer)) w) (x .served) (x .buffer) (x .buffer′)
-        → ((s′ : Session) → Live s′ → Sequence s′ xs → Reads s′ xs (stepCalls (s′ .lines) xs) (ending (s′ .lines) xs))
-        → Reads s (x ∷ xs) (callThen (s .lines) (length (x .buffer)) w (stepCalls (s .lines + 1) xs)) (endThen w (ending (s .lines + 1) xs))
-    go (Refused r) n y ih = record {
-      answers = refl;
-      counts = refl;
-      final = (refused-stays (ended s r) x y, final-stays (ended s r) n xs (subst (λ (z : Session). Sequence z xs) (y .session) (q .1)));
-    }
-    go (Step st k j) n y ih =
-        let c = called (s .lines + 1) k st j (length (x .buffer)) in
-        let a = stepOf (s .table) c in
-        let i = ih (session (s .lines + 1) (s .refusal) (a .table)) (next-live s v c (s .lines + 1)) (subst (λ (z : Session). Sequence z xs) (y .session) (q .1)) in
-        let l = length (stepCalls (s .lines + 1) xs) in
-        record {
-          answers = ap₂ _∷_ (λ e. record { table = y .session e .table; refusal = y .refusal e; bytes = bytes-read (a .bytes) (x .buffer) (y .written) (y .report) e }) (i .answers);
-          counts = ap₂ _∷_ (bytes-counted (a .bytes) (x .buffer) (y .written) (y .report)) (i .counts);
-          final = subst (λ (z : Session). All (Stays (ended (left z (take l xs)) (ending (s .lines + 1) xs))) (drop l xs)) (sym (y .session)) (i .final);
-        }
+module _ (F : Form) (L : Lawful F) (n : ℕ) (low : 2 ≤ n) (high : n ≤ 32) where
+  -- as the lines after `lines` others are read
+  abbrev ReadsOn : Session (F .Table) → Lists.List (ServedLine (F .Table)) → Type 0
+  ReadsOn s xs = Reads F s xs (stepCalls (s .lines) (map given xs)) (ending (s .lines) (map given xs))
 
-sequence-kept : (s : Session) (xs : Lists.List Made) → Sequence s xs → All (λ x. x .buffer′ ≡ over (answered x .bytes) (x .buffer)) xs
-sequence-kept s [] q = tt
-sequence-kept s (x ∷ xs) q = (rest-kept (serveOf s (x .line) (length (x .buffer)) .bytes) (x .buffer) (q .0 .written) (q .0 .report), sequence-kept (x .served .session) xs (q .1))
+  reads : (xs : Lists.List (ServedLine (F .Table))) (s : Session (F .Table)) → Live F n s → ServedBy F s xs → ReadsOn s xs
+  unfolding stepCalls ending run
+  reads [] s v q = record { answers = refl; counts = refl; final = tt }
+  reads (x ∷ xs) s v q = go (nextLine (s .lines) (x .line)) (next-numbered (s .lines) (x .line)) here (reads xs)
+    where
+      room : ℕ
+      room = length (x .buffer)
 
--- DEMAND 3 OF A SESSION whose header is accepted
-pub session-demand : (header : Lists.List ℕ) → isFinal (headerOf header) ≡ false → (xs : Lists.List Made) → Sequence (headerOf header) xs
-    → SessionDemand (headerOf header .table .count) xs
-session-demand header e xs q = record {
-  demand = d;
-  same = same;
-  counted = r .counts ∙ same-counts n (λ x. seen (answered x)) (steps xs) (unbounded n (d .advances) calls) same;
-  kept = sequence-kept (headerOf header) xs q;
-  final = r .final;
-}
-  where
-    n : ℕ
-    n = headerOf header .table .count
+      here : Gave F x (stepLine F s (length (x .buffer)) (nextLine (s .lines) (x .line)))
+      here = serves-as (sym (live-serve F L n low high s v (x .line) (length (x .buffer)))) (q .0)
 
-    o : Opened (headerOf header)
-    o = opened header e
+      calls : Lists.List Call
+      calls = stepCalls (s .lines + 1) (map given xs)
 
-    calls : Lists.List Call
-    calls = stepCalls 1 xs
+      end : Refusal
+      end = ending (s .lines + 1) (map given xs)
 
-    d : Demand3 n calls
-    d = Theorem.demand n (o .low) (o .high) calls
+      go : (w : Line) → Numbered w → Gave F x (stepLine F s room w) → ((s′ : Session (F .Table)) → Live F n s′ → ServedBy F s′ xs → ReadsOn s′ xs)
+          → Reads F s (x ∷ xs) (callThen (s .lines) room w calls) (endThen w end)
+      go (Refused r) d y ih = record {
+        answers = refl;
+        counts = refl;
+        final = (standing-stays F (ended s r) x y, final-stays F (ended s r) d xs (go-on F x xs y (q .1)));
+      }
+      go (Step st k j) d y ih =
+          let c = called (s .lines + 1) k st j room in
+          let a = stepOf F (s .table) c in
+          let i = ih (session (s .lines + 1) (s .refusal) (a .table)) (next-live F L n low high s v c (s .lines + 1)) (go-on F x xs y (q .1)) in
+          let told : replied x ≡ a = λ e.
+          record { table = y .session e .table; refusal = y .number e; bytes = bytes-read (a .bytes) (x .buffer) (y .count) (y .report) e } in
+          let l = length calls in
+          record {
+            answers = ap₂ _∷_ told (i .answers);
+            counts = ap₂ _∷_ (bytes-counted (a .bytes) (x .buffer) (y .count) (y .report)) (i .counts);
+            final = subst (λ (z : Session (F .Table)). All (Stays (ended (left z (take l xs)) end)) (drop l xs)) (sym (y .session)) (i .final);
+          }
 
-    r : Reads (session 1 Accepted (freshTable n)) xs calls (ending 1 xs)
-    r = reads xs (session 1 Accepted (freshTable n)) (record { going = refl; reached = table-fresh n (o .low) (o .high) }) (subst (λ (z : Session). Sequence z xs) (o .made) q)
+module _ (F : Form) (L : Lawful F) where
+  -- DEMAND 3 OF A SESSION whose header is accepted
+  pub session-demand : (header : Lists.List ℕ) (n : ℕ) → headerRead header ≡ Stations n → (xs : Lists.List (ServedLine (F .Table)))
+      → ServedBy F (headerOf F header) xs → SessionDemand F n xs
+  session-demand header n e xs q = record {
+    demand = d;
+    same = same;
+    counted = r .counts ∙ same-counts n (λ x. seen F (replied x)) (steps xs) (unbounded n (d .advances) (sessionCalls xs)) same;
+    kept = lines-kept F (headerOf F header) xs q;
+    final = r .final;
+  }
+    where
+      sized : (2 ≤ n) × (n ≤ 32)
+      sized = header-stations header n e
 
-    same : map (λ x. seen (answered x)) (steps xs) ≡ map (Machine.seen n) (unbounded n (d .advances) calls)
-    same = sym (map-map seen answered (steps xs)) ∙ ap (map seen) (r .answers) ∙ d .same
+      d : Demand3 F n (sessionCalls xs)
+      d = demand F L n (sized .0) (sized .1) (sessionCalls xs)
+
+      start : Session (F .Table)
+      start = session 1 Accepted (freshTable F n)
+
+      r : Reads F start xs (sessionCalls xs) (sessionEnding xs)
+      r = reads F L n (sized .0) (sized .1) xs start (fresh-live F L n (sized .0) (sized .1) 1)
+          (subst (λ h. ServedBy F (openedBy F h) xs) e q)
+
+      same : map (λ x. seen F (replied x)) (steps xs) ≡ map (Machine.seen n) (unbounded n (d .advances) (sessionCalls xs))
+      same = sym (map-map (seen F) replied (steps xs)) ∙ ap (map (seen F)) (r .answers) ∙ d .same

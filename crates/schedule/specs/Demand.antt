@@ -1,88 +1,133 @@
--- Demand 3 of reading sessions, stated (01, "What demand 3 compares", "When a step is turned down"): for every sequence of calls of `serve` on a session
--- that `open` made. The step lines before any final refusal are a sequence of step calls; from that refusal on nothing changes.
+-- Demand 3 of reading sessions and of schedule files, stated for tables of any form (01, "What demand 3 compares", "When a step is turned down"): the step
+-- lines before any final refusal are a sequence of step calls.
 use Prim.Native.Nat.{ℕ, _+_}
 use mathlib.Core.Path.{_≡_}
+use mathlib.Core.Logic.{_≢_}
 use mathlib.Core.List as Lists
-use mathlib.Core.List.{[], _∷_, map}
+use mathlib.Core.List.{[], _∷_, _++_, map}
 use lib.ListN.{length, take, drop}
 use Rattle.basics.specs.Tests.{All}
 use Rattle.simulation.specs.Calls.{Call}
 use Rattle.simulation.specs.Machine as Machine
-use Rattle.table.specs.Tables.{freshTable}
-use Rattle.transition.specs.Steps.{Answer}
-use Rattle.transition.specs.Demand.{seen, unbounded, Demand3}
+use Rattle.simulation.specs.Machine.{Seen}
+use Rattle.transition.specs.Forms.{Form, Answer, over, freshTable}
+use Rattle.transition.specs.Demand.{run, seen, unbounded, Demand3}
 use Rattle.moves.specs.Moves.{refusalNumber, called}
-use Rattle.step.specs.Contracts.{over}
-use Rattle.schedule.specs.Sessions.{session, nextLine, serveOf}
-use Rattle.schedule.specs.Contracts.{Serves}
 use Rattle.moves.specs.declared.Refusal.{Refusal}
 use Rattle.moves.specs.declared.Refusal.the-variants.{Accepted}
+use Rattle.schedule.specs.Lines.{nextLine}
+use Rattle.schedule.specs.Sessions.{Session, session, ended, serveOf, Serves}
+use Rattle.schedule.specs.Files.{stepLines, printed, fileReport}
 use Rattle.schedule.specs.declared.Line.{Line}
 use Rattle.schedule.specs.declared.Line.the-variants.{Step, Refused}
-use Rattle.schedule.specs.declared.Session.{Session}
-use Rattle.schedule.specs.declared.Served.{Served}
 
--- a call with its line and its report buffer, and what came back: the session with the reply, and the buffer
-pub record Made : Type 0 where
+-- THE STEP LINES
+
+-- a line, and the room for its report
+pub record Given : Type 0 where
   pub line : Lists.List ℕ
-  pub buffer : Lists.List ℕ
-  pub served : Served
-  pub buffer′ : Lists.List ℕ
+  pub room : ℕ
 
--- each call is made on the session that the one before it handed back, and keeps its contract
-abbrev pub Sequence : Session → Lists.List Made → Type 0
-Sequence s [] = Unit {0}
-Sequence s (x ∷ xs) = Serves (serveOf s (x .line) (length (x .buffer))) (x .served) (x .buffer) (x .buffer′) × Sequence (x .served .session) xs
-
--- the lines that follow `lines` others, up to a final refusal, as step calls with their line numbers and the room that is lent
+-- the lines that follow `lines` others, up to a final refusal, as step calls with their line numbers
 abbrev pub callThen : ℕ → ℕ → Line → Lists.List Call → Lists.List Call
 callThen lines room (Refused r) rest = []
 callThen lines room (Step station code job) rest = called (lines + 1) code station job room ∷ rest
 
-unfoldable pub stepCalls : ℕ → Lists.List Made → Lists.List Call
+unfoldable pub stepCalls : ℕ → Lists.List Given → Lists.List Call
 stepCalls lines [] = []
-stepCalls lines (x ∷ xs) = callThen lines (length (x .buffer)) (nextLine lines (x .line)) (stepCalls (lines + 1) xs)
+stepCalls lines (g ∷ gs) = callThen lines (g .room) (nextLine lines (g .line)) (stepCalls (lines + 1) gs)
 
--- the final refusal, if there is one
+-- the final refusal, or Accepted
 abbrev pub endThen : Line → Refusal → Refusal
 endThen (Refused r) rest = r
 endThen (Step station code job) rest = rest
 
-unfoldable pub ending : ℕ → Lists.List Made → Refusal
+unfoldable pub ending : ℕ → Lists.List Given → Refusal
 ending lines [] = Accepted
-ending lines (x ∷ xs) = endThen (nextLine lines (x .line)) (ending (lines + 1) xs)
+ending lines (g ∷ gs) = endThen (nextLine lines (g .line)) (ending (lines + 1) gs)
 
--- the calls that are step lines, and those from the final refusal on
-abbrev pub steps : Lists.List Made → Lists.List Made
-steps xs = take (length (stepCalls 1 xs)) xs
+-- SESSIONS: every sequence of calls that serve lines, from the session that a header opened. From a final refusal on nothing changes.
 
-abbrev pub rest : Lists.List Made → Lists.List Made
-rest xs = drop (length (stepCalls 1 xs)) xs
+-- a call with its line and its report buffer, and what came back: the session, the refusal number, the count of bytes and the buffer
+pub record ServedLine (T : Type 0) : Type 0 where
+  pub line : Lists.List ℕ
+  pub buffer : Lists.List ℕ
+  pub session : Session T
+  pub refusal : ℕ
+  pub written : ℕ
+  pub buffer′ : Lists.List ℕ
 
--- what the caller sees of a step line: the table, the refusal number, and the bytes that the reply says were written
-abbrev pub answered : Made → Answer
-answered x = record { table = x .served .session .table; refusal = refusalNumber (x .served .reply .refusal); bytes = take (x .served .reply .written) (x .buffer′) }
+abbrev pub given : {T : Type 0} → ServedLine T → Given
+given x = record { line = x .line; room = length (x .buffer) }
 
--- the session that the calls leave, and that session with a final refusal
-abbrev pub left : Session → Lists.List Made → Session
-left s [] = s
-left s (x ∷ xs) = left (x .served .session) xs
+-- each call is made on the session that the one before it left, and keeps its contract
+abbrev pub ServedBy : (F : Form) → Session (F .Table) → Lists.List (ServedLine (F .Table)) → Type 0
+ServedBy F s [] = Unit {0}
+ServedBy F s (x ∷ xs) =
+    Serves (serveOf F s (x .line) (length (x .buffer))) (x .session) (x .refusal) (x .written) (x .buffer) (x .buffer′) × ServedBy F (x .session) xs
 
-abbrev pub ended : Session → Refusal → Session
-ended s r = session (s .lines) r (s .table)
+module _ {T : Type 0} where
+  -- the lines as step calls, and the final refusal
+  abbrev pub sessionCalls : Lists.List (ServedLine T) → Lists.List Call
+  sessionCalls xs = stepCalls 1 (map given xs)
+
+  abbrev pub sessionEnding : Lists.List (ServedLine T) → Refusal
+  sessionEnding xs = ending 1 (map given xs)
+
+  -- those that are step calls, and those from the final refusal on
+  abbrev pub steps : Lists.List (ServedLine T) → Lists.List (ServedLine T)
+  steps xs = take (length (sessionCalls xs)) xs
+
+  abbrev pub later : Lists.List (ServedLine T) → Lists.List (ServedLine T)
+  later xs = drop (length (sessionCalls xs)) xs
+
+  -- what the caller sees of a step line: the table, the refusal number, and the bytes that are counted
+  abbrev pub replied : ServedLine T → Answer T
+  replied x = record { table = x .session .table; refusal = x .refusal; bytes = take (x .written) (x .buffer′) }
+
+  -- the session that the calls leave
+  abbrev pub left : Session T → Lists.List (ServedLine T) → Session T
+  left s [] = s
+  left s (x ∷ xs) = left (x .session) xs
 
 -- a call that meets the final refusal of the session z: its number, no bytes, and z and the buffer as they were
-pub record Stays (z : Session) (x : Made) : Type 0 where
-  pub session : x .served .session ≡ z
-  pub refusal : refusalNumber (x .served .reply .refusal) ≡ refusalNumber (z .refusal)
-  pub written : x .served .reply .written ≡ 0
+pub record Stays {T : Type 0} (z : Session T) (x : ServedLine T) : Type 0 where
+  pub session : x .session ≡ z
+  pub number : x .refusal ≡ refusalNumber (z .refusal)
+  pub count : x .written ≡ 0
   pub report : x .buffer′ ≡ x .buffer
 
 -- for calls on the session of an accepted header of n stations: with the advances of demand 3 for the step lines the unbounded table shows what the caller
--- sees of them, and their replies count the bytes that it writes; every buffer keeps what was not written; and all other calls meet the final refusal
-pub record SessionDemand (n : ℕ) (xs : Lists.List Made) : Type 0 where
-  pub demand : Demand3 n (stepCalls 1 xs)
-  pub same : map (λ x. seen (answered x)) (steps xs) ≡ map (Machine.seen n) (unbounded n (demand .advances) (stepCalls 1 xs))
-  pub counted : map (λ x. x .served .reply .written) (steps xs) ≡ map (λ a. length (a .bytes)) (unbounded n (demand .advances) (stepCalls 1 xs))
-  pub kept : All (λ x. x .buffer′ ≡ over (answered x .bytes) (x .buffer)) xs
-  pub final : All (Stays (ended (left (session 1 Accepted (freshTable n)) (steps xs)) (ending 1 xs))) (rest xs)
+-- sees of them, and their counts are of the bytes that it writes; every buffer keeps what was not written; and all other calls meet the final refusal
+pub record SessionDemand (F : Form) (n : ℕ) (xs : Lists.List (ServedLine (F .Table))) : Type 0 where
+  pub demand : Demand3 F n (sessionCalls xs)
+  pub same : map (λ x. seen F (replied x)) (steps xs) ≡ map (Machine.seen n) (unbounded n (demand .advances) (sessionCalls xs))
+  pub counted : map (λ x. x .written) (steps xs) ≡ map (λ a. length (a .bytes)) (unbounded n (demand .advances) (sessionCalls xs))
+  pub kept : All (λ x. x .buffer′ ≡ over (replied x .bytes) (x .buffer)) xs
+  pub final : All (Stays (ended (left (session 1 Accepted (freshTable F n)) (steps xs)) (sessionEnding xs))) (later xs)
+
+-- FILES: the report is what the unbounded table prints for the step lines, and then the line of the final refusal, if there is one
+
+-- a line of a file has room for a whole scan result
+abbrev pub roomy : Lists.List ℕ → Given
+roomy l = record { line = l; room = 928 }
+
+abbrev pub fileCalls : Lists.List ℕ → Lists.List Call
+fileCalls bs = stepCalls 1 (map roomy (stepLines bs))
+
+-- what calls print, given what is seen of their answers
+unfoldable pub printedCalls : Lists.List Call → Lists.List Seen → Lists.List ℕ
+printedCalls [] ss = []
+printedCalls (c ∷ cs) [] = []
+printedCalls (c ∷ cs) (s ∷ ss) = printed (c .line) (s .refusal) (s .bytes) ++ printedCalls cs ss
+
+-- what the final refusal prints, with the number of the line behind `lines` others and the step lines
+abbrev pub endPrinted : ℕ → Lists.List Given → Lists.List ℕ
+endPrinted lines gs = printed (lines + length (stepCalls lines gs) + 1) (refusalNumber (ending lines gs)) []
+
+-- for a file with an accepted header of n stations; no line of it is refused by 7 (01, "The schedule file and the report")
+pub record FileDemand (F : Form) (bs : Lists.List ℕ) (n : ℕ) : Type 0 where
+  pub demand : Demand3 F n (fileCalls bs)
+  pub report : fileReport F bs
+      ≡ printedCalls (fileCalls bs) (map (Machine.seen n) (unbounded n (demand .advances) (fileCalls bs))) ++ endPrinted 1 (map roomy (stepLines bs))
+  pub never7 : All (λ a. a .refusal ≢ 7) (run F (freshTable F n) (fileCalls bs))

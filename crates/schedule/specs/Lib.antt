@@ -1,4 +1,4 @@
 pub mod Lines
 pub mod Sessions
-pub mod Contracts
+pub mod Files
 pub mod Demand

@@ -1,15 +1,19 @@
--- A line of a schedule file (01, "The schedule file and the report"; refusals 8 and 9).
+-- A line of a schedule file (01, "The schedule file and the report"; refusals 1 and 8 to 12 of "When a step is turned down").
 use Prim.Native.Nat.{ℕ}
-use mathlib.Core.Bool.{_&&_, cond}
+use mathlib.Core.Bool.{not, _&&_, cond}
 use mathlib.Core.List.{List}
 use lib.ListN.{length, getD, take, drop}
-use lib.Dec.{eqb}
+use lib.Dec.{eqb, ltb}
+use Rattle.basics.specs.Tests.{within}
 use Rattle.columns.specs.Reading.{columnRead}
 use Rattle.columns.specs.declared.Column.{Column}
 use Rattle.columns.specs.declared.Column.the-variants.{Value, Bad}
-use Rattle.moves.specs.declared.Refusal.the-variants.{IncompleteLine, MalformedColumn}
+use Rattle.moves.specs.declared.Refusal.the-variants.{StationCount, IncompleteLine, MalformedColumn, UnknownStep, JobOutOfRange, TooManyLines}
 use Rattle.schedule.specs.declared.Line.{Line}
 use Rattle.schedule.specs.declared.Line.the-variants.{Step, Refused}
+use Rattle.schedule.specs.declared.Header.{Header}
+use Rattle.schedule.specs.declared.Header.the-variants as Headers
+use Rattle.schedule.specs.declared.Header.the-variants.{Stations}
 
 -- the three columns, read from left to right: the first bad one ends the reading
 abbrev pub stepRead : Column → Column → Column → Line
@@ -23,3 +27,19 @@ unfoldable pub lineRead : List ℕ → Line
 lineRead l = cond (eqb (length l) 18 && eqb (getD l 17 0) 10)
     (stepRead (columnRead (take 3 l)) (columnRead (take 3 (drop 3 l))) (columnRead (take 11 (drop 6 l))))
     (Refused IncompleteLine)
+
+-- the line that follows `lines` others, the header among them: past 1,000,000 step lines each is one too many
+abbrev pub nextLine : ℕ → List ℕ → Line
+nextLine lines l = cond (ltb 1000000 lines) (Refused TooManyLines) (lineRead l)
+
+-- the header is n, code 0, job 0; its refusals come in the order 8, 9, 10, 1, 11
+abbrev pub headerSaid : Line → Header
+headerSaid (Refused r) = Headers.Refused r
+headerSaid (Step n code job) =
+    cond (not (eqb code 0)) (Headers.Refused UnknownStep)
+    (cond (not (within 2 32 n)) (Headers.Refused StationCount)
+    (cond (not (eqb job 0)) (Headers.Refused JobOutOfRange)
+    (Stations n)))
+
+unfoldable pub headerRead : List ℕ → Header
+headerRead l = headerSaid (lineRead l)

@@ -1,74 +1,86 @@
--- A reading session (01, "When a step is turned down"): the header makes it, and each line is served by it. 8, 9, 12 and every refusal of the header are final.
+-- A reading session on a table of any form (01, "When a step is turned down"): the header opens it, and each later line is served by it. 8, 9, 12 and
+-- every refusal of the header are final.
 use Prim.Native.Nat.{ℕ, _+_}
+use mathlib.Core.Path.{_≡_}
 use mathlib.Core.Bool.{Bool, not, cond}
 use mathlib.Core.List as Lists
 use mathlib.Core.List.{[]}
+use lib.ListN.{length}
 use lib.Dec.{eqb, ltb}
-use Rattle.basics.specs.Tests.{within}
-use Rattle.table.specs.Tables.{freshTable}
-use Rattle.table.specs.WellFormed.{wellFormed}
-use Rattle.transition.specs.Steps.{stepOf}
+use Rattle.transition.specs.Forms.{Form, over, freshTable, stepOf}
 use Rattle.moves.specs.Moves.{refusalNumber, called}
-use Rattle.schedule.specs.Lines.{lineRead}
 use Rattle.moves.specs.declared.Refusal.{Refusal}
-use Rattle.moves.specs.declared.Refusal.the-variants.{Accepted, StationCount, UnknownStep, JobOutOfRange, TooManyLines}
-use Rattle.table.specs.declared.Table.{Table}
+use Rattle.moves.specs.declared.Refusal.the-variants.{Accepted}
+use Rattle.schedule.specs.Lines.{nextLine, headerRead}
 use Rattle.schedule.specs.declared.Line.{Line}
 use Rattle.schedule.specs.declared.Line.the-variants.{Step, Refused}
-use Rattle.schedule.specs.declared.Session.{Session}
+use Rattle.schedule.specs.declared.Header.{Header}
+use Rattle.schedule.specs.declared.Header.the-variants as Headers
+use Rattle.schedule.specs.declared.Header.the-variants.{Stations}
 
-abbrev pub session : ℕ → Refusal → Table → Session
+-- how many lines it has counted, the header among them; its final refusal, or Accepted; its table
+pub record Session (T : Type 0) : Type 0 where
+  pub lines : ℕ
+  pub refusal : Refusal
+  pub table : T
+
+abbrev pub session : {T : Type 0} → ℕ → Refusal → T → Session T
 session lines r t = record { lines = lines; refusal = r; table = t }
 
--- the header is n, code 0, job 0; a refused one leaves the table open: it is the fresh one of 2
-abbrev pub closed : Refusal → Session
-closed r = session 0 r (freshTable 2)
-
-abbrev pub byHeader : Line → Session
-byHeader (Refused r) = closed r
-byHeader (Step n code job) =
-    cond (not (eqb code 0)) (closed UnknownStep)
-    (cond (not (within 2 32 n)) (closed StationCount)
-    (cond (not (eqb job 0)) (closed JobOutOfRange)
-    (session 1 Accepted (freshTable n))))
-
-unfoldable pub headerOf : Lists.List ℕ → Session
-headerOf line = byHeader (lineRead line)
+abbrev pub isFinal : {T : Type 0} → Session T → Bool
+isFinal s = not (eqb (refusalNumber (s .refusal)) 0)
 
 -- what a line leaves: the session, the refusal number (0: accepted), and the bytes of report
-pub record Served : Type 0 where
-  pub session : Session
+pub record Served (T : Type 0) : Type 0 where
+  pub session : Session T
   pub refusal : ℕ
   pub bytes : Lists.List ℕ
 
-abbrev pub refused : Session → ℕ → Served
-refused s r = record { session = s; refusal = r; bytes = [] }
+abbrev pub refused : {T : Type 0} → Session T → ℕ → Served T
+refused s number = record { session = s; refusal = number; bytes = [] }
 
-abbrev pub isFinal : Session → Bool
-isFinal s = not (eqb (refusalNumber (s .refusal)) 0)
+-- the session as it stands, and the number of its final refusal
+abbrev pub standing : {T : Type 0} → Session T → Served T
+standing s = refused s (refusalNumber (s .refusal))
 
--- a final refusal, which the session keeps
-abbrev pub stopped : Session → Refusal → Served
-stopped s r = refused (session (s .lines) r (s .table)) (refusalNumber r)
+-- a line whose refusal is final: the session keeps it
+abbrev pub ended : {T : Type 0} → Session T → Refusal → Session T
+ended s r = session (s .lines) r (s .table)
+
+abbrev pub stopped : {T : Type 0} → Session T → Refusal → Served T
+stopped s r = standing (ended s r)
 
 -- a line refused by 13 counts, but for those past the last
-abbrev pub illFormed : Session → Served
+abbrev pub illFormed : {T : Type 0} → Session T → Served T
 illFormed s = refused (session (cond (ltb (s .lines) 1000001) (s .lines + 1) (s .lines)) (s .refusal) (s .table)) 13
 
--- the next line: past 1,000,000 step lines, which follow the header, each is one too many
-abbrev pub nextLine : ℕ → Lists.List ℕ → Line
-nextLine lines line = cond (ltb 1000000 lines) (Refused TooManyLines) (lineRead line)
+module _ (F : Form) where
+  -- the session that a header opens. 01 says nothing of the table behind a refused one: it is the fresh one of 2 stations
+  abbrev pub openedBy : Header → Session (F .Table)
+  openedBy (Headers.Refused r) = session 0 r (freshTable F 2)
+  openedBy (Stations n) = session 1 Accepted (freshTable F n)
 
--- a step line on a well-formed table: it bears its line number, and its step has the room that is lent
-abbrev pub stepLine : Session → ℕ → Line → Served
-stepLine s room (Refused r) = stopped s r
-stepLine s room (Step station code job) =
-    let a = stepOf (s .table) (called (s .lines + 1) code station job room) in
-    record { session = session (s .lines + 1) (s .refusal) (a .table); refusal = a .refusal; bytes = a .bytes }
+  abbrev pub headerOf : Lists.List ℕ → Session (F .Table)
+  headerOf line = openedBy (headerRead line)
 
--- a line: the final refusal comes first, then 13, 12, 8, 9, and then what the step gives
-unfoldable pub serveOf : Session → Lists.List ℕ → ℕ → Served
-serveOf s line room =
-    cond (isFinal s) (refused s (refusalNumber (s .refusal)))
-    (cond (not (wellFormed (s .table))) (illFormed s)
-    (stepLine s room (nextLine (s .lines) line)))
+  -- a step line on a well-formed table: it bears its line number, and its step has the room that is lent
+  abbrev pub stepLine : Session (F .Table) → ℕ → Line → Served (F .Table)
+  stepLine s room (Refused r) = stopped s r
+  stepLine s room (Step station code job) =
+      let a = stepOf F (s .table) (called (s .lines + 1) code station job room) in
+      record { session = session (s .lines + 1) (s .refusal) (a .table); refusal = a .refusal; bytes = a .bytes }
+
+  -- a line: the final refusal comes first, then 13, 12, 8, 9, and then what the step gives
+  unfoldable pub serveOf : Session (F .Table) → Lists.List ℕ → ℕ → Served (F .Table)
+  serveOf s line room =
+      cond (isFinal s) (standing s)
+      (cond (not (F .wellFormed (s .table))) (illFormed s)
+      (stepLine s room (nextLine (s .lines) line)))
+
+-- what a call that serves a line hands back, the session, the refusal number and the count of bytes, and the report buffer that it leaves: all of it is
+-- what is specified
+pub record Serves {T : Type 0} (o : Served T) (s : Session T) (refusal written : ℕ) (buffer buffer′ : Lists.List ℕ) : Type 0 where
+  pub session : s ≡ o .session
+  pub number : refusal ≡ o .refusal
+  pub count : written ≡ length (o .bytes)
+  pub report : buffer′ ≡ over (o .bytes) buffer

@@ -1,20 +1,9 @@
-// The lines of a schedule file, and the session that serves them one by one.
+// The lines of a schedule file: the header, and the step lines after it.
 ghost use mathlib.Core.Path.{_≡_};
-ghost use mathlib.Core.Bool.{true, cond};
-ghost use mathlib.Core.List as Lists;
-ghost use Prim.Native.Nat.{ℕ, _+_, _≤_};
-ghost use lib.Dec.{ltb};
-ghost use lib.ListN.{length};
-ghost use Rattle.table.specs.WellFormed.{wellFormed};
-ghost use Rattle.moves.specs.Moves.{refusalNumber};
-ghost use Rattle.schedule.specs.Lines.{lineRead};
-ghost use Rattle.schedule.specs.Sessions.{headerOf, closed, nextLine, refused, stopped, illFormed, stepLine, serveOf};
-ghost use Rattle.schedule.specs.Contracts.{Serves};
+ghost use Rattle.schedule.specs.Lines.{lineRead, nextLine, headerRead};
 use columns::Column;
 use columns::read_column;
 use moves::Refusal;
-use step::Reply;
-use table::Table;
 
 // What a line of the file says: a step call, or the refusal that ends the reading.
 pub enum Line {
@@ -22,17 +11,10 @@ pub enum Line {
     Refused(Refusal),
 }
 
-// A reading session: how many lines it has counted, the header among them; its final refusal, if there is one; its table.
-pub struct Session {
-    pub lines: u32,
-    pub refusal: Refusal,
-    pub table: Table,
-}
-
-// What a line leaves: the session, and the reply to the line.
-pub struct Served {
-    pub session: Session,
-    pub reply: Reply,
+// What the first line says: the number of stations, or the refusal that ends the reading.
+pub enum Header {
+    Stations(usize),
+    Refused(Refusal),
 }
 
 // Reads a line: its columns from left to right, and the first malformed one ends the reading.
@@ -67,135 +49,26 @@ pub fn next_line(lines: u32, line: &[u8]) -> Line
     read_line(line)
 }
 
-// A session that its header has ended.
-fn closed_by(r: Refusal) -> Session
-    ensures { λ s. ⌜ s ≡ closed r ⌝ }
+// Reads the header: the number of stations, code 0 and job 0.
+pub fn read_header(line: &[u8]) -> Header
+    ensures { λ r. ⌜ r ≡ headerRead (now (line .entry)) ⌝ }
 {
-    Session {
-        lines: 0,
-        refusal: r,
-        table: Table::fresh(2),
-    }
-}
-
-// Opens a session: the header has the number of stations, code 0 and job 0.
-pub fn open(header: &[u8]) -> Session
-    ensures { λ r. ⌜ r ≡ headerOf (now (header .entry)) ⌝ }
-{
-    match read_line(header) {
-        Line::Refused(r) => closed_by(r),
+    match read_line(line) {
+        Line::Refused(r) => Header::Refused(r),
         Line::Step { station, code, job } => {
             if code != 0 {
-                return closed_by(Refusal::UnknownStep);
+                return Header::Refused(Refusal::UnknownStep);
             }
             if station < 2 {
-                return closed_by(Refusal::StationCount);
+                return Header::Refused(Refusal::StationCount);
             }
             if 32 < station {
-                return closed_by(Refusal::StationCount);
+                return Header::Refused(Refusal::StationCount);
             }
             if job != 0 {
-                return closed_by(Refusal::JobOutOfRange);
+                return Header::Refused(Refusal::JobOutOfRange);
             }
-            Session {
-                lines: 1,
-                refusal: Refusal::Accepted,
-                table: Table::fresh(station as usize),
-            }
+            Header::Stations(station as usize)
         }
-    }
-}
-
-// A refused line: it reports nothing, whatever the report buffer is.
-fn refuse(s: Session, r: Refusal) -> Served
-    ensures { λ o. ⌜ ((buffer : Lists.List ℕ) → Serves (refused s (refusalNumber r)) o buffer buffer) ⌝ }
-{
-    Served {
-        session: s,
-        reply: Reply {
-            refusal: r,
-            written: 0,
-        },
-    }
-}
-
-// A final refusal, which the session keeps.
-fn stop(s: Session, r: Refusal) -> Served
-    ensures { λ o. ⌜ ((buffer : Lists.List ℕ) → Serves (stopped s r) o buffer buffer) ⌝ }
-{
-    let t = s.table;
-    let closed = Session {
-        lines: s.lines,
-        refusal: r,
-        table: t,
-    };
-    refuse(closed, r)
-}
-
-// The lines counted after one that meets an ill-formed table: those past the last do not count.
-fn counted(lines: u32) -> u32
-    ensures { λ r. ⌜ r ≡ cond (ltb lines 1000001) (lines + 1) lines ⌝ }
-{
-    if lines < 1000001 { lines + 1 } else { lines }
-}
-
-// A line that meets an ill-formed table.
-fn turn_away(s: Session) -> Served
-    ensures { λ o. ⌜ ((buffer : Lists.List ℕ) → Serves (illFormed s) o buffer buffer) ⌝ }
-{
-    let t = s.table;
-    let r = s.refusal;
-    let next = Session {
-        lines: counted(s.lines),
-        refusal: r,
-        table: t,
-    };
-    refuse(next, Refusal::IllFormedTable)
-}
-
-// A step line on a well-formed table: one record is stored, and the report that is due bears the number of the line.
-fn step_line(s: Session, code: u64, station: u64, job: u64, report: &mut [u8]) -> Served
-    requires { ⌜ wellFormed (s .table) ≡ true ⌝ }
-    requires { ⌜ s .lines ≤ 1000000 ⌝ }
-    ensures { λ r. ⌜ Serves (stepLine s (length (now (report .entry))) (Line.Step station code job)) r (now (report .entry)) (now (report .exit)) ⌝ }
-{
-    let lines = s.lines;
-    let standing = s.refusal;
-    let t = s.table;
-    let n = t.count;
-    let d = step::decide(t, code, station, job, report.len());
-    let place = d.place;
-    let refusal = d.refusal;
-    let record = d.record;
-    let written = d.written;
-    let result = record.scan_result;
-    step::write_due(written, result, n, lines as u64 + 1, report);
-    let mut next = t;
-    next.stations[place] = record;
-    Served {
-        session: Session {
-            lines: lines + 1,
-            refusal: standing,
-            table: next,
-        },
-        reply: Reply { refusal, written },
-    }
-}
-
-// Serves a line after the header: a final refusal comes first, then an ill-formed table, and then what the line says.
-pub fn serve(s: Session, line: &[u8], report: &mut [u8]) -> Served
-    ensures { λ r. ⌜ Serves (serveOf s (now (line .entry)) (length (now (report .entry)))) r (now (report .entry)) (now (report .exit)) ⌝ }
-{
-    let standing = s.refusal;
-    if standing.number() != 0 {
-        return refuse(s, standing);
-    }
-    let t = s.table;
-    if !t.well_formed() {
-        return turn_away(s);
-    }
-    match next_line(s.lines, line) {
-        Line::Refused(r) => stop(s, r),
-        Line::Step { station, code, job } => step_line(s, code, station, job, report),
     }
 }

@@ -36,7 +36,10 @@ enum-told c = search needs
 
 returns-3 : tie.Need-returns-3
 unfolding lineRead
-returns-3 c = simp (eq-eqb _ _ (c .before .before .before .before .before .before .if1 .left), eq-eqb _ _ (c .before .before .before .before .if2 .left), sym (c .before .before .read-column .ensures) ∙ c .enum-told .given .1)
+returns-3 c =
+    let first = c .before .before in
+    let tests = first .before .before in
+    simp (eq-eqb _ _ (tests .before .before .if1 .left), eq-eqb _ _ (tests .if2 .left), sym (first .read-column .ensures) ∙ c .enum-told .given .1)
 
 sub-read-column-2 : tie.Need-sub-read-column-2
 sub-read-column-2 c = search needs
@@ -58,7 +61,17 @@ enum-told-2 c = search needs
 
 returns-4 : tie.Need-returns-4
 unfolding lineRead
-returns-4 c = simp (eq-eqb _ _ (c .before .before .before .before .before .before .before .before .before .before .before .if1 .left), eq-eqb _ _ (c .before .before .before .before .before .before .before .before .before .if2 .left), sym (c .before .before .before .before .before .before .before .read-column .ensures) ∙ c .before .before .before .before .before .station .given .1, sym (c .before .before .read-column2 .ensures) ∙ c .enum-told2 .given .1)
+returns-4 c =
+    let code = c .before .before in
+    let station = code .before .before .before in
+    let first = station .before .before in
+    let tests = first .before .before in
+    simp (
+      eq-eqb _ _ (tests .before .before .if1 .left),
+      eq-eqb _ _ (tests .if2 .left),
+      sym (first .read-column .ensures) ∙ station .station .given .1,
+      sym (code .read-column2 .ensures) ∙ c .enum-told2 .given .1,
+    )
 
 sub-read-column-3 : tie.Need-sub-read-column-3
 sub-read-column-3 c = search needs
@@ -80,11 +93,35 @@ enum-told-3 c = search needs
 
 returns-5 : tie.Need-returns-5
 unfolding lineRead
-returns-5 c = simp (eq-eqb _ _ (c .before .before .before .before .before .before .before .before .before .before .before .before .before .before .before .before .if1 .left), eq-eqb _ _ (c .before .before .before .before .before .before .before .before .before .before .before .before .before .before .if2 .left), sym (c .before .before .before .before .before .before .before .before .before .before .before .before .read-column .ensures) ∙ c .before .before .before .before .before .before .before .before .before .before .station .given .1, sym (c .before .before .before .before .before .before .before .read-column2 .ensures) ∙ c .before .before .before .before .before .code .given .1, sym (c .before .before .read-column3 .ensures) ∙ c .enum-told3 .given .1)
+returns-5 c =
+    let job = c .before .before in
+    let code = job .before .before .before in
+    let station = code .before .before .before .before .before in
+    let first = station .before .before in
+    let tests = first .before .before in
+    simp (
+      eq-eqb _ _ (tests .before .before .if1 .left),
+      eq-eqb _ _ (tests .if2 .left),
+      sym (first .read-column .ensures) ∙ station .station .given .1,
+      sym (code .before .before .read-column2 .ensures) ∙ code .code .given .1,
+      sym (job .read-column3 .ensures) ∙ c .enum-told3 .given .1,
+    )
 
 returns-6 : tie.Need-returns-6
 unfolding lineRead
-returns-6 c = simp (eq-eqb _ _ (c .before .before .before .before .before .before .before .before .before .before .before .before .before .before .before .before .before .if1 .left), eq-eqb _ _ (c .before .before .before .before .before .before .before .before .before .before .before .before .before .before .before .if2 .left), sym (c .before .before .before .before .before .before .before .before .before .before .before .before .before .read-column .ensures) ∙ c .before .before .before .before .before .before .before .before .before .before .before .station .given .1, sym (c .before .before .before .before .before .before .before .before .read-column2 .ensures) ∙ c .before .before .before .before .before .before .code .given .1, sym (c .before .before .before .read-column3 .ensures) ∙ c .before .job .given .1)
+returns-6 c =
+    let job = c .before in
+    let code = job .before .before .before .before .before in
+    let station = code .before .before .before .before .before in
+    let first = station .before .before in
+    let tests = first .before .before in
+    simp (
+      eq-eqb _ _ (tests .before .before .if1 .left),
+      eq-eqb _ _ (tests .if2 .left),
+      sym (first .read-column .ensures) ∙ station .station .given .1,
+      sym (code .before .before .read-column2 .ensures) ∙ code .code .given .1,
+      sym (job .before .before .read-column3 .ensures) ∙ job .job .given .1,
+    )
 
 pub read-line-spec : {M : Type 1} → statement M
 read-line-spec =

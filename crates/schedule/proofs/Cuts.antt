@@ -1,0 +1,118 @@
+-- A file that is read in parts, each but the last of whole lines, comes to what it comes to in one piece.
+use Prim.Native.Nat.{ℕ, zero, suc, _+_, _*_, _≤_}
+use native.Mathlib.Nat.{zero-add}
+use native.Mathlib.Omega.{arith}
+use mathlib.Core.Path.{_≡_, refl, sym, ap, _∙_}
+use mathlib.Core.Bool.{Bool, true, false, true≢false}
+use mathlib.Core.List as Lists
+use mathlib.Core.List.{[], _∷_, _++_, append-assoc, append-nil}
+use lib.ListN.{length, take, drop, length-append, length-drop}
+use lib.Seq.{take-append-le, drop-append-le, drop-drop, take-at, drop-at, take-all}
+use borrow.Author.Tests.{eq-eqb}
+use Rattle.transition.specs.Forms.{Form}
+use Rattle.moves.specs.Moves.{refusalNumber}
+use Rattle.schedule.specs.Sessions.{Session, isFinal, Served, standing, headerOf, serveOf}
+use Rattle.schedule.specs.Files.{cut, pieces, printed, headerPrinted, behind, runLines, fileRun}
+use Rattle.schedule.proofs.Runs.{final-run, run-on}
+
+-- LINES IN TWO GROUPS: the second goes on with the session that the first leaves
+
+behind-twice : {T : Type 0} (a b : Lists.List ℕ) (o : Served T) → behind a (behind b o) ≡ behind (a ++ b) o
+behind-twice a b o = ap (λ x. record { session = o .session; refusal = o .refusal; bytes = x }) (sym (append-assoc a b (o .bytes)))
+
+module _ (F : Form) where
+  run-final : (s : Session (F .Table)) (ls : Lists.List (Lists.List ℕ)) → isFinal s ≡ true → runLines F s ls ≡ standing s
+  run-final s ls e = final-run F s ls (λ z. true≢false (sym e ∙ rw (eq-eqb (refusalNumber (s .refusal)) 0 z) refl))
+
+  -- the run of the lines ms behind an outcome
+  abbrev pub runOn : Served (F .Table) → Lists.List (Lists.List ℕ) → Served (F .Table)
+  runOn o ms = behind (o .bytes) (runLines F (o .session) ms)
+
+  pub run-append : (ls ms : Lists.List (Lists.List ℕ)) (s : Session (F .Table)) → runLines F s (ls ++ ms) ≡ runOn (runLines F s ls) ms
+  unfolding runLines
+  run-append [] ms s = refl
+  run-append (l ∷ ls) ms s = go (isFinal s) refl (run-append ls ms)
+    where
+      go : (b : Bool) → isFinal s ≡ b → ((s′ : Session (F .Table)) → runLines F s′ (ls ++ ms) ≡ runOn (runLines F s′ ls) ms)
+          → runLines F s (l ∷ (ls ++ ms)) ≡ runOn (runLines F s (l ∷ ls)) ms
+      go true e ih = run-final s (l ∷ (ls ++ ms)) e ∙ sym (rw (run-final s (l ∷ ls) e) (run-final s ms e))
+      go false e ih =
+          let o = serveOf F s l 928 in
+          let p = printed (s .lines + 1) (o .refusal) (o .bytes) in
+          let r = runLines F (o .session) ls in
+          run-on F s l (ls ++ ms) e ∙ ap (behind p) (ih (o .session)) ∙ behind-twice p (r .bytes) (runLines F (r .session) ms)
+          ∙ sym (ap (λ x. runOn x ms) (run-on F s l ls e))
+
+-- BYTES IN TWO GROUPS, the first of whole lines
+
+pub cut-add : (k j : ℕ) (bs : Lists.List ℕ) → cut (k + j) bs ≡ cut k bs ++ cut j (drop (18 * k) bs)
+unfolding cut
+cut-add zero j bs = ap (λ i. cut i bs) (zero-add j)
+cut-add (suc k) j bs =
+    let n : suc k + j ≡ suc (k + j) = omega arith in
+    let m : 18 + 18 * k ≡ 18 * suc k = omega arith in
+    let rest : drop (18 * k) (drop 18 bs) ≡ drop (18 * suc k) bs = drop-drop (18 * k) 18 bs ∙ ap (λ i. drop i bs) m in
+    rw n (ap (λ l. take 18 bs ∷ l) (cut-add k j (drop 18 bs) ∙ ap (λ b. cut k (drop 18 bs) ++ cut j b) rest))
+
+cut-append : (k j : ℕ) (a b : Lists.List ℕ) → length a ≡ 18 * k → cut (k + j) (a ++ b) ≡ cut k a ++ cut j b
+unfolding cut
+cut-append zero j [] b h = ap (λ i. cut i b) (zero-add j)
+cut-append zero j (x ∷ a) b h = absurd (omega arith)
+cut-append (suc k) j a b h =
+    let n : suc k + j ≡ suc (k + j) = omega arith in
+    let long : 18 ≤ length a = omega arith in
+    let left : length (drop 18 a) ≡ 18 * k = rw length-drop (omega arith) in
+    rw (n, take-append-le 18 a b long, drop-append-le 18 a b long) (ap (λ l. take 18 a ∷ l) (cut-append k j (drop 18 a) b left))
+
+lines-append : (k : ℕ) (a b : Lists.List ℕ) → length a ≡ 18 * k → cut (pieces (a ++ b)) (a ++ b) ≡ cut (pieces a) a ++ cut (pieces b) b
+lines-append k a b h =
+    let whole : pieces (a ++ b) ≡ k + pieces b = rw (length-append a b, h) (omega arith) in
+    let first : pieces a ≡ k = rw h (omega arith) in
+    ap (λ i. cut i (a ++ b)) whole ∙ cut-append k (pieces b) a b h ∙ ap (λ i. cut i a ++ cut (pieces b) b) (sym first)
+
+-- PARTS
+
+abbrev pub joined : Lists.List (Lists.List ℕ) → Lists.List ℕ
+joined [] = []
+joined (p ∷ ps) = p ++ joined ps
+
+-- each part but the last is of whole lines
+abbrev pub Whole : Lists.List (Lists.List ℕ) → Type 0
+Whole [] = Unit {0}
+Whole (p ∷ []) = Unit {0}
+Whole (p ∷ (q ∷ ps)) = ((k : ℕ) × (length p ≡ 18 * k)) × Whole (q ∷ ps)
+
+module _ (F : Form) where
+  -- the run of the parts, each served by the session that the one before it left
+  abbrev pub runParts : Session (F .Table) → Lists.List (Lists.List ℕ) → Served (F .Table)
+  runParts s [] = standing s
+  runParts s (p ∷ ps) = let o = runLines F s (cut (pieces p) p) in behind (o .bytes) (runParts (o .session) ps)
+
+  parts-run : (ps : Lists.List (Lists.List ℕ)) (s : Session (F .Table)) → Whole ps → runLines F s (cut (pieces (joined ps)) (joined ps)) ≡ runParts s ps
+  unfolding runLines cut
+  parts-run [] s w = refl
+  parts-run (p ∷ []) s w =
+      let ls = cut (pieces p) p in
+      ap (λ b. runLines F s (cut (pieces b) b)) (append-nil p) ∙ ap (runLines F s) (sym (append-nil ls)) ∙ run-append F ls [] s
+  parts-run (p ∷ (q ∷ ps)) s w =
+      let b = joined (q ∷ ps) in
+      let o = runLines F s (cut (pieces p) p) in
+      ap (runLines F s) (lines-append (w .0 .0) p b (w .0 .1))
+      ∙ run-append F (cut (pieces p) p) (cut (pieces b) b) s
+      ∙ ap (behind (o .bytes)) (parts-run (q ∷ ps) (o .session) (w .1))
+
+  -- THE RUN OF A FILE in parts behind its first 18 bytes
+  pub parts-report : (h : Lists.List ℕ) (ps : Lists.List (Lists.List ℕ)) → length h ≡ 18 → Whole ps
+      → fileRun F (h ++ joined ps) ≡ behind (headerPrinted (headerOf F h)) (runParts (headerOf F h) ps)
+  unfolding fileRun
+  parts-report h ps e w =
+      rw (take-at h (joined ps) 18 e, drop-at h (joined ps) 18 e) (ap (behind (headerPrinted (headerOf F h))) (parts-run ps (headerOf F h) w))
+
+  -- and of one that ends within them
+  pub short-report : (h : Lists.List ℕ) → length h ≤ 18 → fileRun F h ≡ behind (headerPrinted (headerOf F h)) (standing (headerOf F h))
+  unfolding fileRun runLines cut
+  short-report h l = rw (take-all 18 h l, none (drop 18 h) (rw length-drop (omega arith))) refl
+    where
+      none : (b : Lists.List ℕ) → length b ≡ 0 → b ≡ []
+      none [] e = refl
+      none (x ∷ b) e = absurd (omega arith)

@@ -1,0 +1,57 @@
+-- The run of a schedule file on a table of any form, and its report (01, "The schedule file and the report").
+use Prim.Native.Nat.{ℕ, zero, suc, _+_, _/_}
+use mathlib.Core.Bool.{cond}
+use mathlib.Core.List as Lists
+use mathlib.Core.List.{[], _∷_, _++_}
+use lib.ListN.{length, take, drop}
+use lib.Dec.{eqb}
+use Rattle.columns.specs.Columns.{reportLine}
+use Rattle.transition.specs.Forms.{Form}
+use Rattle.moves.specs.Moves.{refusalNumber}
+use Rattle.schedule.specs.Sessions.{Session, isFinal, Served, standing, headerOf, serveOf}
+
+-- the input is cut every 18 bytes; the last piece may be short
+unfoldable pub cut : ℕ → Lists.List ℕ → Lists.List (Lists.List ℕ)
+cut zero bs = []
+cut (suc k) bs = take 18 bs ∷ cut k (drop 18 bs)
+
+abbrev pub pieces : Lists.List ℕ → ℕ
+pieces bs = (length bs + 17) / 18
+
+-- the lines of a file after its header
+abbrev pub stepLines : Lists.List ℕ → Lists.List (Lists.List ℕ)
+stepLines bs = let rest = drop 18 bs in cut (pieces rest) rest
+
+-- what a line prints: its report lines, or one line with its refusal
+abbrev pub refusalLine : ℕ → ℕ → Lists.List ℕ
+refusalLine number refusal = reportLine number refusal 0 0 0
+
+abbrev pub printed : ℕ → ℕ → Lists.List ℕ → Lists.List ℕ
+printed number refusal bytes = cond (eqb refusal 0) bytes (refusalLine number refusal)
+
+-- the header prints nothing if it is accepted
+abbrev pub headerPrinted : {T : Type 0} → Session T → Lists.List ℕ
+headerPrinted s = printed 1 (refusalNumber (s .refusal)) []
+
+-- an outcome with these bytes printed before it
+abbrev pub behind : {T : Type 0} → Lists.List ℕ → Served T → Served T
+behind bytes o = record { session = o .session; refusal = o .refusal; bytes = bytes ++ o .bytes }
+
+module _ (F : Form) where
+  -- the lines one after the other, up to a final refusal, with its number and all that they print; each has room for a whole scan result, 32 lines of 29
+  unfoldable pub runLines : Session (F .Table) → Lists.List (Lists.List ℕ) → Served (F .Table)
+  runLines s [] = standing s
+  runLines s (l ∷ ls) =
+      cond (isFinal s) (standing s)
+      (let o = serveOf F s l 928 in behind (printed (s .lines + 1) (o .refusal) (o .bytes)) (runLines (o .session) ls))
+
+  -- the header, then the lines after it
+  unfoldable pub fileRun : Lists.List ℕ → Served (F .Table)
+  fileRun bs = let s = headerOf F (take 18 bs) in behind (headerPrinted s) (runLines s (stepLines bs))
+
+  -- the bytes of the report, and the number of the file's final refusal, 0 if there is none
+  abbrev pub fileReport : Lists.List ℕ → Lists.List ℕ
+  fileReport bs = fileRun bs .bytes
+
+  abbrev pub fileRefusal : Lists.List ℕ → ℕ
+  fileRefusal bs = fileRun bs .refusal
