@@ -2,7 +2,7 @@
 use Prim.Native.Nat.{ℕ, _-_, _*_, _≤_, _<_}
 use native.Mathlib.Omega.{arith}
 use mathlib.Core.Path.{_≡_, refl, sym, ap, subst, _∙_}
-use mathlib.Core.Bool.{Bool, true, false, cond}
+use mathlib.Core.Bool.{Bool, true, false, cond, true≢false}
 use mathlib.Core.List as Lists
 use mathlib.Core.List.{[]}
 use lib.ListN.{length, getD}
@@ -10,25 +10,26 @@ use borrow.Author.Tests.{leb-true}
 use Rattle.basics.specs.Tests.{within, newest}
 use Rattle.basics.proofs.Facts.{within-true}
 use Rattle.rows.specs.Held.{standsIn, Orderly}
+use Rattle.rows.proofs.OrderLaws.{listed-below, order-front}
 use Rattle.simulation.specs.Calls as Calls
-use Rattle.simulation.specs.Calls.{Call, place, judgeIn, judge}
+use Rattle.simulation.specs.Calls.{Call, place, judgeIn, judge, reportLines}
 use Rattle.simulation.specs.Machine as Machine
 use Rattle.simulation.specs.Machine.{original, digits, labelStep, moved, step}
 use Rattle.simulation.proofs.Judged.{Verdict, turned, begins, updates, snaps, ends, judge-stranger, verdict, Inside}
 use Rattle.transition.specs.Forms.{Answer, over, answered, stepOf}
 use Rattle.transition.specs.Sequences.{Steps}
 use Rattle.transition.proofs.Theorem.{step-written}
-use Rattle.moves.specs.Moves.{refusalNumber, moveOf, numberOf, placeOf}
-use Rattle.moves.proofs.MoveLaws.{begun-job, place-below}
-use Rattle.arrays.specs.Arrays.{Arrays, arrays, cell, phaseFor, restOf, stateOf, arraysOf}
+use Rattle.moves.specs.Moves.{refusalNumber, moveOf, kindOf}
+use Rattle.moves.proofs.MoveLaws.{begun-job, place-below, same-kind}
+use Rattle.arrays.specs.Arrays.{Rows, Planes, Arrays, arrays, cell, phaseFor, restOf, stateOf}
 use Rattle.arrays.specs.WellFormed.{wellFormed}
 use Rattle.arrays.specs.Form.{lent}
 use Rattle.arrays.specs.Sizes.{Shaped}
 use Rattle.arrays.proofs.Passed.{passed, label-digits}
-use Rattle.engine.specs.Stores.{orderOf}
-use Rattle.engine.specs.Contracts.{callOf, actionOf, Ready, doneOf, Carries, Judges}
-use Rattle.engine.proofs.Stays.{by-move}
-use Rattle.engine.proofs.Carried.{Own}
+use Rattle.engine.specs.Stores.{put, orderOf, labelsAfter, jobsAfter, phaseAfter, resultsAfter, handedOut}
+use Rattle.engine.specs.Contracts.{callOf, actionOf, Replies, Ready, doneOf, Carries, Judges}
+use Rattle.engine.proofs.Stays.{by-move, same-labels, same-results, same-phase, same-handed}
+use Rattle.engine.proofs.Carried.{Own, number-told, arrays-written, bytes-told}
 use Rattle.moves.specs.declared.Move.{Move}
 use Rattle.moves.specs.declared.Move.the-variants.{BeginLabel, SnapLabel, SnapScan, EndScan}
 use Rattle.engine.specs.declared.Reply.{Reply}
@@ -45,6 +46,21 @@ own-move k job = by-move (λ m. Own k (moveOf k job m)) (λ x. tt) refl refl ref
 
 pub own-inside : (n k job : ℕ) → k < n → (m : Move) → Inside n (labelStep (moveOf k job m))
 own-inside n k job h = by-move (λ m. Inside n (labelStep (moveOf k job m))) (λ x. tt) tt tt h tt h tt tt
+
+-- the one move that is a snap for a scan
+abbrev isScan : Calls.Move → Bool
+isScan (Calls.Move.refused x) = false
+isScan (Calls.Move.begins k job o) = false
+isScan (Calls.Move.updates k) = false
+isScan (Calls.Move.snaps k Calls.Label) = false
+isScan (Calls.Move.snaps k Calls.Scan) = true
+isScan (Calls.Move.ends k o) = false
+
+is-scan : (k job : ℕ) (m : Move) → isScan (moveOf k job m) ≡ true → m ≡ SnapScan
+is-scan k job = by-move (λ m. isScan (moveOf k job m) ≡ true → m ≡ SnapScan) (λ x. no) no no no (λ e. refl) no no no
+  where
+    no : {m : Move} → false ≡ true → m ≡ SnapScan
+    no e = absurd (true≢false (sym e))
 
 -- the end of a scan that is judged so has room for its report
 abbrev Roomy : ℕ → ℕ → Calls.Move → Type 0
@@ -115,3 +131,50 @@ module _ (a : Arrays) (ok : wellFormed a ≡ true) (q : Request) (room top : ℕ
         count = f .count ∙ ap (λ (u : Answer Arrays). length (u .bytes)) s;
         report = f .report ∙ ap (λ (u : Answer Arrays). over (u .bytes) buffer) s;
       }
+
+-- WHAT THE PARTS OF A TASK ASK FOR, and that a task whose parts are done is carried out
+module _ {a : Arrays} {x : Task} {order : Lists.List ℕ} {room : ℕ} (s : Ready a x order room) where
+  pub in-arrays : (x .place < 32) × (a .count ≤ 32)
+  in-arrays = (omega (arith, s .inside, passed a (s .passed) .high), passed a (s .passed) .high)
+
+  pub in-table : (x .place < a .count) × (a .count ≤ 32)
+  in-table = (s .inside, passed a (s .passed) .high)
+
+  pub snap-asks : x .action ≡ SnapLabel
+      → Orderly (a .count) (getD (a .labels) 0 []) × (x .newest ≡ newest (a .count) (standsIn (a .count) (getD (a .labels) 0 [])))
+  snap-asks e = (orderly a (s .passed), s .isNewest e)
+
+  pub scan-asks : x .action ≡ SnapScan → (p : ℕ) → p < a .count → getD order p 0 < 32
+  scan-asks e p h = omega (arith, in-arrays, listed-below _ _ _ (order-front 32 (standsIn (a .count) (getD (a .labels) 0 [])) (a .count) order (s .isOrder e)) p h)
+
+  scans : actionOf x ≡ Calls.Move.snaps (x .place) Calls.Scan → order ≡ orderOf (a .count) (getD (a .labels) 0 [])
+  scans e = s .isOrder (is-scan (x .place) (x .job) (x .action) (ap isScan e))
+
+  pub carried : Shaped a → {buffer buffer′ : Lists.List ℕ} {r : Reply} → Replies (a .count) (x .line) (kindOf (x .action)) (getD (a .results) (x .place) []) buffer r buffer′
+      → {l s′ : Planes} {j : Rows} {v : ℕ} → l ≡ labelsAfter (a .count) (a .labels) (labelStep (moveOf (x .place) 0 (x .action)))
+      → j ≡ jobsAfter (a .jobs) (actionOf x) → v ≡ phaseAfter (cell (a .control) 0 (x .place) 0) (kindOf (x .action))
+      → s′ ≡ resultsAfter (a .count) order (getD (a .jobs) 0 []) (a .results) (moveOf (x .place) 0 (x .action))
+      → Carries a x buffer (arrays (a .count) l j (put (a .control) 0 (x .place) v) s′) r buffer′
+  carried g {buffer} told el ej ev es =
+      let k = x .place in
+      let w = actionOf x in
+      let n = a .count in
+      let bytes : reportLines (x .line) 1 (handedOut n (getD (a .results) k []) (kindOf (x .action))) ≡ doneOf a x .bytes
+      = ap (reportLines (x .line) 1) (same-handed k (x .job) n (getD (a .results) k []) (x .action)) ∙ bytes-told a g (s .passed) k (s .inside) w own within order scans (x .line) in
+      record {
+        table = (λ i. arrays n
+            ((el ∙ ap (labelsAfter n (a .labels)) (same-labels k (x .job) (x .action))) i)
+            (ej i)
+            (put (a .control) 0 k ((ev ∙ same-phase k (x .job) (cell (a .control) 0 k 0) (x .action)) i))
+            ((es ∙ same-results k (x .job) n order (getD (a .jobs) 0 []) (a .results) (x .action)) i))
+            ∙ arrays-written a g (s .passed) k (s .inside) w own within order scans (x .line);
+        number = told .number ∙ same-kind k (x .job) (x .action) ∙ number-told a g (s .passed) w;
+        count = told .count ∙ ap length bytes;
+        report = told .report ∙ ap (λ b. over b buffer) bytes;
+      }
+    where
+      own : Own (x .place) (actionOf x)
+      own = own-move (x .place) (x .job) (x .action)
+
+      within : Inside (a .count) (labelStep (actionOf x))
+      within = own-inside (a .count) (x .place) (x .job) (s .inside) (x .action)

@@ -1,6 +1,7 @@
 -- What a move leaves alone: each array under the moves that have no arm for it, and everything but the jobs when only the job differs.
 use Prim.Native.Nat.{ℕ}
-use mathlib.Core.Path.{_≡_, refl}
+use mathlib.Core.Path.{_≡_, refl, subst}
+use mathlib.Core.Logic.{_≢_}
 use mathlib.Core.List as Lists
 use mathlib.Core.List.{[], _∷_}
 use types.Run.{OneOf, miss}
@@ -76,3 +77,10 @@ same-phase k job old = by-move (λ m. phaseAfter old (kindOf m) ≡ phaseAfter o
 
 pub same-handed : (k job n : ℕ) (rows : Rows) (m : Move) → handedOut n rows (kindOf m) ≡ handedOut n rows (moveOf k job m)
 same-handed k job n rows = by-move (λ m. handedOut n rows (kindOf m) ≡ handedOut n rows (moveOf k job m)) (λ x. refl) refl refl refl refl refl refl refl
+
+-- a move that is no snap for a label, or for a scan
+pub no-snap : (m : Move) → Among (0 ∷ 1 ∷ 2 ∷ 4 ∷ 5 ∷ 6 ∷ 7 ∷ []) m → m ≢ SnapLabel
+no-snap m h e = miss (0 ∷ 1 ∷ 2 ∷ 4 ∷ 5 ∷ 6 ∷ 7 ∷ []) 3 tt (subst (Among (0 ∷ 1 ∷ 2 ∷ 4 ∷ 5 ∷ 6 ∷ 7 ∷ [])) e h)
+
+pub no-scan : (m : Move) → Among keepResults m → m ≢ SnapScan
+no-scan m h e = miss keepResults 4 tt (subst (Among keepResults) e h)

@@ -1,0 +1,51 @@
+use native.Mathlib.Omega.{arith}
+use mathlib.Core.Path.{refl, ap, _∙_}
+use Rattle.simulation.specs.Calls.{judgeIn}
+use Rattle.moves.specs.Moves.{moveOf}
+use Rattle.moves.proofs.MoveLaws.{place-below}
+use Rattle.engine.specs.Contracts.{callOf}
+use borrow.Author.Needs.{needs}
+use Rattle.engine.proofs.judge.Statement.{statement}
+use Rattle.engine.proofs.judge.Tie as tie
+
+place-of-requires : tie.Need-place-of-requires
+place-of-requires c κs = search needs
+
+index-1-phase-of : tie.Need-index-1-phase-of
+index-1-phase-of c = search needs
+
+index-2-phase-of : tie.Need-index-2-phase-of
+index-2-phase-of c =
+    let s = c .before in
+    omega (arith, s .pre, place-below (s .args .n) (s .args .q .station) (s .pre .0), c .place-of .ensures)
+
+phase-of-requires : tie.Need-phase-of-requires
+phase-of-requires c κs = search needs
+
+judge-requires : tie.Need-judge-requires
+judge-requires c κs = search needs
+
+returns : tie.Need-returns
+returns c =
+    let k = c .before .before .before in
+    let s = k .before in
+    let q = s .args .q in
+    record {
+      place = k .place-of .ensures;
+      action = ap (λ i. moveOf i (q .job) (c .judge .result)) (k .place-of .ensures) ∙ c .judge .ensures (q .line)
+          ∙ ap (λ p. judgeIn (s .args .n) p (callOf q (s .args .room))) (c .before .phase-of .ensures);
+      job = refl;
+      line = refl;
+      newest = refl;
+    }
+
+pub judge-spec : {M : Type 1} → statement M
+judge-spec =
+    tie.close
+    (tie.spec
+    place-of-requires
+    index-1-phase-of
+    index-2-phase-of
+    phase-of-requires
+    judge-requires
+    returns)

@@ -1,0 +1,19 @@
+use Rattle.engine.proofs.Stays.{no-snap}
+use borrow.Author.Needs.{needs}
+use Rattle.engine.proofs.newest_for.Statement.{statement}
+use Rattle.engine.proofs.newest_for.Tie as tie
+
+enum-told : tie.Need-enum-told
+enum-told c = search needs
+
+newest-requires : tie.Need-newest-requires
+newest-requires c κs = search needs
+
+returns : tie.Need-returns
+returns c = search needs
+
+returns-2 : tie.Need-returns-2
+returns-2 c = λ e. absurd (no-snap (c .before .args .m) (c .match .keys2) e)
+
+pub newest-for-spec : {M : Type 1} → statement M
+newest-for-spec = tie.close (tie.spec enum-told newest-requires returns returns-2)

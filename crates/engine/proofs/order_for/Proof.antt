@@ -1,0 +1,19 @@
+use Rattle.engine.proofs.Stays.{no-scan}
+use borrow.Author.Needs.{needs}
+use Rattle.engine.proofs.order_for.Statement.{statement}
+use Rattle.engine.proofs.order_for.Tie as tie
+
+enum-told : tie.Need-enum-told
+enum-told c = search needs
+
+order-requires : tie.Need-order-requires
+order-requires c κs = search needs
+
+returns : tie.Need-returns
+returns c = search needs
+
+returns-2 : tie.Need-returns-2
+returns-2 c = λ e. absurd (no-scan (c .before .args .m) (c .match .keys2) e)
+
+pub order-for-spec : {M : Type 1} → statement M
+order-for-spec = tie.close (tie.spec enum-told order-requires returns returns-2)
