@@ -1,3 +1,4 @@
 pub mod Passed
 pub mod States
 pub mod Fresh
+pub mod Samples

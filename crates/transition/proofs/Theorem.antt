@@ -153,3 +153,18 @@ module _ (F : Form) (L : Lawful F) (n : ℕ) (low : 2 ≤ n) (high : n ≤ 32) w
   unfolding after
   table-after [] t r = r
   table-after (c ∷ calls) t r = table-after calls (stepOf F t c .table) (table-step t r c)
+
+-- the state that some calls leave is the same in every lawful form
+pub same-after : (F G : Form) → Lawful F → Lawful G → (n : ℕ) → 2 ≤ n → n ≤ 32 → (cs : Lists.List Call)
+    → F .state (after F (freshTable F n) cs) ≡ G .state (after G (freshTable G n) cs)
+unfolding after
+same-after F G L M n low high cs = machine F L cs (fresh (λ p. 1) n) (reached-fresh n (omega arith)) ∙ sym (machine G M cs (fresh (λ p. 1) n) (reached-fresh n (omega arith)))
+  where
+    left : State Labels.Label → Lists.List Call → State Labels.Label
+    left s [] = s
+    left s (c ∷ cs) = left (step original n (digits n) s c .state) cs
+
+    machine : (F : Form) → Lawful F → (cs : Lists.List Call) (s : State Labels.Label) → Reached n s → F .state (after F (F .written n s) cs) ≡ left s cs
+    machine F L [] s r = L .held n high s (r .writable)
+    machine F L (c ∷ cs) s r = ap (λ (a : Answer (F .Table)). F .state (after F (a .table) cs)) (reached-written F L n low high r c)
+        ∙ machine F L cs (step original n (digits n) s c .state) (reached-next F L n low high r c)
