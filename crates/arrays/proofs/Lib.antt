@@ -2,3 +2,4 @@ pub mod Passed
 pub mod States
 pub mod Fresh
 pub mod Samples
+pub mod PaperRule
