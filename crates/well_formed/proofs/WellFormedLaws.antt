@@ -1,6 +1,6 @@
 -- What the tests of single rows say of the table that the arrays hold.
-use Prim.Native.Nat.{ℕ, zero, suc, _+_, _-_, _≤_, _<_}
-use native.Mathlib.Nat.{zero-add, le-of-suc-le-suc, not-suc-le-zero}
+use Prim.Native.Nat.{ℕ, zero, suc, _+_, _-_, _^_, _%_, _≤_, _<_}
+use native.Mathlib.Nat.{zero-add, le-of-suc-le-suc, not-suc-le-zero, mod-eq-of-lt}
 use native.Mathlib.Omega.{arith}
 use native.Mathlib.Decide.{decLt}
 use mathlib.Core.Path.{_≡_, refl, sym, ap, ap₂, _∙_}
@@ -10,7 +10,7 @@ use mathlib.Core.List as Lists
 use mathlib.Core.List.{List, [], _∷_}
 use lib.ListN.{length, getD}
 use lib.Dec.{eqb, leb, ltb}
-use borrow.Author.Tests.{eqb-true, eq-eqb, ne-eqb, leb-true, le-leb, lt-leb, lt-ltb, le-ltb}
+use borrow.Author.Tests.{eqb-true, eq-eqb, ne-eqb, leb-true, le-leb, lt-leb, ltb-true, lt-ltb, le-ltb}
 use base.Fml.{Fml}
 use mir.Val.{Val}
 use denote.Shadow.{shadow}
@@ -43,6 +43,14 @@ each-holds f P told z (x ∷ xs) (u ∷ us) s zero h = told x (u ∷ []) (s .0)
 each-holds f P told z (x ∷ xs) (u ∷ us) s (suc i) h = each-holds f P told z xs us (s .1) i (le-of-suc-le-suc h)
 
 -- LABELS
+
+-- a digit d from 1 to t, by s, which is d less 1, and the greatest byte for 0
+pub from-one : (d t s : ℕ) → s < 256 → t < 256 → (s + 1) % 2 ^ 8 ≡ d → ltb s t ≡ within 1 t d
+from-one d t s b u e = same-test _ _
+    (λ h. let l = ltb-true s t h in let q : s + 1 ≡ d = sym (mod-eq-of-lt (omega arith)) ∙ e in within-of 1 t d (omega arith) (omega arith))
+    (λ h. let w = within-true 1 t d h in by-cases (decLt s 255)
+        (λ l. let q : s + 1 ≡ d = sym (mod-eq-of-lt (omega arith)) ∙ e in lt-ltb s t (omega arith))
+        (λ l. let z : s ≡ 255 = omega arith in let q : 0 ≡ d = rw z at e in absurd (omega arith)))
 
 -- both halves of a row of 31
 pub halves : (f : ℕ → Bool) → (every 16 (λ p. f (0 + p)) && every 16 (λ p. f (15 + p))) ≡ every 31 f

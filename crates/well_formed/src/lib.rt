@@ -28,6 +28,13 @@ fn top_digits(m: usize) -> [u8; 31]
     r
 }
 
+// Whether a digit is from 1 to `top`, by one comparison: 0 less 1 is the greatest byte.
+fn digit_fits(d: u8, top: u8) -> bool
+    ensures { λ r. ⌜ r ≡ within 1 top d ⌝ }
+{
+    std::num::wrapping_sub_u8(d, 1) < top
+}
+
 // Whether each of the 16 digits from position h on is from 1 to the greatest there.
 fn half_fits(label: &[u8; 31], top: &[u8; 31], h: usize) -> bool
     requires { ⌜ h ≤ 15 ⌝ }
@@ -36,9 +43,7 @@ fn half_fits(label: &[u8; 31], top: &[u8; 31], h: usize) -> bool
     let mut r = true;
     let mut p: usize = 0;
     while p < 16 {
-        let d = label[h + p];
-        let t = top[h + p];
-        if d < 1 || t < d {
+        if !digit_fits(label[h + p], top[h + p]) {
             r = false;
         }
         p += 1;

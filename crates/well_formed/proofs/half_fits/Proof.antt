@@ -3,11 +3,8 @@ use native.Mathlib.Omega.{arith}
 use mathlib.Core.Path.{_≡_, _∙_}
 use mathlib.Core.Logic.{⊎-elim}
 use lib.ListN.{getD}
-use lib.Dec.{leb}
-use borrow.Author.Tests.{le-leb, lt-leb, ltb-true, ltb-false}
 use Rattle.basics.specs.Tests.{within, every}
-use Rattle.basics.proofs.Loops.{flag-up, flag-down, flag-stays, flag-end}
-use Rattle.basics.proofs.Facts.{both, left-no, right-no}
+use Rattle.basics.proofs.Loops.{flag-up, flag-down, flag-stays, flag-end, was-false, was-true}
 use borrow.Author.Needs.{needs}
 use Rattle.well_formed.proofs.half_fits.Statement.{statement}
 use Rattle.well_formed.proofs.half_fits.Tie as tie
@@ -21,17 +18,20 @@ abbrev μ-loop : tie.MeasureT-loop
 loop-holds : tie.Need-loop-holds Inv-loop μ-loop
 loop-holds c = (search needs, flag-up _)
 
-add-d : tie.Need-add-d Inv-loop μ-loop
-add-d c = search needs
+add-digit-fits : tie.Need-add-digit-fits Inv-loop μ-loop
+add-digit-fits c = search needs
 
-element-copy-out-d : tie.Need-element-copy-out-d Inv-loop μ-loop
-element-copy-out-d c = search needs
+element-copy-out-digit-fits : tie.Need-element-copy-out-digit-fits Inv-loop μ-loop
+element-copy-out-digit-fits c = search needs
 
-add-t : tie.Need-add-t Inv-loop μ-loop
-add-t c = search needs
+add-digit-fits-2 : tie.Need-add-digit-fits-2 Inv-loop μ-loop
+add-digit-fits-2 c = search needs
 
-element-copy-out-t : tie.Need-element-copy-out-t Inv-loop μ-loop
-element-copy-out-t c = search needs
+element-copy-out-digit-fits-2 : tie.Need-element-copy-out-digit-fits-2 Inv-loop μ-loop
+element-copy-out-digit-fits-2 c = search needs
+
+digit-fits-requires : tie.Need-digit-fits-requires Inv-loop μ-loop
+digit-fits-requires c κs = search needs
 
 add-p : tie.Need-add-p Inv-loop μ-loop
 add-p c = search needs
@@ -41,18 +41,11 @@ loop-less c = search needs
 
 loop-again : tie.Need-loop-again Inv-loop μ-loop
 loop-again c =
-    let b = c .before .before .before .before in
-    let a = b .before .args in
+    let b = c .before .before .before .before .before in
     let p = b .loop .p in
-    let d = getD (a .label .now) (a .h + p) 0 in
-    let t = getD (a .top .now) (a .h + p) 0 in (
+    let s = c .before .digit-fits .ensures in (
       search needs,
-      ⊎-elim (λ w. w .1 ∙ flag-down p _ (⊎-elim
-              (λ v. left-no (leb d t) (lt-leb 1 d (omega (arith, v .taken))))
-              (λ v. right-no (leb 1 d) (lt-leb d t (ltb-true t d (v .1 .taken))))
-              (w .0 .came)))
-          (λ w. w .2 ∙ flag-stays p _ (b .loop .inv .1) (both (le-leb 1 d (omega (arith, w .0 .left))) (le-leb d t (ltb-false t d (w .1 .left)))))
-          (c .if1 .came),
+      ⊎-elim (λ w. w .1 ∙ flag-down p _ (was-false s (w .0 .taken))) (λ w. w .1 ∙ flag-stays p _ (b .loop .inv .1) (was-true s (w .0 .left))) (c .if1 .came),
     )
 
 returns : tie.Need-returns Inv-loop μ-loop
@@ -65,10 +58,11 @@ half-fits-spec =
     Inv-loop
     μ-loop
     loop-holds
-    add-d
-    element-copy-out-d
-    add-t
-    element-copy-out-t
+    add-digit-fits
+    element-copy-out-digit-fits
+    add-digit-fits-2
+    element-copy-out-digit-fits-2
+    digit-fits-requires
     add-p
     loop-less
     loop-again
