@@ -16,10 +16,12 @@ use mir.Val.{Val}
 use denote.Shadow.{shadow}
 use denote.Array.{each}
 use Rattle.basics.specs.Tests.{within, every, count, tabulate}
-use Rattle.basics.proofs.Facts.{and-both, both, left-no, right-no, tf, is-false, within-true, within-of, every-all, every-at, every-same, getD-tabulate, getD-any}
+use Rattle.basics.proofs.Facts.{and-both, both, left-no, right-no, tf, is-false, within-true, within-of, every-all, every-at, every-same, getD-tabulate, tabulate-same, getD-any}
+use Rattle.basics.proofs.Filled.{filled}
 use Rattle.basics.proofs.Loops.{and-yes}
 use Rattle.basics.proofs.Counts.{count-same}
 use Rattle.label.specs.Rows.{digit, rowFits, noRing}
+use Rattle.well_formed.specs.Halves.{halfTops, topDigits, halfFits, labelFits, labelsFit}
 use Rattle.arrays.specs.Arrays.{Arrays, Rows, plane, cell, labelRow, rowsAt}
 use Rattle.arrays.specs.WellFormed.{resultFits, resultFresh, stationFits, placeFresh, wellFormed}
 
@@ -52,53 +54,47 @@ from-one d t s b u e = same-test _ _
         (λ l. let q : s + 1 ≡ d = sym (mod-eq-of-lt (omega arith)) ∙ e in lt-ltb s t (omega arith))
         (λ l. let z : s ≡ 255 = omega arith in let q : 0 ≡ d = rw z at e in absurd (omega arith)))
 
--- both halves of a row of 31
-pub halves : (f : ℕ → Bool) → (every 16 (λ p. f (0 + p)) && every 16 (λ p. f (15 + p))) ≡ every 31 f
-halves f = same-test _ _
-    (λ e. let h = and-both (every 16 (λ p. f (0 + p))) (every 16 (λ p. f (15 + p))) e in every-all 31 f (λ p l. by-cases (decLt p 15)
-        (λ u. ap f (sym (zero-add p)) ∙ every-at 16 _ (h .0) p (omega arith))
-        (λ u. let q : p ≡ 15 + (p - 15) = omega arith in ap f q ∙ every-at 16 _ (h .1) (p - 15) (omega arith))))
-    (λ e. both (every-all 16 _ (λ p l. every-at 31 f e (0 + p) (omega arith))) (every-all 16 _ (λ p l. every-at 31 f e (15 + p) (omega arith))))
-
--- a row within the greatest digits of a label of m
+-- a label that fits by halves is a row that fits
 module _ (m : ℕ) (l : List ℕ) (h : m ≤ 31) (long : length l ≡ 31) where
-  abbrev topAt : ℕ → ℕ
-  topAt p = getD (tabulate 31 0 (λ q. cond (ltb q m) 5 1)) p 0
+  abbrev fits-at : ℕ → Bool
+  fits-at p = within 1 (cond (ltb p m) 5 1) (digit l p)
 
-  top-at : (p : ℕ) → p < 31 → topAt p ≡ cond (ltb p m) 5 1
-  top-at p u = getD-tabulate 31 0 p (λ q. cond (ltb q m) 5 1) 0 u ∙ ap (λ q. cond (ltb q m) 5 1) (zero-add p)
+  half : (s : ℕ) → s ≤ 15 → halfFits (halfTops m s) l s ≡ every 16 (λ p. fits-at (s + p))
+  half s b = every-same 16 _ _ (λ p u. ap₂ (within 1) (getD-tabulate 16 0 p (λ q. cond (ltb (s + q) m) 5 1) 0 u ∙ ap (λ q. cond (ltb (s + q) m) 5 1) (zero-add p))
+      (getD-any l (s + p) 0 1 (omega arith)))
 
-  pub row-fits : every 31 (λ p. within 1 (topAt p) (getD l p 0)) ≡ rowFits 31 m l
+  -- both halves
+  halves : (every 16 (λ p. fits-at (0 + p)) && every 16 (λ p. fits-at (15 + p))) ≡ every 31 fits-at
+  halves = same-test _ _
+      (λ e. let b = and-both (every 16 (λ p. fits-at (0 + p))) (every 16 (λ p. fits-at (15 + p))) e in every-all 31 fits-at (λ p u. by-cases (decLt p 15)
+          (λ v. ap fits-at (sym (zero-add p)) ∙ every-at 16 _ (b .0) p (omega arith))
+          (λ v. let q : p ≡ 15 + (p - 15) = omega arith in ap fits-at q ∙ every-at 16 _ (b .1) (p - 15) (omega arith))))
+      (λ e. both (every-all 16 _ (λ p u. every-at 31 fits-at e (0 + p) (omega arith))) (every-all 16 _ (λ p u. every-at 31 fits-at e (15 + p) (omega arith))))
+
+  -- the first m positions, and those past them
+  here : (p : ℕ) → p < m → fits-at p ≡ within 1 5 (digit l p)
+  here p u = rw (lt-ltb p m u) refl
+
+  past : (p : ℕ) → fits-at (m + p) ≡ eqb (digit l (m + p)) 1
+  past p = rw (le-ltb (m + p) m (omega arith)) (same-test _ _
+      (λ e. let w = within-true 1 1 (digit l (m + p)) e in eq-eqb (digit l (m + p)) 1 (omega arith))
+      (λ e. let d = eqb-true (digit l (m + p)) 1 e in within-of 1 1 (digit l (m + p)) (omega arith) (omega arith)))
+
+  parts : every 31 fits-at ≡ rowFits 31 m l
   unfolding rowFits
-  row-fits = same-test _ _ to from
-    where
-      read : (p : ℕ) → p < 31 → getD l p 0 ≡ digit l p
-      read p u = getD-any l p 0 1 (omega arith)
+  parts = same-test _ _
+      (λ e. both (every-all m _ (λ p u. sym (here p u) ∙ every-at 31 fits-at e p (omega arith)))
+          (every-all (31 - m) _ (λ p u. sym (past p) ∙ every-at 31 fits-at e (m + p) (omega arith))))
+      (λ e. let b = and-both (every m (λ p. within 1 5 (digit l p))) (every (31 - m) (λ p. eqb (digit l (m + p)) 1)) e in every-all 31 fits-at (λ p u. by-cases (decLt p m)
+          (λ v. here p v ∙ every-at m _ (b .0) p v)
+          (λ v. let q : p ≡ m + (p - m) = omega arith in ap fits-at q ∙ past (p - m) ∙ every-at (31 - m) _ (b .1) (p - m) (omega arith))))
 
-      to : every 31 (λ p. within 1 (topAt p) (getD l p 0)) ≡ true → (every m (λ p. within 1 5 (digit l p)) && every (31 - m) (λ p. eqb (digit l (m + p)) 1)) ≡ true
-      to e = both (every-all m _ first) (every-all (31 - m) _ past)
-        where
-          at : (p : ℕ) → p < 31 → (1 ≤ digit l p) × (digit l p ≤ cond (ltb p m) 5 1)
-          at p u = let w = within-true 1 (topAt p) (getD l p 0) (every-at 31 _ e p u) in (rw (read p u) at (w .0), rw (read p u, top-at p u) at (w .1))
+  pub row-fits : labelFits (topDigits m) l ≡ rowFits 31 m l
+  row-fits = ap₂ _&&_ (half 0 (omega arith)) (half 15 (omega arith)) ∙ halves ∙ parts
 
-          first : (p : ℕ) → p < m → within 1 5 (digit l p) ≡ true
-          first p u = let w = at p (omega arith) in within-of 1 5 (digit l p) (w .0) (rw (lt-ltb p m u) at (w .1))
-
-          past : (p : ℕ) → p < 31 - m → eqb (digit l (m + p)) 1 ≡ true
-          past p u = let w = at (m + p) (omega arith) in let z = rw (le-ltb (m + p) m (omega arith)) at (w .1) in eq-eqb (digit l (m + p)) 1 (omega arith)
-
-      from : (every m (λ p. within 1 5 (digit l p)) && every (31 - m) (λ p. eqb (digit l (m + p)) 1)) ≡ true → every 31 (λ p. within 1 (topAt p) (getD l p 0)) ≡ true
-      from e = every-all 31 _ (λ p u. rw (read p u, top-at p u) (at p u))
-        where
-          both-parts : (every m (λ p. within 1 5 (digit l p)) ≡ true) × (every (31 - m) (λ p. eqb (digit l (m + p)) 1) ≡ true)
-          both-parts = and-both (every m (λ p. within 1 5 (digit l p))) (every (31 - m) (λ p. eqb (digit l (m + p)) 1)) e
-
-          at : (p : ℕ) → p < 31 → within 1 (cond (ltb p m) 5 1) (digit l p) ≡ true
-          at p u = by-cases (decLt p m)
-              (λ v. rw (lt-ltb p m v) (every-at m _ (both-parts .0) p v))
-              (λ v. rw (le-ltb p m (omega arith)) (let q : p ≡ m + (p - m) = omega arith in
-                let d : digit l p ≡ 1 = ap (digit l) q ∙ eqb-true (digit l (m + (p - m))) 1 (every-at (31 - m) _ (both-parts .1) (p - m) (omega arith)) in
-                within-of 1 1 (digit l p) (omega arith) (omega arith)))
+-- an array that is filled to its end
+pub all-filled : {A : Type 0} (w : ℕ) (f : ℕ → A) (z : A) → filled w w f z ≡ tabulate w 0 f
+all-filled w f z = tabulate-same w 0 _ _ (λ k h. rw (lt-ltb k w (omega arith)) refl)
 
 -- RESULTS
 
@@ -138,18 +134,15 @@ fresh-rows n rows fresh e = ap₂ _&&_
 
 -- the labels of a plane: n that fit, and those past them
 module _ (n : ℕ) (rows : Rows) (low : 1 ≤ n) (high : n ≤ 32) (long : (i : ℕ) → i < 32 → length (getD rows i []) ≡ 31) where
-  abbrev within-top : List ℕ → ℕ → Bool
-  within-top top i = every 31 (λ p. within 1 (getD top p 0) (getD (getD rows i []) p 0))
+  rows-within : (m i k : ℕ) (tops : Rows) → tops ≡ topDigits m → m ≤ 31 → i + k ≤ 32
+      → every k (λ j. labelFits tops (getD rows (i + j) [])) ≡ every k (λ j. rowFits 31 m (getD rows (i + j) []))
+  rows-within m i k tops e h l = every-same k _ _
+      (λ j u. ap (λ t. labelFits t (getD rows (i + j) [])) e ∙ row-fits m (getD rows (i + j) []) h (long (i + j) (omega arith)))
 
-  rows-within : (m i k : ℕ) (top : List ℕ) → top ≡ tabulate 31 0 (λ p. cond (ltb p m) 5 1) → m ≤ 31 → i + k ≤ 32
-      → every k (λ j. within-top top (i + j)) ≡ every k (λ j. rowFits 31 m (getD rows (i + j) []))
-  rows-within m i k top e h l = every-same k _ _ (λ j u. ap (λ t. within-top t (i + j)) e ∙ row-fits m (getD rows (i + j) []) h (long (i + j) (omega arith)))
-
-  pub plane-fits : (top ones : List ℕ) → top ≡ tabulate 31 0 (λ p. cond (ltb p (n - 1)) 5 1) → ones ≡ tabulate 31 0 (λ p. cond (ltb p 0) 5 1)
-      → (every n (λ j. within-top top (0 + j)) && every (32 - n) (λ j. within-top ones (n + j)))
-        ≡ (every n (λ i. rowFits 31 (n - 1) (getD rows i [])) && every (32 - n) (λ i. rowFits 31 0 (getD rows (n + i) [])))
-  plane-fits top ones e f = ap₂ _&&_
-      (rows-within (n - 1) 0 n top e (omega arith) (omega arith) ∙ every-same n _ _ (λ i _. ap (λ k. rowFits 31 (n - 1) (getD rows k [])) (zero-add i)))
+  pub plane-fits : (most ones : Rows) → most ≡ topDigits (n - 1) → ones ≡ topDigits 0
+      → (every n (λ j. labelFits most (getD rows (0 + j) [])) && every (32 - n) (λ j. labelFits ones (getD rows (n + j) []))) ≡ labelsFit n rows
+  plane-fits most ones e f = ap₂ _&&_
+      (rows-within (n - 1) 0 n most e (omega arith) (omega arith) ∙ every-same n _ _ (λ i _. ap (λ k. rowFits 31 (n - 1) (getD rows k [])) (zero-add i)))
       (rows-within 0 n (32 - n) ones f (omega arith) (omega arith))
 
 -- THE WHOLE

@@ -1,31 +1,45 @@
 // The test of refusal 13 on a table in four arrays. A row is read to its end, fault or no fault: such loops compile to vector instructions.
 ghost use mathlib.Core.Path.{_≡_};
-ghost use mathlib.Core.Bool.{_&&_, cond};
+ghost use mathlib.Core.Bool.{cond};
 ghost use mathlib.Core.List.{[]};
 ghost use Prim.Native.Nat.{ℕ, suc, _+_, _-_, _≤_, _<_};
 ghost use lib.ListN.{length, getD};
 ghost use lib.Dec.{eqb, leb, ltb};
 ghost use Rattle.basics.specs.Tests.{within, every, count, tabulate};
-ghost use Rattle.label.specs.Rows.{rowFits};
 ghost use Rattle.arrays.specs.Arrays.{arrays};
 ghost use Rattle.arrays.specs.WellFormed.{resultFits, resultFresh, wellFormed};
+ghost use Rattle.well_formed.specs.Halves.{halfTops, topDigits, halfFits, labelFits, labelsFit};
 use arrays::Control;
 use arrays::Jobs;
 use arrays::Labels;
 use arrays::Results;
 
-// The greatest digit at each position of a label of m digits: 5, and 1 past them.
-fn top_digits(m: usize) -> [u8; 31]
-    requires { ⌜ m ≤ 31 ⌝ }
-    ensures { λ r. ⌜ r ≡ tabulate 31 0 (λ p. cond (ltb p m) 5 1) ⌝ }
+// The greatest digit at position p of a label of m digits.
+fn top_digit(m: usize, p: usize) -> u8
+    ensures { λ r. ⌜ r ≡ cond (ltb p m) 5 1 ⌝ }
 {
-    let mut r = [1u8; 31];
+    if p < m { 5 } else { 1 }
+}
+
+// The greatest digits at the 16 positions from h on.
+fn half_tops(m: usize, h: usize) -> [u8; 16]
+    requires { ⌜ h ≤ 15 ⌝ }
+    ensures { λ r. ⌜ r ≡ halfTops m h ⌝ }
+{
+    let mut r = [1u8; 16];
     let mut p: usize = 0;
-    while p < m {
-        r[p] = 5;
+    while p < 16 {
+        r[p] = top_digit(m, h + p);
         p += 1;
     }
     r
+}
+
+// The greatest digits of both halves, which share position 15: so each is as long as a vector.
+fn tops(m: usize) -> [[u8; 16]; 2]
+    ensures { λ r. ⌜ r ≡ topDigits m ⌝ }
+{
+    [half_tops(m, 0), half_tops(m, 15)]
 }
 
 // Whether a digit is from 1 to `top`, by one comparison: 0 less 1 is the greatest byte.
@@ -36,14 +50,14 @@ fn digit_fits(d: u8, top: u8) -> bool
 }
 
 // Whether each of the 16 digits from position h on is from 1 to the greatest there.
-fn half_fits(label: &[u8; 31], top: &[u8; 31], h: usize) -> bool
+fn half_fits(label: &[u8; 31], top: &[u8; 16], h: usize) -> bool
     requires { ⌜ h ≤ 15 ⌝ }
-    ensures { λ r. ⌜ r ≡ every 16 (λ p. within 1 (getD (now (top .entry)) (h + p) 0) (getD (now (label .entry)) (h + p) 0)) ⌝ }
+    ensures { λ r. ⌜ r ≡ halfFits (now (top .entry)) (now (label .entry)) h ⌝ }
 {
     let mut r = true;
     let mut p: usize = 0;
     while p < 16 {
-        if !digit_fits(label[h + p], top[h + p]) {
+        if !digit_fits(label[h + p], top[p]) {
             r = false;
         }
         p += 1;
@@ -51,21 +65,21 @@ fn half_fits(label: &[u8; 31], top: &[u8; 31], h: usize) -> bool
     r
 }
 
-// Whether each digit is from 1 to the greatest there: two halves of 16, which share the position 15.
-fn label_fits(label: &[u8; 31], top: &[u8; 31]) -> bool
-    ensures { λ r. ⌜ r ≡ every 31 (λ p. within 1 (getD (now (top .entry)) p 0) (getD (now (label .entry)) p 0)) ⌝ }
+// Whether both halves of a label fit.
+fn label_fits(label: &[u8; 31], tops: &[[u8; 16]; 2]) -> bool
+    ensures { λ r. ⌜ r ≡ labelFits (now (tops .entry)) (now (label .entry)) ⌝ }
 {
-    half_fits(label, top, 0) && half_fits(label, top, 15)
+    half_fits(label, &tops[0], 0) && half_fits(label, &tops[1], 15)
 }
 
 // Whether the k labels from row i on are such.
-fn labels_within(rows: &[[u8; 31]; 32], top: &[u8; 31], i: usize, k: usize) -> bool
+fn labels_within(rows: &[[u8; 31]; 32], tops: &[[u8; 16]; 2], i: usize, k: usize) -> bool
     requires { ⌜ i + k ≤ 32 ⌝ }
-    ensures { λ r. ⌜ r ≡ every k (λ j. every 31 (λ p. within 1 (getD (now (top .entry)) p 0) (getD (getD (now (rows .entry)) (i + j) []) p 0))) ⌝ }
+    ensures { λ r. ⌜ r ≡ every k (λ j. labelFits (now (tops .entry)) (getD (now (rows .entry)) (i + j) [])) ⌝ }
 {
     let mut j: usize = 0;
     while j < k {
-        if !label_fits(&rows[i + j], top) {
+        if !label_fits(&rows[i + j], tops) {
             return false;
         }
         j += 1;
@@ -77,11 +91,11 @@ fn labels_within(rows: &[[u8; 31]; 32], top: &[u8; 31], i: usize, k: usize) -> b
 fn labels_fit(n: usize, rows: &[[u8; 31]; 32]) -> bool
     requires { ⌜ (1 ≤ n) × (n ≤ 32) ⌝ }
     requires { ⌜ ((i : ℕ) → i < 32 → length (getD (now rows) i []) ≡ 31) ⌝ }
-    ensures { λ r. ⌜ r ≡ (every n (λ i. rowFits 31 (n - 1) (getD (now (rows .entry)) i [])) && every (32 - n) (λ i. rowFits 31 0 (getD (now (rows .entry)) (n + i) []))) ⌝ }
+    ensures { λ r. ⌜ r ≡ labelsFit n (now (rows .entry)) ⌝ }
 {
-    let top = top_digits(n - 1);
-    let ones = top_digits(0);
-    labels_within(rows, &top, 0, n) && labels_within(rows, &ones, n, 32 - n)
+    let most = tops(n - 1);
+    let ones = tops(0);
+    labels_within(rows, &most, 0, n) && labels_within(rows, &ones, n, 32 - n)
 }
 
 // Whether each number of n stations is that of a phase.

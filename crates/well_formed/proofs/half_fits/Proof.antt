@@ -10,7 +10,7 @@ use Rattle.well_formed.proofs.half_fits.Statement.{statement}
 use Rattle.well_formed.proofs.half_fits.Tie as tie
 
 abbrev Inv-loop : tie.InvT-loop
-Inv-loop label top h r₀ p₀ r p = (p ≤ 16) × (r ≡ every p (λ q. within 1 (getD top (h + q) 0) (getD label (h + q) 0)))
+Inv-loop label top h r₀ p₀ r p = (p ≤ 16) × (r ≡ every p (λ q. within 1 (getD top q 0) (getD label (h + q) 0)))
 
 abbrev μ-loop : tie.MeasureT-loop
 μ-loop label top h r₀ p₀ r p = 16 - p
@@ -23,9 +23,6 @@ add-digit-fits c = search needs
 
 element-copy-out-digit-fits : tie.Need-element-copy-out-digit-fits Inv-loop μ-loop
 element-copy-out-digit-fits c = search needs
-
-add-digit-fits-2 : tie.Need-add-digit-fits-2 Inv-loop μ-loop
-add-digit-fits-2 c = search needs
 
 element-copy-out-digit-fits-2 : tie.Need-element-copy-out-digit-fits-2 Inv-loop μ-loop
 element-copy-out-digit-fits-2 c = search needs
@@ -60,7 +57,6 @@ half-fits-spec =
     loop-holds
     add-digit-fits
     element-copy-out-digit-fits
-    add-digit-fits-2
     element-copy-out-digit-fits-2
     digit-fits-requires
     add-p

@@ -4,18 +4,19 @@ use mathlib.Core.Path.{_≡_, sym}
 use mathlib.Core.Bool.{true}
 use mathlib.Core.List.{[]}
 use lib.ListN.{getD}
-use Rattle.basics.specs.Tests.{within, every}
+use Rattle.basics.specs.Tests.{every}
 use Rattle.basics.proofs.Facts.{every-no}
 use Rattle.basics.proofs.Loops.{every-none, every-more, every-done, was-false, was-true}
+use Rattle.well_formed.specs.Halves.{labelFits}
 use borrow.Author.Needs.{needs}
 use Rattle.well_formed.proofs.labels_within.Statement.{statement}
 use Rattle.well_formed.proofs.labels_within.Tie as tie
 
 abbrev Inv-loop : tie.InvT-loop
-Inv-loop rows top i k j₀ j = (j ≤ k) × (every j (λ q. every 31 (λ p. within 1 (getD top p 0) (getD (getD rows (i + q) []) p 0))) ≡ true)
+Inv-loop rows tops i k j₀ j = (j ≤ k) × (every j (λ q. labelFits tops (getD rows (i + q) [])) ≡ true)
 
 abbrev μ-loop : tie.MeasureT-loop
-μ-loop rows top i k j₀ j = k - j
+μ-loop rows tops i k j₀ j = k - j
 
 loop-holds : tie.Need-loop-holds Inv-loop μ-loop
 loop-holds c = (search needs, every-none _)
