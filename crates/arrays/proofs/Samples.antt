@@ -46,6 +46,34 @@ module _ (F : Form) (L : Lawful F) where
 
   pub samples-hold : SamplesHold F
   unfolding shown order carried one two three stalled
-  samples-hold = (refl, (refl, (two-stations _ (refl, refl), (two-stations _ (refl, refl), (three-stations _ (refl, refl), (three-stations _ (refl, refl),
-      (three-stations _ (refl, refl), (three-stations _ (refl, refl), (three-stations _ (refl, refl), (three-stations _ (refl, refl),
-      (three-stations _ (refl, refl), (three-stations _ (refl, refl), tt))))))))))))
+  samples-hold = (
+    refl,
+    (
+      refl,
+      (
+        two-stations _ (refl, refl),
+        (
+          two-stations _ (refl, refl),
+          (
+            three-stations _ (refl, refl),
+            (
+              three-stations _ (refl, refl),
+              (
+                three-stations _ (refl, refl),
+                (
+                  three-stations _ (refl, refl),
+                  (
+                    three-stations _ (refl, refl),
+                    (
+                      three-stations _ (refl, refl),
+                      (three-stations _ (refl, refl), (three-stations _ (refl, refl), tt)),
+                    ),
+                  ),
+                ),
+              ),
+            ),
+          ),
+        ),
+      ),
+    ),
+  )
