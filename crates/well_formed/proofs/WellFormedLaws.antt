@@ -16,7 +16,8 @@ use mir.Val.{Val}
 use denote.Shadow.{shadow}
 use denote.Array.{each}
 use Rattle.basics.specs.Tests.{within, every, count, tabulate}
-use Rattle.basics.proofs.Facts.{and-both, both, left-no, right-no, tf, is-false, within-true, within-of, every-all, every-at, every-same, getD-tabulate, tabulate-same, getD-any}
+use Rattle.basics.proofs.Facts.{and-both, both, left-no, tf, is-false, within-true, within-of, every-all, every-at, every-same}
+use Rattle.basics.proofs.Facts.{getD-tabulate, tabulate-same, getD-any}
 use Rattle.basics.proofs.Filled.{filled}
 use Rattle.basics.proofs.Loops.{and-yes}
 use Rattle.basics.proofs.Counts.{count-same}
@@ -51,8 +52,8 @@ pub from-one : (d t s : ℕ) → s < 256 → t < 256 → (s + 1) % 2 ^ 8 ≡ d �
 from-one d t s b u e = same-test _ _
     (λ h. let l = ltb-true s t h in let q : s + 1 ≡ d = sym (mod-eq-of-lt (omega arith)) ∙ e in within-of 1 t d (omega arith) (omega arith))
     (λ h. let w = within-true 1 t d h in by-cases (decLt s 255)
-        (λ l. let q : s + 1 ≡ d = sym (mod-eq-of-lt (omega arith)) ∙ e in lt-ltb s t (omega arith))
-        (λ l. let z : s ≡ 255 = omega arith in let q : 0 ≡ d = rw z at e in absurd (omega arith)))
+    (λ l. let q : s + 1 ≡ d = sym (mod-eq-of-lt (omega arith)) ∙ e in lt-ltb s t (omega arith))
+    (λ l. let z : s ≡ 255 = omega arith in let q : 0 ≡ d = rw z at e in absurd (omega arith)))
 
 -- a label that fits by halves is a row that fits
 module _ (m : ℕ) (l : List ℕ) (h : m ≤ 31) (long : length l ≡ 31) where
@@ -60,15 +61,16 @@ module _ (m : ℕ) (l : List ℕ) (h : m ≤ 31) (long : length l ≡ 31) where
   fits-at p = within 1 (cond (ltb p m) 5 1) (digit l p)
 
   half : (s : ℕ) → s ≤ 15 → halfFits (halfTops m s) l s ≡ every 16 (λ p. fits-at (s + p))
-  half s b = every-same 16 _ _ (λ p u. ap₂ (within 1) (getD-tabulate 16 0 p (λ q. cond (ltb (s + q) m) 5 1) 0 u ∙ ap (λ q. cond (ltb (s + q) m) 5 1) (zero-add p))
+  half s b = every-same 16 _ _ (λ p u. ap₂ (within 1)
+      (getD-tabulate 16 0 p (λ q. cond (ltb (s + q) m) 5 1) 0 u ∙ ap (λ q. cond (ltb (s + q) m) 5 1) (zero-add p))
       (getD-any l (s + p) 0 1 (omega arith)))
 
   -- both halves
   halves : (every 16 (λ p. fits-at (0 + p)) && every 16 (λ p. fits-at (15 + p))) ≡ every 31 fits-at
   halves = same-test _ _
       (λ e. let b = and-both (every 16 (λ p. fits-at (0 + p))) (every 16 (λ p. fits-at (15 + p))) e in every-all 31 fits-at (λ p u. by-cases (decLt p 15)
-          (λ v. ap fits-at (sym (zero-add p)) ∙ every-at 16 _ (b .0) p (omega arith))
-          (λ v. let q : p ≡ 15 + (p - 15) = omega arith in ap fits-at q ∙ every-at 16 _ (b .1) (p - 15) (omega arith))))
+      (λ v. ap fits-at (sym (zero-add p)) ∙ every-at 16 _ (b .0) p (omega arith))
+      (λ v. let q : p ≡ 15 + (p - 15) = omega arith in ap fits-at q ∙ every-at 16 _ (b .1) (p - 15) (omega arith))))
       (λ e. both (every-all 16 _ (λ p u. every-at 31 fits-at e (0 + p) (omega arith))) (every-all 16 _ (λ p u. every-at 31 fits-at e (15 + p) (omega arith))))
 
   -- the first m positions, and those past them
@@ -84,10 +86,11 @@ module _ (m : ℕ) (l : List ℕ) (h : m ≤ 31) (long : length l ≡ 31) where
   unfolding rowFits
   parts = same-test _ _
       (λ e. both (every-all m _ (λ p u. sym (here p u) ∙ every-at 31 fits-at e p (omega arith)))
-          (every-all (31 - m) _ (λ p u. sym (past p) ∙ every-at 31 fits-at e (m + p) (omega arith))))
-      (λ e. let b = and-both (every m (λ p. within 1 5 (digit l p))) (every (31 - m) (λ p. eqb (digit l (m + p)) 1)) e in every-all 31 fits-at (λ p u. by-cases (decLt p m)
-          (λ v. here p v ∙ every-at m _ (b .0) p v)
-          (λ v. let q : p ≡ m + (p - m) = omega arith in ap fits-at q ∙ past (p - m) ∙ every-at (31 - m) _ (b .1) (p - m) (omega arith))))
+      (every-all (31 - m) _ (λ p u. sym (past p) ∙ every-at 31 fits-at e (m + p) (omega arith))))
+      (λ e. let b = and-both (every m (λ p. within 1 5 (digit l p))) (every (31 - m) (λ p. eqb (digit l (m + p)) 1)) e in
+      every-all 31 fits-at (λ p u. by-cases (decLt p m)
+      (λ v. here p v ∙ every-at m _ (b .0) p v)
+      (λ v. let q : p ≡ m + (p - m) = omega arith in ap fits-at q ∙ past (p - m) ∙ every-at (31 - m) _ (b .1) (p - m) (omega arith))))
 
   pub row-fits : labelFits (topDigits m) l ≡ rowFits 31 m l
   row-fits = ap₂ _&&_ (half 0 (omega arith)) (half 15 (omega arith)) ∙ halves ∙ parts
@@ -118,7 +121,7 @@ slot-count n s i h = count-same n _ _ (λ p _. slot-test (s p) i h)
 pub result-rows : (n : ℕ) (rows : Rows) (counts : List ℕ) → n ≤ 32
     → ((i : ℕ) → i < 32 → getD counts (suc i) 0 ≡ count n (λ p. eqb (cell rows 0 p 0) (suc i)))
     → (every n (λ i. eqb (getD counts (suc i) 0) 1)
-      && (every (32 - n) (λ p. eqb (cell rows 0 (n + p) 0) 0) && every (32 - n) (λ p. eqb (cell rows 1 (n + p) 0) 0))) ≡ resultFits n rows
+    && (every (32 - n) (λ p. eqb (cell rows 0 (n + p) 0) 0) && every (32 - n) (λ p. eqb (cell rows 1 (n + p) 0) 0))) ≡ resultFits n rows
 unfolding resultFits
 result-rows n rows counts h c = ap₂ _&&_
     (every-same n _ _ (λ i l. ap (λ x. eqb x 1) (c i (omega arith))))
@@ -128,7 +131,8 @@ pub fresh-rows : (n : ℕ) (rows : Rows) (fresh : List ℕ) → fresh ≡ tabula
     → (every 32 (λ p. eqb (cell rows 0 p 0) (getD fresh p 0)) && every (32 - 0) (λ p. eqb (cell rows 1 (0 + p) 0) 0)) ≡ resultFresh n rows
 unfolding resultFresh
 fresh-rows n rows fresh e = ap₂ _&&_
-    (every-same 32 _ _ (λ p l. ap (eqb (cell rows 0 p 0)) (ap (λ f. getD f p 0) e ∙ getD-tabulate 32 0 p _ 0 l ∙ ap (λ q. cond (ltb q n) (suc q) 0) (zero-add p))))
+    (every-same 32 _ _ (λ p l. ap (eqb (cell rows 0 p 0))
+    (ap (λ f. getD f p 0) e ∙ getD-tabulate 32 0 p _ 0 l ∙ ap (λ q. cond (ltb q n) (suc q) 0) (zero-add p))))
     (every-same 32 _ _ (λ p _. ap (λ q. eqb (cell rows 1 q 0) 0) (zero-add p)))
     ∙ sym (every-and 32 _ _)
 
@@ -151,8 +155,12 @@ module _ (a : Arrays) where
   abbrev n : ℕ
   n = a .count
 
-  abbrev plane-fit : Bool → Bool
-  plane-fit x = every n (λ i. rowFits 31 (n - 1) (labelRow a x i)) && every (32 - n) (λ i. rowFits 31 0 (labelRow a x (n + i)))
+  -- the labels of the stations, and those past them
+  abbrev fit : Bool → Bool
+  fit x = every n (λ i. rowFits 31 (n - 1) (labelRow a x i))
+
+  abbrev ones : Bool → Bool
+  ones x = every (32 - n) (λ i. rowFits 31 0 (labelRow a x (n + i)))
 
   abbrev phases-fit : Bool
   phases-fit = every n (λ i. leb (cell (a .control) 0 i 0) 5)
@@ -170,8 +178,8 @@ module _ (a : Arrays) where
   rest-fresh = every (32 - n) (λ i. resultFresh n (getD (a .results) (n + i) []))
 
   pub record Passed : Type 0 where
-    pub labels : plane-fit false ≡ true
-    pub pending : plane-fit true ≡ true
+    pub labels : (fit false && ones false) ≡ true
+    pub pending : (fit true && ones true) ≡ true
     pub phases : phases-fit ≡ true
     pub idle : idle ≡ true
     pub jobs : jobless false ≡ true
@@ -187,33 +195,18 @@ module _ (a : Arrays) where
     rows-at : (i : ℕ) → i < 32 → rowsAt a i ≡ getD (a .results) i []
     rows-at i h = getD-any (a .results) i _ [] (omega arith)
 
-    -- what a station and a place past n pass, test by test
-    station : (i : ℕ) → i < 32 → stationFits a i
-        ≡ (rowFits 31 (n - 1) (labelRow a false i) && rowFits 31 (n - 1) (labelRow a true i) && leb (cell (a .control) 0 i 0) 5 && resultFits n (getD (a .results) i []))
-    unfolding stationFits
-    station i h = ap (λ r. rowFits 31 (n - 1) (labelRow a false i) && rowFits 31 (n - 1) (labelRow a true i) && leb (cell (a .control) 0 i 0) 5 && resultFits n r) (rows-at i h)
-
-    place : (i : ℕ) → i < 32 → placeFresh a i
-        ≡ (rowFits 31 0 (labelRow a false i) && rowFits 31 0 (labelRow a true i) && eqb (cell (a .jobs) 0 i 0) 0 && eqb (cell (a .jobs) 1 i 0) 0
-          && eqb (cell (a .control) 0 i 0) 0 && resultFresh n (getD (a .results) i []))
-    unfolding placeFresh
-    place i h = ap (λ r. rowFits 31 0 (labelRow a false i) && rowFits 31 0 (labelRow a true i) && eqb (cell (a .jobs) 0 i 0) 0 && eqb (cell (a .jobs) 1 i 0) 0
-        && eqb (cell (a .control) 0 i 0) 0 && resultFresh n r) (rows-at i h)
-
     module _ (high : n ≤ 32) where
-      stations : every n (stationFits a)
-          ≡ (every n (λ i. rowFits 31 (n - 1) (labelRow a false i)) && every n (λ i. rowFits 31 (n - 1) (labelRow a true i)) && phases-fit && results-fit)
-      stations = every-same n _ _ (λ i l. station i (omega arith)) ∙ every-and n _ _ ∙ ap (λ b. b && results-fit)
-          (every-and n _ _ ∙ ap (λ b. b && phases-fit) (every-and n _ _))
+      stations : every n (stationFits a) ≡ (fit false && fit true && phases-fit && results-fit)
+      unfolding stationFits
+      stations = every-and n _ _ ∙ ap₂ _&&_ (every-and n _ _ ∙ ap (λ b. b && phases-fit) (every-and n _ _))
+          (every-same n _ _ (λ i l. ap (resultFits n) (rows-at i (omega arith))))
 
-      places : every (32 - n) (λ i. placeFresh a (n + i))
-          ≡ (every (32 - n) (λ i. rowFits 31 0 (labelRow a false (n + i))) && every (32 - n) (λ i. rowFits 31 0 (labelRow a true (n + i)))
-            && jobless false && jobless true && idle && rest-fresh)
-      places = every-same (32 - n) _ _ (λ i l. place (n + i) (omega arith)) ∙ every-and k _ _ ∙ ap (λ b. b && rest-fresh)
-          (every-and k _ _ ∙ ap (λ b. b && idle) (every-and k _ _ ∙ ap (λ b. b && jobless true) (every-and k _ _ ∙ ap (λ b. b && jobless false) (every-and k _ _))))
-        where
-          k : ℕ
-          k = 32 - n
+      places : every (32 - n) (λ i. placeFresh a (n + i)) ≡ (ones false && ones true && jobless false && jobless true && idle && rest-fresh)
+      unfolding placeFresh
+      places = every-and _ _ _ ∙ ap₂ _&&_
+          (every-and _ _ _ ∙ ap (λ b. b && idle) (every-and _ _ _ ∙ ap (λ b. b && jobless true)
+          (every-and _ _ _ ∙ ap (λ b. b && jobless false) (every-and _ _ _))))
+          (every-same _ _ _ (λ i l. ap (resultFresh n) (rows-at (n + i) (omega arith))))
 
       pub passed : wellFormed a ≡ true → Passed
       unfolding wellFormed
@@ -222,12 +215,12 @@ module _ (a : Arrays) where
           let e₂ = and-both (within 2 32 n && every n (stationFits a)) (every (32 - n) (λ i. placeFresh a (n + i))) (e₁ .0) in
           let s = and-both _ results-fit (sym stations ∙ and-both (within 2 32 n) (every n (stationFits a)) (e₂ .0) .1) in
           let s₁ = and-both _ phases-fit (s .0) in
-          let s₂ = and-both (every n (λ i. rowFits 31 (n - 1) (labelRow a false i))) (every n (λ i. rowFits 31 (n - 1) (labelRow a true i))) (s₁ .0) in
+          let s₂ = and-both (fit false) (fit true) (s₁ .0) in
           let p = and-both _ rest-fresh (sym places ∙ e₂ .1) in
           let p₁ = and-both _ idle (p .0) in
           let p₂ = and-both _ (jobless true) (p₁ .0) in
           let p₃ = and-both _ (jobless false) (p₂ .0) in
-          let p₄ = and-both (every (32 - n) (λ i. rowFits 31 0 (labelRow a false (n + i)))) (every (32 - n) (λ i. rowFits 31 0 (labelRow a true (n + i)))) (p₃ .0) in
+          let p₄ = and-both (ones false) (ones true) (p₃ .0) in
           record {
             labels = both (s₂ .0) (p₄ .0);
             pending = both (s₂ .1) (p₄ .1);
@@ -247,8 +240,8 @@ module _ (a : Arrays) where
       pub by-rings : 2 ≤ n → Passed → {r : Bool} → r ≡ noRing (n - 1) (λ i. digit (labelRow a false i)) → r ≡ wellFormed a
       unfolding wellFormed
       by-rings low t e =
-          let l = and-both (every n (λ i. rowFits 31 (n - 1) (labelRow a false i))) (every (32 - n) (λ i. rowFits 31 0 (labelRow a false (n + i)))) (t .labels) in
-          let m = and-both (every n (λ i. rowFits 31 (n - 1) (labelRow a true i))) (every (32 - n) (λ i. rowFits 31 0 (labelRow a true (n + i)))) (t .pending) in
+          let l = and-both (fit false) (ones false) (t .labels) in
+          let m = and-both (fit true) (ones true) (t .pending) in
           and-yes (both (both (within-of 2 32 n low high)
-              (stations ∙ both (both (both (l .0) (m .0)) (t .phases)) (t .results)))
-              (places ∙ both (both (both (both (both (l .1) (m .1)) (t .jobs)) (t .pendingJobs)) (t .idle)) (t .rest))) e
+          (stations ∙ both (both (both (l .0) (m .0)) (t .phases)) (t .results)))
+          (places ∙ both (both (both (both (both (l .1) (m .1)) (t .jobs)) (t .pendingJobs)) (t .idle)) (t .rest))) e
