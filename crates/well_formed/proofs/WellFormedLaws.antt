@@ -10,7 +10,7 @@ use mathlib.Core.List as Lists
 use mathlib.Core.List.{List, [], _∷_}
 use lib.ListN.{length, getD}
 use lib.Dec.{eqb, leb, ltb}
-use borrow.Author.Tests.{eqb-true, eq-eqb, ne-eqb, leb-true, le-leb, lt-leb, ltb-true, lt-ltb, le-ltb}
+use borrow.Author.Tests.{eqb-true, eq-eqb, ne-eqb, le-leb, lt-leb, ltb-true, lt-ltb, le-ltb}
 use base.Fml.{Fml}
 use mir.Val.{Val}
 use denote.Shadow.{shadow}

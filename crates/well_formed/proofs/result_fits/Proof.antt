@@ -1,6 +1,5 @@
 use Prim.Native.Nat.{_+_, _-_}
 use mathlib.Core.Path.{sym, _∙_}
-use mathlib.Core.Bool.{_&&_}
 use lib.Dec.{eqb}
 use Rattle.basics.specs.Tests.{every}
 use Rattle.basics.proofs.Facts.{left-no}
