@@ -10,13 +10,14 @@ use mathlib.Core.List as Lists
 use mathlib.Core.List.{List, [], _∷_}
 use lib.ListN.{length, getD}
 use lib.Dec.{eqb, leb, ltb}
-use borrow.Author.Tests.{eqb-true, eq-eqb, ne-eqb, leb-true, le-leb, lt-leb, ltb-true, lt-ltb, le-ltb}
+use borrow.Author.Tests.{eqb-true, eq-eqb, ne-eqb, le-leb, lt-leb, ltb-true, lt-ltb, le-ltb}
 use base.Fml.{Fml}
 use mir.Val.{Val}
 use denote.Shadow.{shadow}
 use denote.Array.{each}
 use Rattle.basics.specs.Tests.{within, every, count, tabulate}
-use Rattle.basics.proofs.Facts.{and-both, both, left-no, right-no, tf, is-false, within-true, within-of, every-all, every-at, every-same, getD-tabulate, tabulate-same, getD-any}
+use Rattle.basics.proofs.Facts.{and-both, both, left-no, tf, is-false, within-true, within-of, every-all, every-at, every-same}
+use Rattle.basics.proofs.Facts.{getD-tabulate, tabulate-same, getD-any}
 use Rattle.basics.proofs.Filled.{filled}
 use Rattle.basics.proofs.Loops.{and-yes}
 use Rattle.basics.proofs.Counts.{count-same}
@@ -60,7 +61,8 @@ module _ (m : ℕ) (l : List ℕ) (h : m ≤ 31) (long : length l ≡ 31) where
   fits-at p = within 1 (cond (ltb p m) 5 1) (digit l p)
 
   half : (s : ℕ) → s ≤ 15 → halfFits (halfTops m s) l s ≡ every 16 (λ p. fits-at (s + p))
-  half s b = every-same 16 _ _ (λ p u. ap₂ (within 1) (getD-tabulate 16 0 p (λ q. cond (ltb (s + q) m) 5 1) 0 u ∙ ap (λ q. cond (ltb (s + q) m) 5 1) (zero-add p))
+  half s b = every-same 16 _ _ (λ p u. ap₂ (within 1)
+      (getD-tabulate 16 0 p (λ q. cond (ltb (s + q) m) 5 1) 0 u ∙ ap (λ q. cond (ltb (s + q) m) 5 1) (zero-add p))
       (getD-any l (s + p) 0 1 (omega arith)))
 
   -- both halves
@@ -85,7 +87,8 @@ module _ (m : ℕ) (l : List ℕ) (h : m ≤ 31) (long : length l ≡ 31) where
   parts = same-test _ _
       (λ e. both (every-all m _ (λ p u. sym (here p u) ∙ every-at 31 fits-at e p (omega arith)))
       (every-all (31 - m) _ (λ p u. sym (past p) ∙ every-at 31 fits-at e (m + p) (omega arith))))
-      (λ e. let b = and-both (every m (λ p. within 1 5 (digit l p))) (every (31 - m) (λ p. eqb (digit l (m + p)) 1)) e in every-all 31 fits-at (λ p u. by-cases (decLt p m)
+      (λ e. let b = and-both (every m (λ p. within 1 5 (digit l p))) (every (31 - m) (λ p. eqb (digit l (m + p)) 1)) e in
+      every-all 31 fits-at (λ p u. by-cases (decLt p m)
       (λ v. here p v ∙ every-at m _ (b .0) p v)
       (λ v. let q : p ≡ m + (p - m) = omega arith in ap fits-at q ∙ past (p - m) ∙ every-at (31 - m) _ (b .1) (p - m) (omega arith))))
 
@@ -128,7 +131,8 @@ pub fresh-rows : (n : ℕ) (rows : Rows) (fresh : List ℕ) → fresh ≡ tabula
     → (every 32 (λ p. eqb (cell rows 0 p 0) (getD fresh p 0)) && every (32 - 0) (λ p. eqb (cell rows 1 (0 + p) 0) 0)) ≡ resultFresh n rows
 unfolding resultFresh
 fresh-rows n rows fresh e = ap₂ _&&_
-    (every-same 32 _ _ (λ p l. ap (eqb (cell rows 0 p 0)) (ap (λ f. getD f p 0) e ∙ getD-tabulate 32 0 p _ 0 l ∙ ap (λ q. cond (ltb q n) (suc q) 0) (zero-add p))))
+    (every-same 32 _ _ (λ p l. ap (eqb (cell rows 0 p 0))
+    (ap (λ f. getD f p 0) e ∙ getD-tabulate 32 0 p _ 0 l ∙ ap (λ q. cond (ltb q n) (suc q) 0) (zero-add p))))
     (every-same 32 _ _ (λ p _. ap (λ q. eqb (cell rows 1 q 0) 0) (zero-add p)))
     ∙ sym (every-and 32 _ _)
 
@@ -151,8 +155,12 @@ module _ (a : Arrays) where
   abbrev n : ℕ
   n = a .count
 
-  abbrev plane-fit : Bool → Bool
-  plane-fit x = every n (λ i. rowFits 31 (n - 1) (labelRow a x i)) && every (32 - n) (λ i. rowFits 31 0 (labelRow a x (n + i)))
+  -- the labels of the stations, and those past them
+  abbrev fit : Bool → Bool
+  fit x = every n (λ i. rowFits 31 (n - 1) (labelRow a x i))
+
+  abbrev ones : Bool → Bool
+  ones x = every (32 - n) (λ i. rowFits 31 0 (labelRow a x (n + i)))
 
   abbrev phases-fit : Bool
   phases-fit = every n (λ i. leb (cell (a .control) 0 i 0) 5)
@@ -170,8 +178,8 @@ module _ (a : Arrays) where
   rest-fresh = every (32 - n) (λ i. resultFresh n (getD (a .results) (n + i) []))
 
   pub record Passed : Type 0 where
-    pub labels : plane-fit false ≡ true
-    pub pending : plane-fit true ≡ true
+    pub labels : (fit false && ones false) ≡ true
+    pub pending : (fit true && ones true) ≡ true
     pub phases : phases-fit ≡ true
     pub idle : idle ≡ true
     pub jobs : jobless false ≡ true
@@ -187,33 +195,18 @@ module _ (a : Arrays) where
     rows-at : (i : ℕ) → i < 32 → rowsAt a i ≡ getD (a .results) i []
     rows-at i h = getD-any (a .results) i _ [] (omega arith)
 
-    -- what a station and a place past n pass, test by test
-    station : (i : ℕ) → i < 32 → stationFits a i
-        ≡ (rowFits 31 (n - 1) (labelRow a false i) && rowFits 31 (n - 1) (labelRow a true i) && leb (cell (a .control) 0 i 0) 5 && resultFits n (getD (a .results) i []))
-    unfolding stationFits
-    station i h = ap (λ r. rowFits 31 (n - 1) (labelRow a false i) && rowFits 31 (n - 1) (labelRow a true i) && leb (cell (a .control) 0 i 0) 5 && resultFits n r) (rows-at i h)
-
-    place : (i : ℕ) → i < 32 → placeFresh a i
-        ≡ (rowFits 31 0 (labelRow a false i) && rowFits 31 0 (labelRow a true i) && eqb (cell (a .jobs) 0 i 0) 0 && eqb (cell (a .jobs) 1 i 0) 0
-        && eqb (cell (a .control) 0 i 0) 0 && resultFresh n (getD (a .results) i []))
-    unfolding placeFresh
-    place i h = ap (λ r. rowFits 31 0 (labelRow a false i) && rowFits 31 0 (labelRow a true i) && eqb (cell (a .jobs) 0 i 0) 0 && eqb (cell (a .jobs) 1 i 0) 0
-        && eqb (cell (a .control) 0 i 0) 0 && resultFresh n r) (rows-at i h)
-
     module _ (high : n ≤ 32) where
-      stations : every n (stationFits a)
-          ≡ (every n (λ i. rowFits 31 (n - 1) (labelRow a false i)) && every n (λ i. rowFits 31 (n - 1) (labelRow a true i)) && phases-fit && results-fit)
-      stations = every-same n _ _ (λ i l. station i (omega arith)) ∙ every-and n _ _ ∙ ap (λ b. b && results-fit)
-          (every-and n _ _ ∙ ap (λ b. b && phases-fit) (every-and n _ _))
+      stations : every n (stationFits a) ≡ (fit false && fit true && phases-fit && results-fit)
+      unfolding stationFits
+      stations = every-and n _ _ ∙ ap₂ _&&_ (every-and n _ _ ∙ ap (λ b. b && phases-fit) (every-and n _ _))
+          (every-same n _ _ (λ i l. ap (resultFits n) (rows-at i (omega arith))))
 
-      places : every (32 - n) (λ i. placeFresh a (n + i))
-          ≡ (every (32 - n) (λ i. rowFits 31 0 (labelRow a false (n + i))) && every (32 - n) (λ i. rowFits 31 0 (labelRow a true (n + i)))
-          && jobless false && jobless true && idle && rest-fresh)
-      places = every-same (32 - n) _ _ (λ i l. place (n + i) (omega arith)) ∙ every-and k _ _ ∙ ap (λ b. b && rest-fresh)
-          (every-and k _ _ ∙ ap (λ b. b && idle) (every-and k _ _ ∙ ap (λ b. b && jobless true) (every-and k _ _ ∙ ap (λ b. b && jobless false) (every-and k _ _))))
-        where
-          k : ℕ
-          k = 32 - n
+      places : every (32 - n) (λ i. placeFresh a (n + i)) ≡ (ones false && ones true && jobless false && jobless true && idle && rest-fresh)
+      unfolding placeFresh
+      places = every-and _ _ _ ∙ ap₂ _&&_
+          (every-and _ _ _ ∙ ap (λ b. b && idle) (every-and _ _ _ ∙ ap (λ b. b && jobless true)
+          (every-and _ _ _ ∙ ap (λ b. b && jobless false) (every-and _ _ _))))
+          (every-same _ _ _ (λ i l. ap (resultFresh n) (rows-at (n + i) (omega arith))))
 
       pub passed : wellFormed a ≡ true → Passed
       unfolding wellFormed
@@ -222,12 +215,12 @@ module _ (a : Arrays) where
           let e₂ = and-both (within 2 32 n && every n (stationFits a)) (every (32 - n) (λ i. placeFresh a (n + i))) (e₁ .0) in
           let s = and-both _ results-fit (sym stations ∙ and-both (within 2 32 n) (every n (stationFits a)) (e₂ .0) .1) in
           let s₁ = and-both _ phases-fit (s .0) in
-          let s₂ = and-both (every n (λ i. rowFits 31 (n - 1) (labelRow a false i))) (every n (λ i. rowFits 31 (n - 1) (labelRow a true i))) (s₁ .0) in
+          let s₂ = and-both (fit false) (fit true) (s₁ .0) in
           let p = and-both _ rest-fresh (sym places ∙ e₂ .1) in
           let p₁ = and-both _ idle (p .0) in
           let p₂ = and-both _ (jobless true) (p₁ .0) in
           let p₃ = and-both _ (jobless false) (p₂ .0) in
-          let p₄ = and-both (every (32 - n) (λ i. rowFits 31 0 (labelRow a false (n + i)))) (every (32 - n) (λ i. rowFits 31 0 (labelRow a true (n + i)))) (p₃ .0) in
+          let p₄ = and-both (ones false) (ones true) (p₃ .0) in
           record {
             labels = both (s₂ .0) (p₄ .0);
             pending = both (s₂ .1) (p₄ .1);
@@ -247,8 +240,8 @@ module _ (a : Arrays) where
       pub by-rings : 2 ≤ n → Passed → {r : Bool} → r ≡ noRing (n - 1) (λ i. digit (labelRow a false i)) → r ≡ wellFormed a
       unfolding wellFormed
       by-rings low t e =
-          let l = and-both (every n (λ i. rowFits 31 (n - 1) (labelRow a false i))) (every (32 - n) (λ i. rowFits 31 0 (labelRow a false (n + i)))) (t .labels) in
-          let m = and-both (every n (λ i. rowFits 31 (n - 1) (labelRow a true i))) (every (32 - n) (λ i. rowFits 31 0 (labelRow a true (n + i)))) (t .pending) in
+          let l = and-both (fit false) (ones false) (t .labels) in
+          let m = and-both (fit true) (ones true) (t .pending) in
           and-yes (both (both (within-of 2 32 n low high)
           (stations ∙ both (both (both (l .0) (m .0)) (t .phases)) (t .results)))
           (places ∙ both (both (both (both (both (l .1) (m .1)) (t .jobs)) (t .pendingJobs)) (t .idle)) (t .rest))) e

@@ -41,7 +41,9 @@ loop-again c =
     let x = getD s (suc i) 0 in
     let e = ap (λ k. getD s k 0) (add-one i) in (
       search needs,
-      ⊎-elim (λ w. w .1 ∙ flag-down i _ (ne-eqb x 1 (λ y. w .0 .taken (e ∙ y)))) (λ w. w .1 ∙ flag-stays i _ (b .loop .inv .1) (eq-eqb x 1 (sym e ∙ w .0 .left))) (c .if1 .came),
+      ⊎-elim (λ w. w .1 ∙ flag-down i _ (ne-eqb x 1 (λ y. w .0 .taken (e ∙ y))))
+          (λ w. w .1 ∙ flag-stays i _ (b .loop .inv .1) (eq-eqb x 1 (sym e ∙ w .0 .left)))
+          (c .if1 .came),
     )
 
 returns : tie.Need-returns Inv-loop μ-loop

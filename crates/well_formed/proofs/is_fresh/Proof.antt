@@ -25,7 +25,8 @@ none-from-requires c κs = search needs
 returns : tie.Need-returns
 returns c =
     let b = c .before .before .before in
-    λ n e. and-yes (sym (b .same-stations .ensures) ∙ c .before .before .if1 .taken) (c .none-from .ensures) ∙ fresh-rows n (b .before .before .args .rows .now) _ e
+    λ n e. and-yes (sym (b .same-stations .ensures) ∙ c .before .before .if1 .taken) (c .none-from .ensures)
+    ∙ fresh-rows n (b .before .before .args .rows .now) _ e
 
 returns-2 : tie.Need-returns-2
 returns-2 c =

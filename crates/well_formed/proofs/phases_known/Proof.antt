@@ -35,7 +35,9 @@ loop-again c =
     let i = b .loop .i in
     let x = getD (b .before .args .phases .now) i 0 in (
       search needs,
-      ⊎-elim (λ w. w .1 ∙ flag-down i _ (lt-leb x 5 (omega (arith, w .0 .taken)))) (λ w. w .1 ∙ flag-stays i _ (b .loop .inv .1) (le-leb x 5 (omega (arith, w .0 .left)))) (c .if1 .came),
+      ⊎-elim (λ w. w .1 ∙ flag-down i _ (lt-leb x 5 (omega (arith, w .0 .taken))))
+          (λ w. w .1 ∙ flag-stays i _ (b .loop .inv .1) (le-leb x 5 (omega (arith, w .0 .left))))
+          (c .if1 .came),
     )
 
 returns : tie.Need-returns Inv-loop μ-loop

@@ -1,6 +1,5 @@
 use Prim.Native.Nat.{_+_, _-_}
 use mathlib.Core.Path.{sym, _∙_}
-use mathlib.Core.Bool.{_&&_}
 use lib.Dec.{eqb}
 use Rattle.basics.specs.Tests.{every}
 use Rattle.basics.proofs.Facts.{left-no}
@@ -25,7 +24,8 @@ returns : tie.Need-returns
 returns c =
     let t = c .before .before in
     let a = t .before .before .args in
-    sym (left-no _ (was-false (c .before .all-once .ensures) (c .if1 .taken))) ∙ result-rows (a .n) (a .rows .now) (t .tally .result) (search needs) (t .tally .ensures)
+    sym (left-no _ (was-false (c .before .all-once .ensures) (c .if1 .taken)))
+    ∙ result-rows (a .n) (a .rows .now) (t .tally .result) (search needs) (t .tally .ensures)
 
 index-1-none-from : tie.Need-index-1-none-from
 index-1-none-from c = search needs

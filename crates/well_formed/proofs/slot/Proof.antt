@@ -1,6 +1,4 @@
-use mathlib.Core.Path.{sym}
 use borrow.Author.Tests.{le-leb, lt-leb}
-use borrow.Author.Needs.{needs}
 use Rattle.well_formed.proofs.slot.Statement.{statement}
 use Rattle.well_formed.proofs.slot.Tie as tie
 

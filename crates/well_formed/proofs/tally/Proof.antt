@@ -1,9 +1,9 @@
 use Prim.Native.Nat.{ℕ, suc, _-_, _≤_, _<_}
 use native.Mathlib.Omega.{arith}
 use mathlib.Core.Path.{_≡_, refl, ap, _∙_}
-use mathlib.Core.Bool.{true, cond}
+use mathlib.Core.Bool.{true}
 use lib.ListN.{length, getD, length-set, getD-replicate}
-use lib.Dec.{eqb, leb}
+use lib.Dec.{eqb}
 use Rattle.basics.specs.Tests.{count}
 use Rattle.basics.proofs.Facts.{count-bound}
 use Rattle.basics.proofs.Counts.{tally-hit}

@@ -1,5 +1,4 @@
 use borrow.Author.Tests.{lt-ltb, le-ltb}
-use borrow.Author.Needs.{needs}
 use Rattle.well_formed.proofs.top_digit.Statement.{statement}
 use Rattle.well_formed.proofs.top_digit.Tie as tie
 

@@ -25,7 +25,8 @@ labels-fit-requires : tie.Need-labels-fit-requires
 labels-fit-requires c κs = (search needs, λ i h. c .before .sized .ensures .0 0 i (search needs) h)
 
 returns-3 : tie.Need-returns-3
-returns-3 c = failed _ (c .before .before .before .sized .ensures .1) (search needs) _ (λ p. p .labels) (was-false (c .before .labels-fit .ensures) (c .if3 .taken))
+returns-3 c =
+    failed _ (c .before .before .before .sized .ensures .1) (search needs) _ (λ p. p .labels) (was-false (c .before .labels-fit .ensures) (c .if3 .taken))
 
 index-1-labels-fit-2 : tie.Need-index-1-labels-fit-2
 index-1-labels-fit-2 c = search needs
@@ -34,7 +35,9 @@ labels-fit-requires-2 : tie.Need-labels-fit-requires-2
 labels-fit-requires-2 c κs = (search needs, λ i h. c .before .before .before .before .sized .ensures .0 1 i (search needs) h)
 
 returns-4 : tie.Need-returns-4
-returns-4 c = failed _ (c .before .before .before .before .before .before .sized .ensures .1) (search needs) _ (λ p. p .pending) (was-false (c .before .labels-fit2 .ensures) (c .if4 .taken))
+returns-4 c =
+    failed _ (c .before .before .before .before .before .before .sized .ensures .1) (search needs) _ (λ p. p .pending)
+    (was-false (c .before .labels-fit2 .ensures) (c .if4 .taken))
 
 index-1-phases-known : tie.Need-index-1-phases-known
 index-1-phases-known c = search needs
@@ -43,7 +46,9 @@ phases-known-requires : tie.Need-phases-known-requires
 phases-known-requires c κs = search needs
 
 returns-5 : tie.Need-returns-5
-returns-5 c = failed _ (c .before .before .before .before .before .before .before .before .before .sized .ensures .1) (search needs) _ (λ p. p .phases) (was-false (c .before .phases-known .ensures) (c .if5 .taken))
+returns-5 c =
+    failed _ (c .before .before .before .before .before .before .before .before .before .sized .ensures .1) (search needs) _ (λ p. p .phases)
+    (was-false (c .before .phases-known .ensures) (c .if5 .taken))
 
 index-1-idle-from : tie.Need-index-1-idle-from
 index-1-idle-from c = search needs
@@ -52,7 +57,10 @@ idle-from-requires : tie.Need-idle-from-requires
 idle-from-requires c κs = search needs
 
 returns-6 : tie.Need-returns-6
-returns-6 c = failed _ (c .before .before .before .before .before .before .before .before .before .before .before .before .sized .ensures .1) (search needs) _ (λ p. p .idle) (was-false (c .before .idle-from .ensures) (c .if6 .taken))
+returns-6 c =
+    let b = c .before .before in
+    failed _ (b .before .before .before .before .before .before .before .before .before .before .sized .ensures .1) (search needs) _ (λ p. p .idle)
+    (was-false (c .before .idle-from .ensures) (c .if6 .taken))
 
 index-1-none-from : tie.Need-index-1-none-from
 index-1-none-from c = search needs
@@ -61,7 +69,10 @@ none-from-requires : tie.Need-none-from-requires
 none-from-requires c κs = search needs
 
 returns-7 : tie.Need-returns-7
-returns-7 c = failed _ (c .before .before .before .before .before .before .before .before .before .before .before .before .before .before .before .sized .ensures .1) (search needs) _ (λ p. p .jobs) (was-false (c .before .none-from .ensures) (c .if7 .taken))
+returns-7 c =
+    let b = c .before .before .before .before .before in
+    failed _ (b .before .before .before .before .before .before .before .before .before .before .sized .ensures .1) (search needs) _ (λ p. p .jobs)
+    (was-false (c .before .none-from .ensures) (c .if7 .taken))
 
 index-1-none-from-2 : tie.Need-index-1-none-from-2
 index-1-none-from-2 c = search needs
@@ -70,19 +81,28 @@ none-from-requires-2 : tie.Need-none-from-requires-2
 none-from-requires-2 c κs = search needs
 
 returns-8 : tie.Need-returns-8
-returns-8 c = failed _ (c .before .before .before .before .before .before .before .before .before .before .before .before .before .before .before .before .before .before .sized .ensures .1) (search needs) _ (λ p. p .pendingJobs) (was-false (c .before .none-from2 .ensures) (c .if8 .taken))
+returns-8 c =
+    let b = c .before .before .before .before .before .before .before .before in
+    failed _ (b .before .before .before .before .before .before .before .before .before .before .sized .ensures .1) (search needs) _ (λ p. p .pendingJobs)
+    (was-false (c .before .none-from2 .ensures) (c .if8 .taken))
 
 results-fit-requires : tie.Need-results-fit-requires
 results-fit-requires c κs = search needs
 
 returns-9 : tie.Need-returns-9
-returns-9 c = failed _ (c .before .before .before .before .before .before .before .before .before .before .before .before .before .before .before .before .before .before .before .before .sized .ensures .1) (search needs) _ (λ p. p .results) (was-false (c .before .results-fit .ensures) (c .if9 .taken))
+returns-9 c =
+    let b = c .before .before .before .before .before .before .before .before .before .before in
+    failed _ (b .before .before .before .before .before .before .before .before .before .before .sized .ensures .1) (search needs) _ (λ p. p .results)
+    (was-false (c .before .results-fit .ensures) (c .if9 .taken))
 
 rest-is-fresh-requires : tie.Need-rest-is-fresh-requires
 rest-is-fresh-requires c κs = search needs
 
 returns-10 : tie.Need-returns-10
-returns-10 c = failed _ (c .before .before .before .before .before .before .before .before .before .before .before .before .before .before .before .before .before .before .before .before .before .before .sized .ensures .1) (search needs) _ (λ p. p .rest) (was-false (c .before .rest-is-fresh .ensures) (c .if10 .taken))
+returns-10 c =
+    let b = c .before .before .before .before .before .before .before .before .before .before .before .before in
+    failed _ (b .before .before .before .before .before .before .before .before .before .before .sized .ensures .1) (search needs) _ (λ p. p .rest)
+    (was-false (c .before .rest-is-fresh .ensures) (c .if10 .taken))
 
 index-1-no-ring : tie.Need-index-1-no-ring
 index-1-no-ring c = search needs
