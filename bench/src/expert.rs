@@ -100,9 +100,10 @@ fn word(bytes: &[u8; LINE], at: usize) -> u64 {
     u64::from_le_bytes(bytes[at..at + 8].try_into().unwrap())
 }
 
-/// The number that the bytes of a word stand for, so many bits aside; none if one of them is no digit.
+/// The number that the bytes of a word stand for, the lowest so many bits aside; none if one of them is no digit.
 fn value(column: u64, bits: u32) -> Option<u64> {
     let digits = (column ^ ZEROS) & (!0 << bits);
+    // 0x76 more than 9 has no highest bit, and more than any number between 9 and 128 has it.
     let digits_only = (digits | digits.wrapping_add(0x7676_7676_7676_7676)) & 0x8080_8080_8080_8080 == 0;
     // Two digits make a number below 100, two of these one below 10,000, and two of these the whole.
     let pairs = (digits.wrapping_mul(10 << 8 | 1) >> 8) & 0x00ff_00ff_00ff_00ff;
@@ -137,12 +138,13 @@ fn job(bytes: &[u8; LINE]) -> Option<u64> {
 
 /// A number below 100,000,000 in a column of eight bytes.
 fn columns(number: u32) -> u64 {
+    // The reverse of `value`: fours, pairs of each, digits of each; 5243 / 2^19 and 103 / 2^10 are a little above 1 / 100 and 1 / 10.
     let number = u64::from(number);
-    let fours = number / 10_000 | (number % 10_000) << 32;
-    let hundreds = (fours * 5243 >> 19) & 0x0000_007f_0000_007f;
-    let pairs = hundreds | (fours - 100 * hundreds) << 16;
-    let tens = (pairs * 103 >> 10) & 0x000f_000f_000f_000f;
-    let digits = tens | (pairs - 10 * tens) << 8;
+    let fours = (number / 10_000) | ((number % 10_000) << 32);
+    let hundreds = ((fours * 5243) >> 19) & 0x0000_007f_0000_007f;
+    let pairs = hundreds | ((fours - 100 * hundreds) << 16);
+    let tens = ((pairs * 103) >> 10) & 0x000f_000f_000f_000f;
+    let digits = tens | ((pairs - 10 * tens) << 8);
     let blanks = (digits | 1 << 56).trailing_zeros() & !7;
     digits | BLANKS | (BLANKS ^ ZEROS) << blanks
 }

@@ -238,8 +238,8 @@ fn damaged_lines() {
 fn short_columns() {
     for of in 0..BYTES.len().pow(3) {
         let column: [u8; 3] = std::array::from_fn(|k| BYTES[of / BYTES.len().pow(k as u32) % BYTES.len()]);
+        as_plain(&[&column[..], b"  0          0\n"].concat());
         for n in [b" 32", b"  2"] {
-            as_plain(&[&column[..], b"  0          0\n"].concat());
             as_plain(&[&n[..], &column, b"          0\n"].concat());
             as_plain(&[&n[..], b"  0          0\n", &column, b"  2          0\n"].concat());
             as_plain(&[&n[..], b"  0          0\n  1", &column, b"          0\n"].concat());
