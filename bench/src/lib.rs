@@ -1,4 +1,6 @@
-//! The yardstick of `tickets`: the same program in plain Rust, and schedules to run both on. README.md says how.
+//! The yardsticks of `tickets`: the same program in plain Rust, twice, and schedules to run them on. README.md says how.
 
+pub mod expert;
 pub mod generate;
 pub mod plain;
+pub mod reports;

@@ -1,6 +1,6 @@
-/* Document 01's listing as direct calls: prints the report lines, and of a refused call the line that the schedule program would print.
-   A direct call's lines bear the number 0. From the root:
-   rt staticlib ticketing && cc -Wall -Wextra -O2 bindings/c/example.c target/staticlib/libticketing.a -o /tmp/example && /tmp/example */
+/* Document 01's listing as direct calls, and then as a schedule file: prints the report lines. Of a refused call this prints the line that the schedule
+   program would print; a direct call's lines bear the number 0. From the root:
+   rt staticlib exports && cc -Wall -Wextra -O2 bindings/c/example.c target/staticlib/libexports.a -o /tmp/example && /tmp/example */
 #include <inttypes.h>
 #include <stdio.h>
 #include "tickets.h"
@@ -16,6 +16,17 @@ static const struct { uint64_t station, code, job; } calls[] = {
     {3, TICKETS_SNAP, 0},
 };
 
+static const char file[] =
+    "  2  0          0\n"
+    "  1  1         70\n"
+    "  1  3          0\n"
+    "  1  4          0\n"
+    "  1  5          0\n"
+    "  2  2          0\n"
+    "  2  3          0\n"
+    "  2  5          0\n"
+    "  3  3          0\n";
+
 int main(void) {
     static struct tickets_board board;
     uint8_t report[TICKETS_MAX_STATIONS * TICKETS_REPORT_LINE] = {0};
@@ -28,5 +39,10 @@ int main(void) {
         else
             printf("%8d%3" PRIu64 "%3d%3d%11d\n", 0, answer.refusal, 0, 0, 0);
     }
+    static uint8_t whole[TICKETS_REPORT_ROOM(sizeof file - 1)];
+    struct tickets_answer answer = tickets_report((const uint8_t *)file, sizeof file - 1, whole, sizeof whole);
+    if (answer.refusal != 0)
+        return 1;
+    fwrite(whole, 1, answer.written, stdout);
     return 0;
 }

@@ -1,7 +1,8 @@
 //! Boards of the library as tables of the plain program, and back.
 
+use std::array::from_fn;
 use ticket_bench::plain::{Operation, Phase, Station, Table, MAX_STATIONS};
-use tickets::Board;
+use tickets::{Board, CURRENT, JOBS, PENDING, PHASES, STATIONS};
 
 pub const LAST_PHASE: u8 = 5;
 
@@ -32,30 +33,30 @@ pub fn board(table: &Table) -> Board {
     let stations = &table.stations;
     Board {
         count: table.n as u64,
-        labels: std::array::from_fn(|i| stations[i].label),
-        jobs: std::array::from_fn(|i| stations[i].job),
-        pending_labels: std::array::from_fn(|i| stations[i].pending_label),
-        pending_jobs: std::array::from_fn(|i| stations[i].pending_job),
-        result_stations: std::array::from_fn(|i| stations[i].result),
-        result_jobs: std::array::from_fn(|i| stations[i].result_jobs),
-        phases: std::array::from_fn(|i| phase_number(stations[i].phase)),
+        labels: [from_fn(|i| stations[i].label), from_fn(|i| stations[i].pending_label)],
+        jobs: [from_fn(|i| stations[i].job), from_fn(|i| stations[i].pending_job)],
+        control: [from_fn(|i| phase_number(stations[i].phase))],
+        results: from_fn(|i| [stations[i].result.map(u32::from), stations[i].result_jobs]),
     }
 }
 
-/// The plain table, if every phase has a meaning.
+/// The plain table, if every phase has a meaning and every station in a result is a byte.
 pub fn table(board: &Board) -> Option<Table> {
-    let mut phases = [Phase::Idle; MAX_STATIONS];
-    for (to, &number) in phases.iter_mut().zip(&board.phases) {
-        *to = phase(number)?;
+    let mut table = Table { n: usize::try_from(board.count).ok()?, stations: from_fn(|_| Station::fresh(MAX_STATIONS)) };
+    for (i, station) in table.stations.iter_mut().enumerate() {
+        let mut result = [0; MAX_STATIONS];
+        for (to, &number) in result.iter_mut().zip(&board.results[i][STATIONS]) {
+            *to = u8::try_from(number).ok()?;
+        }
+        *station = Station {
+            label: board.labels[CURRENT][i],
+            job: board.jobs[CURRENT][i],
+            pending_label: board.labels[PENDING][i],
+            pending_job: board.jobs[PENDING][i],
+            result,
+            result_jobs: board.results[i][JOBS],
+            phase: phase(board.control[PHASES][i])?,
+        };
     }
-    let station = |i: usize| Station {
-        label: board.labels[i],
-        job: board.jobs[i],
-        pending_label: board.pending_labels[i],
-        pending_job: board.pending_jobs[i],
-        result: board.result_stations[i],
-        result_jobs: board.result_jobs[i],
-        phase: phases[i],
-    };
-    Some(Table { n: usize::try_from(board.count).ok()?, stations: std::array::from_fn(station) })
+    Some(table)
 }

@@ -4,7 +4,7 @@ use crate::boards::{self, LAST_PHASE};
 use crate::draw::{any_step, pick, source, Stations, Step};
 use ticket_bench::generate::Random;
 use ticket_bench::plain::{Table, MAX_DIGITS, MAX_STATIONS, REPORT_LINE};
-use tickets::Board;
+use tickets::{Board, CURRENT, JOBS, PENDING, PHASES, STATIONS};
 
 /// A step, the length of its report area, and the byte that fills it before.
 pub struct Call {
@@ -29,13 +29,10 @@ pub struct Session {
 pub fn noise(random: &mut Random) -> Board {
     let mut board = boards::board(&Table::fresh(MAX_STATIONS));
     board.count = 2 + random.below(31);
-    board.labels.iter_mut().flatten().for_each(|b| *b = random.word() as u8);
-    board.jobs.iter_mut().for_each(|b| *b = random.word() as u32);
-    board.pending_labels.iter_mut().flatten().for_each(|b| *b = random.word() as u8);
-    board.pending_jobs.iter_mut().for_each(|b| *b = random.word() as u32);
-    board.result_stations.iter_mut().flatten().for_each(|b| *b = random.word() as u8);
-    board.result_jobs.iter_mut().flatten().for_each(|b| *b = random.word() as u32);
-    board.phases.iter_mut().for_each(|b| *b = random.word() as u8);
+    board.labels.iter_mut().flatten().flatten().for_each(|b| *b = random.word() as u8);
+    board.jobs.iter_mut().flatten().for_each(|b| *b = random.word() as u32);
+    board.control.iter_mut().flatten().for_each(|b| *b = random.word() as u8);
+    board.results.iter_mut().flatten().flatten().for_each(|b| *b = random.word() as u32);
     board
 }
 
@@ -62,17 +59,17 @@ fn made_up(random: &mut Random, n: usize) -> Board {
     let tree = random.word();
     let stray_in = pick(random, &[2, 4, 16, 64]);
     for i in 0..n {
-        board.labels[i] = label(random, n, tree, stray_in);
+        board.labels[CURRENT][i] = label(random, n, tree, stray_in);
         // A pending label may be any row of digits, and close a ring.
-        board.pending_labels[i][..n - 1].iter_mut().for_each(|d| *d = 1 + random.below(5) as u8);
-        board.jobs[i] = random.word() as u32;
-        board.pending_jobs[i] = random.word() as u32 >> random.below(32);
+        board.labels[PENDING][i][..n - 1].iter_mut().for_each(|d| *d = 1 + random.below(5) as u8);
+        board.jobs[CURRENT][i] = random.word() as u32;
+        board.jobs[PENDING][i] = random.word() as u32 >> random.below(32);
         for place in 0..n {
             let other = place + random.below((n - place) as u64) as usize;
-            board.result_stations[i].swap(place, other);
-            board.result_jobs[i][place] = random.word() as u32 >> random.below(32);
+            board.results[i][STATIONS].swap(place, other);
+            board.results[i][JOBS][place] = random.word() as u32 >> random.below(32);
         }
-        board.phases[i] = random.below(u64::from(LAST_PHASE) + 1) as u8;
+        board.control[PHASES][i] = random.below(u64::from(LAST_PHASE) + 1) as u8;
     }
     board
 }
@@ -91,21 +88,22 @@ fn damage(random: &mut Random, board: &mut Board) {
     let position = below(random, MAX_DIGITS);
     let digit = pick(random, &[0, 1, 2, 3, 4, 5, 6, 7, 128, 255]);
     let number = (random.word() as u32 >> random.below(32)).max(1);
-    match random.below(20) {
-        0 => board.labels[i][position] = digit,
-        1 => board.pending_labels[i][position] = digit,
-        2 => board.labels[past][position] = digit,
-        3 => board.pending_labels[past][position] = digit,
-        4 => board.jobs[past] = number,
-        5 => board.pending_jobs[past] = number,
-        6 => board.phases[past] = random.below(8) as u8,
-        7 => board.phases[i] = pick(random, &[6, 7, 8, 127, 128, 255, 0, 3]),
-        8 => board.result_stations[i][place] = board.result_stations[i][below(random, n)],
-        9 => board.result_stations[i][place] = pick(random, &[0, n as u8, n as u8 + 1, 33, 64, 65, 255]),
-        10 => board.result_stations[i][place_past] = pick(random, &[0, 1, n as u8, n as u8 + 1, 255]),
-        11 => board.result_jobs[i][place_past] = number,
-        12 => board.result_stations[past][below(random, MAX_STATIONS)] = random.below(34) as u8,
-        13 => board.result_jobs[past][below(random, MAX_STATIONS)] = number,
+    let station = n as u32;
+    match random.below(21) {
+        0 => board.labels[CURRENT][i][position] = digit,
+        1 => board.labels[PENDING][i][position] = digit,
+        2 => board.labels[CURRENT][past][position] = digit,
+        3 => board.labels[PENDING][past][position] = digit,
+        4 => board.jobs[CURRENT][past] = number,
+        5 => board.jobs[PENDING][past] = number,
+        6 => board.control[PHASES][past] = random.below(8) as u8,
+        7 => board.control[PHASES][i] = pick(random, &[6, 7, 8, 127, 128, 255, 0, 3]),
+        8 => board.results[i][STATIONS][place] = board.results[i][STATIONS][below(random, n)],
+        9 => board.results[i][STATIONS][place] = pick(random, &[0, station, station + 1, 33, 64, 65, 255, 256, u32::MAX]),
+        10 => board.results[i][STATIONS][place_past] = pick(random, &[0, 1, station, station + 1, 255, 256, 1 << 31]),
+        11 => board.results[i][JOBS][place_past] = number,
+        12 => board.results[past][STATIONS][below(random, MAX_STATIONS)] = random.below(34) as u32,
+        13 => board.results[past][JOBS][below(random, MAX_STATIONS)] = number,
         // Another count: fields that fitted n do not fit it.
         14 => {
             let n = n as u64;
@@ -115,30 +113,39 @@ fn damage(random: &mut Random, board: &mut Board) {
         15 | 16 => {
             let at = below(random, n - 1);
             let mut three = [i, below(random, n), below(random, n)];
-            let shared = board.labels[i];
+            let labels = &mut board.labels[CURRENT];
+            let shared = labels[i];
             let digits = pick(random, &[[3, 4, 5], [3, 5, 4], [5, 3, 4], [3, 4, 4], [2, 4, 5], [1, 3, 5]]);
             if n > 2 && random.below(4) > 0 {
                 three = [i, (i + 1) % n, (i + 2) % n];
             }
             for (station, digit) in three.into_iter().zip(digits) {
-                board.labels[station][..at].copy_from_slice(&shared[..at]);
-                board.labels[station][at] = digit;
+                labels[station][..at].copy_from_slice(&shared[..at]);
+                labels[station][at] = digit;
             }
         }
         // A ring among pending labels is none.
         17 => {
             for (k, digit) in [3, 4, 5].into_iter().enumerate() {
-                board.pending_labels[(i + k) % n][below(random, n - 1)] = digit;
+                board.labels[PENDING][(i + k) % n][below(random, n - 1)] = digit;
             }
         }
-        18 => board.labels[i] = board.pending_labels[below(random, n)],
-        // Any one byte of the small arrays.
-        _ => match random.below(4) {
-            0 => board.labels[below(random, MAX_STATIONS)][position] = random.word() as u8,
-            1 => board.pending_labels[below(random, MAX_STATIONS)][position] = random.word() as u8,
-            2 => board.result_stations[below(random, MAX_STATIONS)][below(random, MAX_STATIONS)] = random.word() as u8,
-            _ => board.phases[below(random, MAX_STATIONS)] = random.word() as u8,
-        },
+        18 => board.labels[CURRENT][i] = board.labels[PENDING][below(random, n)],
+        // A station of a result with a bit more: its low bits are still the station.
+        19 => {
+            let (row, at) = (below(random, MAX_STATIONS), below(random, MAX_STATIONS));
+            board.results[row][STATIONS][at] ^= 1 << pick(random, &[6, 7, 8, 9, 15, 16, 17, 24, 30, 31]);
+        }
+        // Any one number of the small arrays.
+        _ => {
+            let (row, at) = (below(random, MAX_STATIONS), below(random, MAX_STATIONS));
+            match random.below(4) {
+                0 => board.labels[CURRENT][row][position] = random.word() as u8,
+                1 => board.labels[PENDING][row][position] = random.word() as u8,
+                2 => board.results[row][STATIONS][at] = random.word() as u32 >> random.below(32),
+                _ => board.control[PHASES][row] = random.word() as u8,
+            }
+        }
     }
 }
 
@@ -146,10 +153,10 @@ fn damage(random: &mut Random, board: &mut Board) {
 fn any_digits(random: &mut Random, n: usize) -> Board {
     let mut board = made_up(random, n);
     let spread = pick(random, &[2, 8, 64]);
+    let labels = &mut board.labels[CURRENT];
     for i in 1..n {
-        let other = below(random, i);
-        board.labels[i] = board.labels[other];
-        for digit in &mut board.labels[i][..n - 1] {
+        labels[i] = labels[below(random, i)];
+        for digit in &mut labels[i][..n - 1] {
             if random.one_in(spread) {
                 *digit = 1 + random.below(5) as u8;
             }
@@ -183,7 +190,7 @@ impl Session {
     /// The next call on the board.
     pub fn call(&mut self) -> Call {
         let Session { random, stations, board, n, .. } = self;
-        let step = if random.one_in(self.any_in) { any_step(random, *n) } else { stations.step(random, &board.phases) };
+        let step = if random.one_in(self.any_in) { any_step(random, *n) } else { stations.step(random, &board.control[PHASES]) };
         let exact = *n as usize * REPORT_LINE;
         let room = match random.below(8) {
             0 => exact - 1,

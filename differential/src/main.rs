@@ -40,7 +40,9 @@ fn budget() -> Result<Budget, String> {
 fn all() -> Result<String, String> {
     let Budget { mut files, mut calls, seed, program } = budget()?;
     if files > 0 {
-        run::files(seed, files, program.as_deref())?.show("report lines of files")?;
+        for (of, counts) in run::files(seed, files, program.as_deref())? {
+            counts.show(of)?;
+        }
         files += run::FULL.len() as u64;
     }
     if calls > 0 {

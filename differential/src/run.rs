@@ -8,8 +8,9 @@ use std::fmt::Debug;
 use std::fs::{self, File};
 use std::io;
 use std::process::{Command, Stdio};
-use ticket_bench::generate::{schedule, Ending};
-use ticket_bench::plain::{self, refusal, Table, LINE, MAX_STATIONS, MAX_STEPS, REPORT_LINE};
+use ticket_bench::generate::{schedule, Ending, Random};
+use ticket_bench::plain::{self, refusal, Table, MAX_STEPS};
+use ticket_bench::reports::{final_refusal, numbers};
 use tickets::{Answer, Board};
 
 /// How often each refusal number was the plain program's answer, 0 for a call or a report line that is not refused.
@@ -46,32 +47,35 @@ impl Counts {
 /// Bytes behind a lent area that are not lent.
 const BEHIND: usize = 64;
 
-/// The library's report, in just the room that it asks for; true if less room was tried first.
-fn check_library(schedule: &[u8], expected: &[u8], random: u64) -> Result<bool, String> {
-    let room = MAX_STATIONS * REPORT_LINE * (schedule.len() / LINE + 2);
-    // The room for a full file is most of a gigabyte: it is left to the system as zeros, and looked at only near the report.
-    let full = room > 1 << 27;
-    let fill = if full { 0 } else { random as u8 };
-    let mut area = if full { vec![0; room + BEHIND] } else { vec![fill; room + BEHIND] };
-    let kept = |bytes: &[u8]| bytes.iter().all(|&b| b == fill);
-    let short = !full && random >> 8 & 3 == 0;
-    if short {
-        let less = if random >> 10 & 1 == 0 { room - 1 } else { (random >> 16) as usize % room };
-        let answer = tickets::report_into(schedule, &mut area[..less]);
-        same("answer to less room", &answer, &Answer { refusal: refusal::SHORT_REPORT, written: 0 })?;
-        same("whether less room is kept", &kept(&area), &true)?;
+/// The library's report in a buffer of that length. The library's answer is counted.
+fn check_buffer(schedule: &[u8], expected: &[u8], len: usize, fill: u8, counts: &mut Counts) -> Result<(), String> {
+    let mut area = vec![fill; len + BEHIND];
+    let fits = len >= expected.len();
+    let report = if fits { expected } else { &[] };
+    let expected_answer = Answer { refusal: if fits { final_refusal(expected) } else { refusal::SHORT_REPORT }, written: report.len() as u64 };
+    let answer = tickets::report_into(schedule, &mut area[..len]);
+    counts.add(expected_answer.refusal);
+    let (front, rest) = area.split_at(report.len());
+    same("answer", &answer, &expected_answer)
+        .and_then(|()| same_bytes("report", front, report))
+        .and_then(|()| same("whether the bytes past the report are kept", &rest.iter().all(|&b| b == fill), &true))
+        .map_err(|what| format!("in a buffer of {len} bytes {fill}: {what}"))
+}
+
+/// The library's report in buffers just as long as the report, longer, much longer, shorter by a byte, much shorter, and empty.
+fn check_library(schedule: &[u8], expected: &[u8], mut random: Random, counts: &mut Counts) -> Result<(), String> {
+    let exact = expected.len();
+    let longer = 1 + random.below(64) as usize;
+    let much_longer = if random.one_in(16) { 1_000_000 } else { random.below(5000) as usize };
+    let mut lens = vec![exact, exact + longer, exact + much_longer];
+    if exact > 0 {
+        lens.extend([exact - 1, random.below(exact as u64) as usize, 0]);
     }
-    let answer = tickets::report_into(schedule, &mut area[..room]);
-    same("refusal", &answer.refusal, &0)?;
-    let (report, rest) = area.split_at(room.min(answer.written as usize));
-    same_bytes("report", report, expected)?;
-    let near = if full { 1 << 16 } else { rest.len() };
-    same("whether the bytes past the report are kept", &kept(&rest[..near]), &true)?;
-    Ok(short)
+    lens.into_iter().try_for_each(|len| check_buffer(schedule, expected, len, random.word() as u8, counts))
 }
 
 /// The program's report. The schedule goes through a file, so neither side waits for the other.
-fn check_program(program: &str, schedule: &[u8], expected: &[u8]) -> Result<bool, String> {
+fn check_program(program: &str, schedule: &[u8], expected: &[u8]) -> Result<(), String> {
     let report = || -> io::Result<Vec<u8>> {
         let path = std::env::temp_dir().join(format!("ticket-differential-{}", std::process::id()));
         fs::write(&path, schedule)?;
@@ -80,8 +84,7 @@ fn check_program(program: &str, schedule: &[u8], expected: &[u8]) -> Result<bool
         output.status.success().then_some(output.stdout).ok_or_else(|| io::Error::other(output.status.to_string()))
     };
     let report = report().map_err(|error| format!("{program}: {error}"))?;
-    same_bytes("report", &report, expected)?;
-    Ok(false)
+    same_bytes("report", &report, expected)
 }
 
 /// Both sides of a comparison, if they differ.
@@ -103,41 +106,37 @@ fn same_bytes(what: &str, library: &[u8], plain: &[u8]) -> Result<(), String> {
     Err(format!("{what} differs from byte {at} on\nlibrary: {}\nplain:   {}", rest(library), rest(plain)))
 }
 
-fn check_file(program: Option<&str>, schedule: &[u8], random: u64, counts: &mut Counts) -> Result<(), String> {
+/// A file by both sides. The lines of its report are counted.
+fn check_file(program: Option<&str>, schedule: &[u8], random: Random, lines: &mut Counts, answers: &mut Counts) -> Result<(), String> {
     let mut expected = Vec::new();
     plain::run(&mut &schedule[..], &mut expected).map_err(|error| error.to_string())?;
-    for line in expected.chunks_exact(REPORT_LINE) {
-        let number = line[8..11].iter().filter(|b| b.is_ascii_digit()).fold(0, |number, b| number * 10 + u64::from(b - b'0'));
-        counts.add(number);
+    expected.as_chunks().0.iter().for_each(|line| lines.add(numbers(line).1));
+    match program {
+        None => check_library(schedule, &expected, random, answers),
+        Some(program) => check_program(program, schedule, &expected),
     }
-    let short = match program {
-        None => check_library(schedule, &expected, random)?,
-        Some(program) => check_program(program, schedule, &expected)?,
-    };
-    if short {
-        counts.add(refusal::SHORT_REPORT);
-    }
-    Ok(())
 }
 
 /// Files with all 1,000,000 step lines, and nothing, a line, an incomplete line or a line with a malformed column after them.
 pub const FULL: [Ending; 4] = [Ending::Plain, Ending::OneMore, Ending::Incomplete, Ending::Column];
 
-/// The full files, and so many others.
-pub fn files(seed: u64, files: u64, program: Option<&str>) -> Result<Counts, String> {
-    let mut counts = Counts::new(match program {
-        None => &[0, 1, 2, 3, 4, 5, 6, 7, 8, 9, 10, 11, 12],
-        Some(_) => &[0, 1, 2, 3, 4, 5, 6, 8, 9, 10, 11, 12],
-    });
+/// The full files, and so many others. What was counted: the lines of their reports, and the library's answers, of which the program has none.
+pub fn files(seed: u64, files: u64, program: Option<&str>) -> Result<Vec<(&'static str, Counts)>, String> {
+    let mut lines = Counts::new(&[0, 1, 2, 3, 4, 5, 6, 8, 9, 10, 11, 12]);
+    let mut answers = Counts::new(&[0, 1, 7, 8, 9, 10, 11, 12]);
     for (n, ending) in (2..).zip(FULL) {
         let bytes = schedule(n, MAX_STEPS.into(), seed, ending);
-        check_file(program, &bytes, 0, &mut counts).map_err(|what| format!("seed {seed}, full file of {n} stations, ending {ending:?}: {what}"))?;
+        check_file(program, &bytes, source(seed, 5, n), &mut lines, &mut answers)
+            .map_err(|what| format!("seed {seed}, full file of {n} stations, ending {ending:?}: {what}"))?;
     }
     for index in 0..files {
         let bytes = file(seed, index);
-        let random = source(seed, 3, index).word();
-        check_file(program, &bytes, random, &mut counts)
+        check_file(program, &bytes, source(seed, 3, index), &mut lines, &mut answers)
             .map_err(|what| format!("seed {seed}, file {index}, {} bytes:\n{}\n{what}", bytes.len(), bytes.escape_ascii()))?;
+    }
+    let mut counts = vec![("report lines of files", lines)];
+    if program.is_none() {
+        counts.push(("answers for files", answers));
     }
     Ok(counts)
 }
@@ -149,7 +148,7 @@ fn check_call(board: &mut Board, call: &Call, counts: &mut Counts) -> Result<(),
     let mut area = vec![*fill; room + BEHIND];
     let mut expected_area = area.clone();
     let answer = board.answer(step.code, step.station, step.job, &mut area[..*room]);
-    // A phase without a meaning has no plain table, and is refused by 13 with nothing changed.
+    // A phase without a meaning, or a station in a result past 255, has no plain table; it is refused by 13 with nothing changed.
     let (expected, expected_board) = match boards::table(&before) {
         None => (Answer { refusal: refusal::ILL_FORMED, written: 0 }, before.clone()),
         Some(mut table) => {
@@ -167,7 +166,7 @@ fn check_call(board: &mut Board, call: &Call, counts: &mut Counts) -> Result<(),
 /// A fresh table written over any board by both sides.
 fn check_fresh(board: &mut Board, n: u64, counts: &mut Counts) -> Result<(), String> {
     let (expected, expected_board) = match n {
-        2..=32 => (0, Board { count: board.count, ..boards::board(&Table::fresh(n as usize)) }),
+        2..=32 => (0, boards::board(&Table::fresh(n as usize))),
         _ => (refusal::COUNT, board.clone()),
     };
     counts.add(expected);
@@ -183,7 +182,6 @@ fn check_board(seed: u64, index: u64, counts: &mut Counts) -> Result<(), String>
         check_fresh(&mut session.board, other, counts)?;
         session.board = noise(&mut source(seed, 4, index));
         check_fresh(&mut session.board, session.n, counts)?;
-        session.board.count = session.n;
     }
     for _ in 0..session.calls {
         if let Some(mut damaged) = session.damaged() {

@@ -1,4 +1,4 @@
-//! bench [--runs K] [--lines K] [TICKETS]: times `tickets` and the plain program on the same schedules. README.md says what it prints.
+//! bench [--runs K] [--lines K] [TICKETS]: times `tickets`, the plain program and the expert's on the same schedules. README.md says what it prints.
 
 use std::fs::{self, File};
 use std::path::{Path, PathBuf};
@@ -57,12 +57,17 @@ fn usage() -> ! {
     std::process::exit(2);
 }
 
-/// A schedule, the size of its report, and the best times of the plain program and of `tickets`.
+/// A schedule, the size of its report, and the best times of the plain program, of the expert's and of `tickets`.
 struct Trial {
     n: u64,
     input: PathBuf,
     report: usize,
-    best: [Time; 2],
+    best: [Time; 3],
+}
+
+/// The three times in milliseconds, and the last of them over the others.
+fn times([plain, expert, tickets]: [f64; 3]) -> String {
+    format!("{plain:7.1} {expert:7.1} {tickets:7.1} {:7.2} {:7.2}", tickets / plain, tickets / expert)
 }
 
 fn main() {
@@ -79,8 +84,9 @@ fn main() {
             _ => tickets = PathBuf::from(argument),
         }
     }
-    let plain = std::env::current_exe().expect("this program's path").with_file_name("plain");
-    if let Some(missing) = [&plain, &tickets].into_iter().find(|program| !program.exists()) {
+    let built = std::env::current_exe().expect("this program's path");
+    let programs = [built.with_file_name("plain"), built.with_file_name("expert"), tickets];
+    if let Some(missing) = programs.iter().find(|program| !program.exists()) {
         eprintln!("{} is not built", missing.display());
         std::process::exit(2);
     }
@@ -92,12 +98,14 @@ fn main() {
     for n in COUNTS {
         let input = folder.join(format!("schedule-{n}"));
         fs::write(&input, schedule(n, lines, SEED, Ending::Plain)).expect("a schedule file");
-        let ours = report(&tickets, &input, &folder.join("tickets"));
-        if ours != report(&plain, &input, &folder.join("plain")) {
-            println!("the reports differ for n = {n}");
-            differ = true;
+        let [plain, expert, ours] = programs.each_ref().map(|program| report(program, &input, &folder.join("report")));
+        for (other, name) in [(plain, "the plain program"), (expert, "the expert's program")] {
+            if other != ours {
+                println!("the reports of tickets and of {name} differ for n = {n}");
+                differ = true;
+            }
         }
-        trials.push(Trial { n, input, report: ours.len(), best: [Time { wall: f64::MAX, cpu: f64::MAX }; 2] });
+        trials.push(Trial { n, input, report: ours.len(), best: [Time { wall: f64::MAX, cpu: f64::MAX }; 3] });
     }
     if differ {
         fs::remove_dir_all(&folder).expect("the temporary folder");
@@ -106,28 +114,18 @@ fn main() {
     // All schedules in each round, so that a busy spell of the machine does not fall on one of them alone.
     for _ in 0..runs {
         for trial in &mut trials {
-            for (best, program) in trial.best.iter_mut().zip([&plain, &tickets]) {
+            for (best, program) in trial.best.iter_mut().zip(&programs) {
                 *best = best.least(run(program, &trial.input, Stdio::null()));
             }
         }
     }
     println!("{lines} step lines, report to /dev/null, minimum of {runs} alternating runs; cpu is user + system time");
-    println!("               wall ms                    cpu ms                     wall ns per line");
-    println!(" n  report MB    plain  tickets  ratio     plain  tickets  ratio      plain  tickets");
-    for Trial { n, report, best: [p, t], .. } in trials {
+    println!("               wall ms                  tickets over    cpu ms                   tickets over    wall ns per line");
+    println!(" n  report MB    plain  expert tickets   plain  expert    plain  expert tickets   plain  expert    plain  expert tickets");
+    for Trial { n, report, best, .. } in trials {
         let megabytes = report as f64 / 1e6;
-        let per_line = |time: Time| time.wall * 1e6 / lines as f64;
-        println!(
-            "{n:2} {megabytes:10.1} {:8.1} {:8.1} {:6.2}  {:8.1} {:8.1} {:6.2}   {:8.0} {:8.0}",
-            p.wall,
-            t.wall,
-            t.wall / p.wall,
-            p.cpu,
-            t.cpu,
-            t.cpu / p.cpu,
-            per_line(p),
-            per_line(t)
-        );
+        let [p, e, t] = best.map(|time| time.wall * 1e6 / lines as f64);
+        println!("{n:2} {megabytes:10.1}  {}  {}  {p:7.0} {e:7.0} {t:7.0}", times(best.map(|time| time.wall)), times(best.map(|time| time.cpu)));
     }
     fs::remove_dir_all(&folder).expect("the temporary folder");
 }

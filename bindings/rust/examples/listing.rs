@@ -1,5 +1,5 @@
-//! Document 01's listing as direct calls: prints the report lines, and of a refused call the line that the schedule program would print. A direct
-//! call's lines bear the number 0.
+//! Document 01's listing as direct calls, and then as a schedule file: prints the report lines. Of a refused call this prints the line that the schedule
+//! program would print; a direct call's lines bear the number 0.
 
 use std::io::{self, Write};
 use tickets::{code, Board, MAX_STATIONS, REPORT_LINE};
@@ -15,6 +15,17 @@ const CALLS: [(u64, u64, u64); 8] = [
     (3, code::SNAP, 0),
 ];
 
+const FILE: &[u8] = b"  2  0          0
+  1  1         70
+  1  3          0
+  1  4          0
+  1  5          0
+  2  2          0
+  2  3          0
+  2  5          0
+  3  3          0
+";
+
 fn main() -> io::Result<()> {
     let mut board = Board::fresh(2).expect("2 stations");
     let mut report = [0; MAX_STATIONS * REPORT_LINE];
@@ -25,5 +36,7 @@ fn main() -> io::Result<()> {
             Err(refusal) => writeln!(out, "{:8}{refusal:3}{:3}{:3}{:11}", 0, 0, 0, 0)?,
         }
     }
-    Ok(())
+    let (report, refusal) = tickets::report(FILE);
+    assert_eq!(refusal, 0, "nothing ends this file before its last line");
+    out.write_all(&report)
 }

@@ -1,4 +1,5 @@
-//! The ticket table and the schedule program for Rust programs: a safe wrapper of the proved library `libticketing.a`, whose functions ask nothing of their caller.
+//! The ticket table and the schedule program for Rust programs: a safe wrapper of the proved library `libexports.a`, whose functions ask nothing of
+//! their caller.
 //!
 //! That the declarations here are those of the library is not proved; the assertions below hold the layout, and `tests/` runs the library.
 
@@ -6,7 +7,8 @@ use std::mem::{align_of, offset_of, size_of};
 
 pub const MAX_STATIONS: usize = 32;
 pub const MAX_DIGITS: usize = MAX_STATIONS - 1;
-/// Bytes of a report line.
+/// Bytes of a schedule line and of a report line.
+pub const LINE: usize = 18;
 pub const REPORT_LINE: usize = 29;
 
 /// The steps of a call. A label operation is begin, snap, update, end; a scan is begin, snap, end.
@@ -31,29 +33,45 @@ pub mod refusal {
     pub const NO_SNAP_DUE: u64 = 4;
     pub const NO_UPDATE_DUE: u64 = 5;
     pub const NO_END_DUE: u64 = 6;
-    /// The end of a scan, and the buffer has less than 29 bytes for each station.
+    /// The buffer is shorter than the report: of the end of a scan, 29 bytes for each station, or of a whole file.
     pub const SHORT_REPORT: u64 = 7;
+    /// A line that is not 18 bytes, or its last one not a line's end. It ends a file.
+    pub const INCOMPLETE: u64 = 8;
+    /// A column that holds no number as it must. It ends a file.
+    pub const COLUMN: u64 = 9;
     pub const CODE: u64 = 10;
     /// Not 1 to 4,294,967,295 to begin a label, not 0 for every other step.
     pub const JOB: u64 = 11;
+    /// A line after the 1,000,000th step line. It ends a file.
+    pub const TOO_MANY: u64 = 12;
     /// A board that is no well-formed table.
     pub const BOARD: u64 = 13;
 }
 
-/// A table as plain numbers: row i of each array belongs to station i + 1. Every content is a value; one that is no well-formed table is refused by 13.
-///
-/// Phases: 0 idle, 1 and 2 due to snap for a label and for a scan, 3 due to update, 4 and 5 due to end a label and a scan.
+/// The planes of `Board::labels` and `Board::jobs`: what a station has, and what its next update will make of it.
+pub const CURRENT: usize = 0;
+pub const PENDING: usize = 1;
+/// The plane of `Board::control`: 0 idle, 1 and 2 due to snap for a label and for a scan, 3 due to update, 4 and 5 due to end a label and a scan.
+pub const PHASES: usize = 0;
+/// The rows of a scan result in `Board::results`: the stations, from 1, oldest first, and their jobs.
+pub const STATIONS: usize = 0;
+pub const JOBS: usize = 1;
+
+pub type Labels = [[[u8; MAX_DIGITS]; MAX_STATIONS]; 2];
+pub type Jobs = [[u32; MAX_STATIONS]; 2];
+pub type Control = [[u8; MAX_STATIONS]; 1];
+pub type Results = [[[u32; MAX_STATIONS]; 2]; MAX_STATIONS];
+
+/// A table as plain numbers; place i of a plane and of the results belongs to station i + 1. Every content is a value; one that is no well-formed table
+/// is refused by 13.
 #[repr(C)]
 #[derive(Clone, PartialEq, Eq, Debug)]
 pub struct Board {
     pub count: u64,
-    pub jobs: [u32; MAX_STATIONS],
-    pub pending_jobs: [u32; MAX_STATIONS],
-    pub result_jobs: [[u32; MAX_STATIONS]; MAX_STATIONS],
-    pub result_stations: [[u8; MAX_STATIONS]; MAX_STATIONS],
-    pub labels: [[u8; MAX_DIGITS]; MAX_STATIONS],
-    pub pending_labels: [[u8; MAX_DIGITS]; MAX_STATIONS],
-    pub phases: [u8; MAX_STATIONS],
+    pub jobs: Jobs,
+    pub results: Results,
+    pub labels: Labels,
+    pub control: Control,
 }
 
 /// What an exported function answers: the number of the refusal, 0 for none, and how many bytes of report were written.
@@ -67,36 +85,21 @@ pub struct Answer {
 // No padding, so every byte is a number's; the C header has the same layout.
 const _: () = {
     assert!(offset_of!(Board, jobs) == 8);
-    assert!(offset_of!(Board, pending_jobs) == 136);
-    assert!(offset_of!(Board, result_jobs) == 264);
-    assert!(offset_of!(Board, result_stations) == 4360);
-    assert!(offset_of!(Board, labels) == 5384);
-    assert!(offset_of!(Board, pending_labels) == 6376);
-    assert!(offset_of!(Board, phases) == 7368);
-    assert!(size_of::<Board>() == 7400 && align_of::<Board>() == 8);
-    assert!(size_of::<Answer>() == 16);
+    assert!(offset_of!(Board, results) == 264);
+    assert!(offset_of!(Board, labels) == 8456);
+    assert!(offset_of!(Board, control) == 10_440);
+    assert!(size_of::<Board>() == 10_472 && align_of::<Board>() == 8);
+    assert!(size_of::<Answer>() == 16 && align_of::<Answer>() == 8);
 };
 
 extern "C" {
-    fn tickets_fresh(
-        count: u64,
-        labels: &mut [[u8; MAX_DIGITS]; MAX_STATIONS],
-        jobs: &mut [u32; MAX_STATIONS],
-        pending_labels: &mut [[u8; MAX_DIGITS]; MAX_STATIONS],
-        pending_jobs: &mut [u32; MAX_STATIONS],
-        result_stations: &mut [[u8; MAX_STATIONS]; MAX_STATIONS],
-        result_jobs: &mut [[u32; MAX_STATIONS]; MAX_STATIONS],
-        phases: &mut [u8; MAX_STATIONS],
-    ) -> u64;
+    fn tickets_fresh(n: u64, labels: &mut Labels, jobs: &mut Jobs, control: &mut Control, results: &mut Results) -> u64;
     fn tickets_step(
         count: u64,
-        labels: &mut [[u8; MAX_DIGITS]; MAX_STATIONS],
-        jobs: &mut [u32; MAX_STATIONS],
-        pending_labels: &mut [[u8; MAX_DIGITS]; MAX_STATIONS],
-        pending_jobs: &mut [u32; MAX_STATIONS],
-        result_stations: &mut [[u8; MAX_STATIONS]; MAX_STATIONS],
-        result_jobs: &mut [[u32; MAX_STATIONS]; MAX_STATIONS],
-        phases: &mut [u8; MAX_STATIONS],
+        labels: &mut Labels,
+        jobs: &mut Jobs,
+        control: &mut Control,
+        results: &mut Results,
         code: u64,
         station: u64,
         job: u64,
@@ -106,34 +109,41 @@ extern "C" {
     fn tickets_report(schedule: *const u8, schedule_len: usize, report: *mut u8, report_len: usize) -> Answer;
 }
 
-/// Writes the report of a whole schedule file to the front of a buffer. One that is too short for any report of so many lines is refused by 7.
+/// Writes the report of a whole schedule file to the front of a buffer; what stands past it stays.
+///
+/// The refusal is the one that ended the file: 8, 9, 10, 1 or 11 of its header, 8, 9 or 12 of a step line; the report's last line shows it. It is 0 if
+/// the file was read to its end. A buffer that is shorter than the report of this file is refused by 7, and nothing is written.
 pub fn report_into(schedule: &[u8], report: &mut [u8]) -> Answer {
     // SAFETY: the function is declared as the library exports it; it takes any bytes, and writes at most `report.len()` to the buffer, which does not
     // overlap the schedule.
     unsafe { tickets_report(schedule.as_ptr(), schedule.len(), report.as_mut_ptr(), report.len()) }
 }
 
-/// The report of a whole schedule file. The memory that it takes is that of the report; room for more is asked for, and not touched.
-pub fn report(schedule: &[u8]) -> Vec<u8> {
-    let mut report = vec![0; (schedule.len() / 18 + 2) * MAX_STATIONS * REPORT_LINE];
+/// Bytes that are enough for the report of any schedule file of that length.
+pub const fn report_room(schedule_len: usize) -> usize {
+    (schedule_len / LINE + 1) * MAX_STATIONS * REPORT_LINE
+}
+
+/// The report of a whole schedule file, and the refusal that ended the file, 0 for none.
+///
+/// The memory that it takes is that of the report; room for any report is asked for, and not touched.
+pub fn report(schedule: &[u8]) -> (Vec<u8>, Refusal) {
+    let mut report = vec![0; report_room(schedule.len())];
     let answer = report_into(schedule, &mut report);
-    assert!(answer.refusal == 0, "there is room for every report");
+    assert!(answer.refusal != refusal::SHORT_REPORT, "there is room for every report");
     report.truncate(answer.written as usize);
-    report
+    (report, answer.refusal)
 }
 
 impl Board {
     /// The fresh table of n stations, 2 to 32.
     pub fn fresh(n: u64) -> Result<Board, Refusal> {
         let mut board = Board {
-            count: n,
-            jobs: [0; MAX_STATIONS],
-            pending_jobs: [0; MAX_STATIONS],
-            result_jobs: [[0; MAX_STATIONS]; MAX_STATIONS],
-            result_stations: [[0; MAX_STATIONS]; MAX_STATIONS],
-            labels: [[0; MAX_DIGITS]; MAX_STATIONS],
-            pending_labels: [[0; MAX_DIGITS]; MAX_STATIONS],
-            phases: [0; MAX_STATIONS],
+            count: 0,
+            jobs: [[0; MAX_STATIONS]; 2],
+            results: [[[0; MAX_STATIONS]; 2]; MAX_STATIONS],
+            labels: [[[0; MAX_DIGITS]; MAX_STATIONS]; 2],
+            control: [[0; MAX_STATIONS]; 1],
         };
         match board.freshen(n) {
             0 => Ok(board),
@@ -141,21 +151,14 @@ impl Board {
         }
     }
 
-    /// Writes the fresh table of n stations over the arrays, whatever they hold, and keeps the count; another n than 2 to 32 is refused by 1.
+    /// Makes this the fresh table of n stations, whatever it holds. Another n than 2 to 32 is refused by 1 and changes nothing.
     pub fn freshen(&mut self, n: u64) -> Refusal {
         // SAFETY: the function is declared as the library exports it; it takes any number and any content of the arrays.
-        unsafe {
-            tickets_fresh(
-                n,
-                &mut self.labels,
-                &mut self.jobs,
-                &mut self.pending_labels,
-                &mut self.pending_jobs,
-                &mut self.result_stations,
-                &mut self.result_jobs,
-                &mut self.phases,
-            )
+        let refusal = unsafe { tickets_fresh(n, &mut self.labels, &mut self.jobs, &mut self.control, &mut self.results) };
+        if refusal == 0 {
+            self.count = n;
         }
+        refusal
     }
 
     /// A step of a station: how many bytes of report were written to the front of the buffer, or the refusal. A refused call changes nothing.
@@ -177,11 +180,8 @@ impl Board {
                 self.count,
                 &mut self.labels,
                 &mut self.jobs,
-                &mut self.pending_labels,
-                &mut self.pending_jobs,
-                &mut self.result_stations,
-                &mut self.result_jobs,
-                &mut self.phases,
+                &mut self.control,
+                &mut self.results,
                 code,
                 station,
                 job,

@@ -3,9 +3,10 @@
 use std::array::from_fn;
 use ticket_bench::generate::Random;
 use ticket_bench::plain::{self, Operation, Phase, Station, Table};
-use tickets::{code, refusal, Board, MAX_DIGITS, MAX_STATIONS, REPORT_LINE};
+use tickets::{code, refusal, Board, CURRENT, JOBS, MAX_DIGITS, MAX_STATIONS, PENDING, PHASES, REPORT_LINE, STATIONS};
 
-const PHASES: [Phase; 6] = [
+/// The phases, in the order of their numbers.
+const NAMED: [Phase; 6] = [
     Phase::Idle,
     Phase::Snap(Operation::Label),
     Phase::Snap(Operation::Scan),
@@ -14,34 +15,32 @@ const PHASES: [Phase; 6] = [
     Phase::End(Operation::Scan),
 ];
 
-/// The plain table with the contents of a board; none if a phase is no phase's number.
+/// The plain table with the contents of a board; none if a phase is no phase's number, or a station in a result no number of a byte. Such boards are
+/// refused by 13.
 fn table(board: &Board) -> Option<Table> {
-    if board.phases.iter().any(|&phase| usize::from(phase) >= PHASES.len()) {
-        return None;
+    let mut table = Table { n: board.count as usize, stations: from_fn(|_| Station::fresh(MAX_STATIONS)) };
+    for (i, station) in table.stations.iter_mut().enumerate() {
+        station.label = board.labels[CURRENT][i];
+        station.job = board.jobs[CURRENT][i];
+        station.pending_label = board.labels[PENDING][i];
+        station.pending_job = board.jobs[PENDING][i];
+        for (to, &number) in station.result.iter_mut().zip(&board.results[i][STATIONS]) {
+            *to = number.try_into().ok()?;
+        }
+        station.result_jobs = board.results[i][JOBS];
+        station.phase = *NAMED.get(usize::from(board.control[PHASES][i]))?;
     }
-    let stations = from_fn(|i| Station {
-        label: board.labels[i],
-        job: board.jobs[i],
-        pending_label: board.pending_labels[i],
-        pending_job: board.pending_jobs[i],
-        result: board.result_stations[i],
-        result_jobs: board.result_jobs[i],
-        phase: PHASES[usize::from(board.phases[i])],
-    });
-    Some(Table { n: board.count as usize, stations })
+    Some(table)
 }
 
 fn board(table: &Table) -> Board {
     let s = &table.stations;
     Board {
         count: table.n as u64,
-        jobs: from_fn(|i| s[i].job),
-        pending_jobs: from_fn(|i| s[i].pending_job),
-        result_jobs: from_fn(|i| s[i].result_jobs),
-        result_stations: from_fn(|i| s[i].result),
-        labels: from_fn(|i| s[i].label),
-        pending_labels: from_fn(|i| s[i].pending_label),
-        phases: from_fn(|i| PHASES.iter().position(|&phase| phase == s[i].phase).unwrap() as u8),
+        jobs: [from_fn(|i| s[i].job), from_fn(|i| s[i].pending_job)],
+        results: from_fn(|i| [s[i].result.map(u32::from), s[i].result_jobs]),
+        labels: [from_fn(|i| s[i].label), from_fn(|i| s[i].pending_label)],
+        control: [from_fn(|i| NAMED.iter().position(|&phase| phase == s[i].phase).unwrap() as u8)],
     }
 }
 
@@ -101,7 +100,7 @@ impl Guarded {
 fn random_call(random: &mut Random, board: &Board) -> Call {
     let n = board.count.clamp(1, MAX_STATIONS as u64);
     let i = random.below(n);
-    let due = match board.phases[i as usize] {
+    let due = match board.control[PHASES][i as usize] {
         0 => 1 + random.below(2),
         1 | 2 => 3,
         3 => 4,
@@ -145,12 +144,18 @@ fn listing() {
 
 #[test]
 fn fresh_boards() {
+    let mut random = Random(5);
     for n in (0..64).chain([256 + 2, 1 << 32 | 2, u64::MAX]) {
-        let made = Board::fresh(n);
+        let mut over = Board::fresh(3).unwrap();
+        bytes(&mut over).iter_mut().for_each(|byte| *byte = random.word() as u8);
+        let before = over.clone();
         if (2..=32).contains(&n) {
-            assert_eq!(made, Ok(board(&Table::fresh(n as usize))));
+            let fresh = board(&Table::fresh(n as usize));
+            assert_eq!(over.freshen(n), 0);
+            assert!(over == fresh && Board::fresh(n) == Ok(fresh));
         } else {
-            assert_eq!(made, Err(refusal::COUNT));
+            assert_eq!(over.freshen(n), refusal::COUNT);
+            assert!(over == before && Board::fresh(n) == Err(refusal::COUNT));
         }
     }
 }
@@ -217,29 +222,32 @@ fn random_contents() {
         for p in 0..n - 1 {
             let usual = 1 + random.below(5) as u8;
             for i in 0..n {
-                b.labels[i][p] = if random.one_in(6) { 1 + random.below(5) as u8 } else { usual };
-                b.pending_labels[i][p] = 1 + random.below(5) as u8;
+                b.labels[CURRENT][i][p] = if random.one_in(6) { 1 + random.below(5) as u8 } else { usual };
+                b.labels[PENDING][i][p] = 1 + random.below(5) as u8;
             }
         }
         for i in 0..n {
-            b.jobs[i] = random.word() as u32;
-            b.pending_jobs[i] = random.word() as u32;
-            b.phases[i] = random.below(6) as u8;
+            b.jobs[CURRENT][i] = random.word() as u32;
+            b.jobs[PENDING][i] = random.word() as u32;
+            b.control[PHASES][i] = random.below(6) as u8;
             for place in (1..n).rev() {
-                b.result_stations[i].swap(place, random.below(place as u64 + 1) as usize);
+                b.results[i][STATIONS].swap(place, random.below(place as u64 + 1) as usize);
             }
             for place in 0..n {
-                b.result_jobs[i][place] = random.word() as u32;
+                b.results[i][JOBS][place] = random.word() as u32;
             }
         }
+        let (i, place, position) = (random.below(32) as usize, random.below(32) as usize, random.below(MAX_DIGITS as u64) as usize);
         match random.below(40) {
-            0 => b.phases[random.below(32) as usize] = 6 + random.below(250) as u8,
-            1 => b.labels[random.below(32) as usize][random.below(MAX_DIGITS as u64) as usize] = random.below(7) as u8,
-            2 => b.pending_labels[random.below(32) as usize][random.below(MAX_DIGITS as u64) as usize] = random.below(7) as u8,
-            3 => b.result_stations[random.below(32) as usize][random.below(32) as usize] = random.below(34) as u8,
-            4 => b.result_jobs[random.below(32) as usize][random.below(32) as usize] = random.below(2) as u32,
-            5 => b.jobs[random.below(32) as usize] = random.below(2) as u32,
-            6 => b.pending_jobs[random.below(32) as usize] = random.below(2) as u32,
+            0 => b.control[PHASES][i] = 6 + random.below(250) as u8,
+            1 => b.labels[CURRENT][i][position] = random.below(7) as u8,
+            2 => b.labels[PENDING][i][position] = random.below(7) as u8,
+            3 => b.results[i][STATIONS][place] = random.below(34) as u32,
+            // A station's number with a bit above those of any station.
+            4 => b.results[i][STATIONS][place] |= 1 << (6 + random.below(26)),
+            5 => b.results[i][JOBS][place] = random.below(2) as u32,
+            6 => b.jobs[CURRENT][i] = random.below(2) as u32,
+            7 => b.jobs[PENDING][i] = random.below(2) as u32,
             _ => {}
         }
         for _ in 0..4 {
