@@ -262,12 +262,6 @@ fn rest_is_fresh(n: usize, results: &Results) -> bool
     true
 }
 
-// Tells what the types keep: each label has 31 digits, and there are 32 results.
-fn sized(labels: Labels, results: Results)
-    ensures { λ _. ⌜ ((x i : ℕ) → x < 2 → i < 32 → length (getD (getD labels x []) i []) ≡ 31) ⌝ }
-    ensures { λ _. ⌜ length results ≡ 32 ⌝ }
-{}
-
 // Whether the arrays hold a well-formed table.
 pub fn well_formed(
     count: u64,
@@ -285,7 +279,7 @@ pub fn well_formed(
         return false;
     }
     let n = count as usize;
-    sized(*labels, *results);
+    arrays::shaped(*labels, *jobs, *control, *results);
     if !labels_fit(n, &labels[0]) {
         return false;
     }
