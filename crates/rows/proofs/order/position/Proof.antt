@@ -65,7 +65,8 @@ loop-again c =
     let start = c .before .before .before .before .before .before .before .before in (
       omega arith,
       search needs,
-      before-front (orderly-total _ _ (start .pre .0)) _ (start .pre .1 .0 .0) _ (start .args .order .now) (start .pre .1 .1 .0) (start .pre .1 .1 .1) _ (omega arith) (c .before .label-before .ensures) (c .if1 .taken),
+      before-front (orderly-total _ _ (start .pre .0)) _ (start .pre .1 .0 .0) _ (start .args .order .now) (start .pre .1 .1 .0) (start .pre .1 .1 .1) _
+          (omega arith) (c .before .label-before .ensures) (c .if1 .taken),
       c .before .before .before .before .before .loop .inv .3,
     )
 
@@ -78,7 +79,8 @@ loop-again-2 c =
       omega arith,
       omega arith,
       c .before .before .before .before .before .loop .inv .2,
-      before-back (orderly-total _ _ (start .pre .0)) _ (start .pre .1 .0 .0) _ (start .args .order .now) (start .pre .1 .1 .0) (start .pre .1 .1 .1) _ (omega arith) (c .before .label-before .ensures) (c .if1 .left),
+      before-back (orderly-total _ _ (start .pre .0)) _ (start .pre .1 .0 .0) _ (start .args .order .now) (start .pre .1 .1 .0) (start .pre .1 .1 .1) _
+          (omega arith) (c .before .label-before .ensures) (c .if1 .left),
     )
 
 returns : tie.Need-returns Inv-loop μ-loop
