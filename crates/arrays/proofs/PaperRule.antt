@@ -26,5 +26,6 @@ unreached = arrays 3 (plane 3 4 1 ∷ plane 3 4 5 ∷ []) (replicate 2 (replicat
 pub rules-part : (wellFormed unreached ≡ true)
     × (row 2 (paperPending 3 (digits 3) (stateOf unreached .labels) 0) ≡ 3 ∷ 1 ∷ [])
     × (row 2 (pendingAfter 3 (digits 3) (stateOf unreached .labels) 0) ≡ 4 ∷ 2 ∷ [])
-unfolding unreached plane wellFormed stationFits placeFresh resultFits resultFresh paperPending tot everyChoice totallyOrdered pendingAfter row rowFits noRing below next agrees firstDifference labelBelow labelBefore nextLabel others level newLabel every count firstFrom newest tabulate
+unfolding unreached plane wellFormed stationFits placeFresh resultFits resultFresh paperPending tot everyChoice totallyOrdered pendingAfter row rowFits noRing
+    below next agrees firstDifference labelBelow labelBefore nextLabel others level newLabel every count firstFrom newest tabulate
 rules-part = (refl, refl, refl)

@@ -19,7 +19,8 @@ use Rattle.arrays.specs.Form.{lent}
 use Rattle.arrays.proofs.States.{lent-lawful}
 
 carried : ℕ → Arrays → Lists.List Call → Arrays
-unfolding row arraysOf unless judgeIn pendingAfter relabelled scanOf carryOut step below next agrees firstDifference labelBelow labelBefore nextLabel others level newLabel every count firstFrom newest inserted ordered tabulate call labelled
+unfolding row arraysOf unless judgeIn pendingAfter relabelled scanOf carryOut step below next agrees firstDifference labelBelow labelBefore nextLabel others
+    level newLabel every count firstFrom newest inserted ordered tabulate call labelled
 carried n a [] = a
 carried n a (c ∷ cs) = carried n (arraysOf n (step original n (digits n) (stateOf a) c .state)) cs
 

@@ -36,7 +36,8 @@ shared-slice-read-i : tie.Need-shared-slice-read-i Inv-loop μ-loop
 shared-slice-read-i c = search needs
 
 listed : (c : tie.In-loop Inv-loop μ-loop)
-    → getD (c .before .before .before .before .args .order .now) ((c .before .loop .low + c .before .loop .high) / 2) 0 < c .before .before .before .before .args .n
+    → getD (c .before .before .before .before .args .order .now) ((c .before .loop .low + c .before .loop .high) / 2) 0
+    < c .before .before .before .before .args .n
 listed c = c .before .before .before .before .pre .1 .1 .0 ((c .before .loop .low + c .before .loop .high) / 2) (omega arith) .0
 
 mul-label-before : tie.Need-mul-label-before Inv-loop μ-loop
