@@ -10,22 +10,22 @@ use mathlib.Core.List as Lists
 use mathlib.Core.List.{[], _∷_}
 use lib.ListN.{length, getD, List·getD-eq-default}
 use lib.Seq.{ext-getD}
-use lib.Dec.{eqb, leb, ltb}
+use lib.Dec.{eqb, ltb}
 use borrow.Author.Tests.{eqb-true, eq-eqb, le-leb, lt-ltb, le-ltb}
 use Rattle.basics.specs.Tests.{every, count, tabulate}
 use Rattle.basics.proofs.Facts.{both, and-both, within-of, every-all, every-at, getD-any, length-tabulate, getD-tabulate, tabulate-same}
 use Rattle.basics.proofs.Counts.{count-same}
 use Rattle.label.specs.Labels as Labels
 use Rattle.label.specs.Rows.{digit, row, rowFits, noRing}
-use Rattle.label.proofs.RowLaws.{digit-row, row-digit, fresh-row, label-fits, fits-behind}
+use Rattle.label.proofs.RowLaws.{digit-row, row-digit, label-fits, fits-behind}
 use Rattle.simulation.specs.Calls.{Call, Phase, Idle, Snap, Update, End, Label, Scan, Entry, entry, Process}
 use Rattle.simulation.specs.Machine.{original, digits, freshRest, State, step}
 use Rattle.transition.specs.Forms.{Answer, stepOf}
 use Rattle.transition.proofs.Written.{Unused, Writable, writable-step}
 use Rattle.transition.proofs.Reached.{Reached, choice-ring-free}
 use Rattle.transition.proofs.Theorem.{Lawful, step-written}
-use Rattle.arrays.specs.Arrays.{Rows, Planes, Arrays, arrays, cell, plane, planes, phaseNumber, phaseFor, resultRows, resultOf, rowsAt}
-use Rattle.arrays.specs.Arrays.{labelRow, restOf, stateOf, jobsOf, arraysOf}
+use Rattle.arrays.specs.Arrays.{Rows, Arrays, arrays, cell, plane, planes, phaseNumber, phaseFor, resultRows, resultOf, rowsAt}
+use Rattle.arrays.specs.Arrays.{labelRow, stateOf, jobsOf, arraysOf}
 use Rattle.arrays.specs.WellFormed.{resultFits, resultFresh, stationFits, placeFresh, wellFormed}
 use Rattle.arrays.specs.Form.{lent}
 use Rattle.arrays.specs.Sizes.{Sized, Shaped}
