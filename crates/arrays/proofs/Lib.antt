@@ -1,3 +1,5 @@
 pub mod Passed
 pub mod States
 pub mod Fresh
+pub mod Samples
+pub mod PaperRule

@@ -16,7 +16,7 @@ use Rattle.simulation.specs.Calls.{Call, place, judgeIn, judge, reportLines}
 use Rattle.simulation.specs.Machine as Machine
 use Rattle.simulation.specs.Machine.{original, digits, labelStep, moved, step}
 use Rattle.simulation.proofs.Judged.{Verdict, turned, begins, updates, snaps, ends, judge-stranger, verdict, Inside}
-use Rattle.transition.specs.Forms.{Answer, over, answered, stepOf}
+use Rattle.transition.specs.Forms.{Answer, refuse, over, answered, stepOf}
 use Rattle.transition.specs.Sequences.{Steps}
 use Rattle.transition.proofs.Theorem.{step-written}
 use Rattle.moves.specs.Moves.{refusalNumber, moveOf, kindOf}
@@ -131,6 +131,17 @@ module _ (a : Arrays) (ok : wellFormed a ≡ true) (q : Request) (room top : ℕ
         count = f .count ∙ ap (λ (u : Answer Arrays). length (u .bytes)) s;
         report = f .report ∙ ap (λ (u : Answer Arrays). over (u .bytes) buffer) s;
       }
+
+-- 13: nothing changes
+pub ill-formed : (a : Arrays) (c : Call) (buffer : Lists.List ℕ) → wellFormed a ≡ false → Steps lent a c buffer a 13 0 buffer
+ill-formed a c buffer e =
+    let s : stepOf lent a c ≡ refuse a 13 = unfold stepOf in rw (e, stepOf) refl in
+    record {
+      table = sym (ap (λ (u : Answer Arrays). u .table) s);
+      number = sym (ap (λ (u : Answer Arrays). u .refusal) s);
+      count = sym (ap (λ (u : Answer Arrays). length (u .bytes)) s);
+      report = sym (ap (λ (u : Answer Arrays). over (u .bytes) buffer) s);
+    }
 
 -- WHAT THE PARTS OF A TASK ASK FOR, and that a task whose parts are done is carried out
 module _ {a : Arrays} {x : Task} {order : Lists.List ℕ} {room : ℕ} (s : Ready a x order room) where

@@ -320,3 +320,35 @@ fn serve(
     let order = order_for(m, &labels[CURRENT], n);
     carry_out(n, task, &order, labels, jobs, control, results, report)
 }
+
+// A step call on a table of unknown content: 13 is judged first, on all that is lent. A refused call changes nothing.
+pub fn step(
+    count: u64,
+    request: Request,
+    labels: &mut Labels,
+    jobs: &mut Jobs,
+    control: &mut Control,
+    results: &mut Results,
+    report: &mut [u8],
+) -> Reply
+    ensures { λ r. ⌜ Steps lent (arrays count (now (labels .entry)) (now (jobs .entry)) (now (control .entry)) (now (results .entry)))
+        (callOf request (length (now (report .entry)))) (now (report .entry))
+        (arrays count (now (labels .exit)) (now (jobs .exit)) (now (control .exit)) (now (results .exit)))
+        (refusalNumber (r .refusal)) (r .written) (now (report .exit)) ⌝ }
+{
+    if !well_formed::well_formed(count, labels, jobs, control, results) {
+        return Reply {
+            refusal: Refusal::IllFormedTable,
+            written: 0,
+        };
+    }
+    serve(
+        count as usize,
+        request,
+        labels,
+        jobs,
+        control,
+        results,
+        report,
+    )
+}

@@ -4,11 +4,12 @@ use mathlib.Core.Path.{_≡_, refl}
 use mathlib.Core.Logic.{_≢_}
 use mathlib.Core.Bool.{Bool, true, false, _&&_, _||_, cond}
 use mathlib.Core.List as Lists
+use mathlib.Core.List.{[]}
 use lib.Dec.{eqb}
 use borrow.Author.Tests.{ne-eqb}
 use Rattle.basics.proofs.Facts.{by-here}
-use Rattle.simulation.specs.Calls.{Call, place, Label, Scan, Phase, Entry, Rest, Move}
-use Rattle.simulation.specs.Machine.{Labelling, Rules, pendingAfter, labelStep, relabelled, scanOf, carryOut}
+use Rattle.simulation.specs.Calls.{Call, place, Label, Scan, Phase, Entry, Rest, Move, reportLines}
+use Rattle.simulation.specs.Machine.{Labelling, Rules, pendingAfter, labelStep, relabelled, scanOf, carryOut, State, moved}
 use Rattle.simulation.proofs.Judged.{Own, own-place, Verdict, turned, begins, updates, snaps, ends}
 
 -- the process that takes the move
@@ -75,3 +76,16 @@ apart {n} {c} {ph} v i d = go v
     go (updates own e) = other own
     go (snaps own o e) = other own
     go (ends own o e r) = other own
+
+-- a refused move leaves the state and hands out nothing
+pub refused-stays : {A : Type 0} (n : ℕ) (r : Rules A) (s : State A) (line : ℕ) (w : Move) → moved n r s line w .refusal ≢ 0
+    → moved n r s line w ≡ record { state = s; refusal = moved n r s line w .refusal; bytes = [] }
+unfolding carryOut relabelled reportLines
+refused-stays n r s line (Move.refused x) d = refl
+refused-stays n r s line (Move.begins k job Label) d = absurd (d refl)
+refused-stays n r s line (Move.begins k job Scan) d = absurd (d refl)
+refused-stays n r s line (Move.updates k) d = absurd (d refl)
+refused-stays n r s line (Move.snaps k Label) d = absurd (d refl)
+refused-stays n r s line (Move.snaps k Scan) d = absurd (d refl)
+refused-stays n r s line (Move.ends k Label) d = absurd (d refl)
+refused-stays n r s line (Move.ends k Scan) d = absurd (d refl)

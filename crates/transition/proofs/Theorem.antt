@@ -4,19 +4,20 @@ use Prim.Native.Nat.{ℕ, zero, suc, _+_, _*_, _≤_, _<_}
 use native.Mathlib.Omega.{arith}
 use mathlib.Core.Path.{_≡_, refl, sym, ap, ap₂, subst, _∙_}
 use mathlib.Core.Logic.{_≢_}
-use mathlib.Core.Bool.{true}
+use mathlib.Core.Bool.{Bool, true, false}
 use mathlib.Core.List as Lists
 use mathlib.Core.List.{[], _∷_, map}
 use lib.ListN.{take}
 use Rattle.basics.specs.Tests.{ordered, All}
 use Rattle.label.specs.Labels as Labels
-use Rattle.simulation.specs.Calls.{Call}
+use Rattle.simulation.specs.Calls.{Call, judge}
 use Rattle.simulation.specs.Machine as Machine
 use Rattle.simulation.specs.Machine.{original, digits, numbers, stands, State, fresh, step, snapsOf, Bounded}
 use Rattle.simulation.proofs.Judged.{Refusal, refusals}
+use Rattle.simulation.proofs.Touched.{refused-stays}
 use Rattle.simulation.proofs.Follow.{run-cons, snaps-cons, Simulates}
 use Rattle.simulation.proofs.Simulation.{simulation}
-use Rattle.transition.specs.Forms.{Form, Answer, freshTable, answered, stepOf, after}
+use Rattle.transition.specs.Forms.{Form, Answer, refuse, freshTable, answered, stepOf, after}
 use Rattle.transition.specs.Demand.{run, snaps, seen, unbounded, Demand3}
 use Rattle.transition.proofs.Written.{Writable}
 use Rattle.transition.proofs.Reached.{Reached, reached-fresh, reached-step}
@@ -46,6 +47,23 @@ pub step-refusals : (F : Form) (t : F .Table) (c : Call) → F .wellFormed t ≡
 unfolding step
 step-refusals F t c e = subst (λ (a : Answer (F .Table)). Refusal (F .count t) c (a .refusal)) (sym (step-written F t c e))
     (refusals (F .count t) c (ordered (F .count t) (stands (digits (F .count t)) (F .state t .labels))) (F .state t .rest))
+
+-- a refused call changes nothing and writes nothing, on a table that is the one of the state that it holds
+pub step-kept : (F : Form) (t : F .Table) → (F .wellFormed t ≡ true → F .written (F .count t) (F .state t) ≡ t) → (c : Call)
+    → stepOf F t c .refusal ≢ 0 → stepOf F t c ≡ refuse t (stepOf F t c .refusal)
+unfolding step
+step-kept F t same c d = go (F .wellFormed t) refl
+  where
+    n : ℕ
+    n = F .count t
+
+    go : (b : Bool) → F .wellFormed t ≡ b → stepOf F t c ≡ refuse t (stepOf F t c .refusal)
+    go true e =
+        let w = step-written F t c e in
+        let x : stepOf F t c .refusal ≡ step original n (digits n) (F .state t) c .refusal = ap (λ (a : Answer (F .Table)). a .refusal) w in
+        w ∙ ap (answered F n) (refused-stays n (digits n) (F .state t) (c .line) (judge n (F .state t .rest) c) (λ z. d (x ∙ z)))
+        ∙ (λ i. refuse (same e i) (sym x i))
+    go false e = let s : stepOf F t c ≡ refuse t 13 = unfold stepOf in rw (e, stepOf) refl in s ∙ ap (refuse t) (sym (ap (λ (a : Answer (F .Table)). a .refusal) s))
 
 -- a sequence of calls on the table of the state s is one on the bounded machine, and none of them is refused by 13
 pub record Runs (F : Form) (n : ℕ) (s : State Labels.Label) (cs : Lists.List Call) : Type 0 where
@@ -153,3 +171,18 @@ module _ (F : Form) (L : Lawful F) (n : ℕ) (low : 2 ≤ n) (high : n ≤ 32) w
   unfolding after
   table-after [] t r = r
   table-after (c ∷ calls) t r = table-after calls (stepOf F t c .table) (table-step t r c)
+
+-- the state that some calls leave is the same in every lawful form
+pub same-after : (F G : Form) → Lawful F → Lawful G → (n : ℕ) → 2 ≤ n → n ≤ 32 → (cs : Lists.List Call)
+    → F .state (after F (freshTable F n) cs) ≡ G .state (after G (freshTable G n) cs)
+unfolding after
+same-after F G L M n low high cs = machine F L cs (fresh (λ p. 1) n) (reached-fresh n (omega arith)) ∙ sym (machine G M cs (fresh (λ p. 1) n) (reached-fresh n (omega arith)))
+  where
+    left : State Labels.Label → Lists.List Call → State Labels.Label
+    left s [] = s
+    left s (c ∷ cs) = left (step original n (digits n) s c .state) cs
+
+    machine : (F : Form) → Lawful F → (cs : Lists.List Call) (s : State Labels.Label) → Reached n s → F .state (after F (F .written n s) cs) ≡ left s cs
+    machine F L [] s r = L .held n high s (r .writable)
+    machine F L (c ∷ cs) s r = ap (λ (a : Answer (F .Table)). F .state (after F (a .table) cs)) (reached-written F L n low high r c)
+        ∙ machine F L cs (step original n (digits n) s c .state) (reached-next F L n low high r c)

@@ -7,10 +7,11 @@ use mathlib.Core.List.{[], _∷_, _++_, map}
 use lib.ListN.{length}
 use lib.Dec.{eqb}
 use Rattle.basics.specs.Tests.{ordered, tabulate, All}
+use Rattle.label.specs.Labels as Labels
 use Rattle.label.specs.Labels.{below, labelBelow}
 use Rattle.label.specs.Rows.{digit}
 use Rattle.simulation.specs.Calls.{Call}
-use Rattle.simulation.specs.Machine.{digits, stands}
+use Rattle.simulation.specs.Machine.{digits, stands, State}
 use Rattle.transition.specs.Forms.{Form, freshTable, after}
 
 -- a direct call of station s; a label operation begins with the job 7
@@ -22,12 +23,12 @@ unfoldable pub labelled : Lists.List ℕ → Lists.List Call
 labelled [] = []
 labelled (s ∷ l) = call s 1 ∷ call s 3 ∷ call s 4 ∷ call s 5 ∷ labelled l
 
--- the labels of a table's stations, and the stations, oldest first
-unfoldable pub shown : (F : Form) → F .Table → Lists.List (Lists.List ℕ)
-shown F t = let n = F .count t in tabulate n 0 (λ i. tabulate (n - 1) 0 (F .state t .labels false i))
+-- of a state of n stations: their labels, and the stations, oldest first
+unfoldable pub shown : ℕ → State Labels.Label → Lists.List (Lists.List ℕ)
+shown n s = tabulate n 0 (λ i. tabulate (n - 1) 0 (s .labels false i))
 
-unfoldable pub order : (F : Form) → F .Table → Lists.List ℕ
-order F t = let n = F .count t in map suc (ordered n (stands (digits n) (F .state t .labels)))
+unfoldable pub order : ℕ → State Labels.Label → Lists.List ℕ
+order n s = map suc (ordered n (stands (digits n) (s .labels)))
 
 -- a row: two digits, or two labels, of which the first is below the second; or n, the calls on the fresh table of n, and the labels and the order they lead to
 pub data Sample : Type 0 where
@@ -38,7 +39,7 @@ pub data Sample : Type 0 where
 abbrev pub Holds : Form → Sample → Type 0
 Holds F (digitsBelow d e) = below d e ≡ true
 Holds F (labelsBelow a b) = labelBelow (length a) (digit a) (digit b) ≡ true
-Holds F (reaches n cs l o) = (shown F (after F (freshTable F n) cs) ≡ l) × (order F (after F (freshTable F n) cs) ≡ o)
+Holds F (reaches n cs l o) = let s = F .state (after F (freshTable F n) cs) in (shown n s ≡ l) × (order n s ≡ o)
 
 -- lists of one, two and three
 unfoldable pub one : {A : Type 0} → A → Lists.List A

@@ -1,0 +1,78 @@
+// The functions exported to programs in C and Rust: step calls on a table in four arrays, which its owner lends, and whole schedule files.
+ghost use mathlib.Core.Path.{_≡_};
+ghost use mathlib.Core.Logic.{_≢_};
+ghost use lib.ListN.{length};
+ghost use Rattle.transition.specs.Sequences.{Steps};
+ghost use Rattle.moves.specs.Moves.{called};
+ghost use Rattle.arrays.specs.Arrays.{arrays};
+ghost use Rattle.arrays.specs.Form.{lent};
+ghost use Rattle.exports.specs.Contracts.{Starts};
+use arrays::Control;
+use arrays::Jobs;
+use arrays::Labels;
+use arrays::Results;
+use engine::Request;
+
+// What a caller is told: document 01's number, 0 if the call is served, and how many bytes of report were written.
+#[repr(C)]
+pub struct Answer {
+    pub refusal: u64,
+    pub written: u64,
+}
+
+// Writes the fresh table of n stations over what is lent. 1 is returned for a number of stations that is not 2 to 32, and nothing changes.
+#[no_mangle]
+pub extern "C" fn tickets_fresh(
+    n: u64,
+    labels: &mut Labels,
+    jobs: &mut Jobs,
+    control: &mut Control,
+    results: &mut Results,
+) -> u64
+    ensures { λ r. ⌜ Starts n (arrays n (now (labels .entry)) (now (jobs .entry)) (now (control .entry)) (now (results .entry)))
+        (arrays n (now (labels .exit)) (now (jobs .exit)) (now (control .exit)) (now (results .exit))) r ⌝ }
+{
+    if n < 2 {
+        return 1;
+    }
+    if 32 < n {
+        return 1;
+    }
+    arrays::refresh(n as usize, labels, jobs, control, results);
+    0
+}
+
+// A step call. 13 is judged first, on all that is lent; a refused call changes nothing.
+#[no_mangle]
+pub extern "C" fn tickets_step(
+    count: u64,
+    labels: &mut Labels,
+    jobs: &mut Jobs,
+    control: &mut Control,
+    results: &mut Results,
+    code: u64,
+    station: u64,
+    job: u64,
+    report: &mut [u8],
+) -> Answer
+    ensures { λ r. ⌜ Steps lent (arrays count (now (labels .entry)) (now (jobs .entry)) (now (control .entry)) (now (results .entry)))
+        (called 0 code station job (length (now (report .entry)))) (now (report .entry))
+        (arrays count (now (labels .exit)) (now (jobs .exit)) (now (control .exit)) (now (results .exit)))
+        (r .refusal) (r .written) (now (report .exit)) ⌝ }
+    ensures { λ r. ⌜ (r .refusal ≢ 0 → arrays count (now (labels .exit)) (now (jobs .exit)) (now (control .exit)) (now (results .exit))
+        ≡ arrays count (now (labels .entry)) (now (jobs .entry)) (now (control .entry)) (now (results .entry))) ⌝ }
+{
+    arrays::shaped(*labels, *jobs, *control, *results);
+    let request = Request {
+        code,
+        station,
+        job,
+        line: 0,
+    };
+    let reply = engine::step(count, request, labels, jobs, control, results, report);
+    let refusal = reply.refusal;
+    Answer {
+        refusal: refusal.number(),
+        written: reply.written as u64,
+    }
+}

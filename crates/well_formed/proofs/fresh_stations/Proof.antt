@@ -1,0 +1,57 @@
+use Prim.Native.Nat.{ℕ, suc, _-_, _≤_}
+use native.Mathlib.Omega.{arith}
+use native.Mathlib.Numerals.{add-one}
+use mathlib.Core.Path.{_≡_, ap, _∙_}
+use Rattle.basics.proofs.Filled.{filled, filled-none, filled-more}
+use borrow.Author.Needs.{needs}
+use Rattle.well_formed.proofs.fresh_stations.Statement.{statement}
+use Rattle.well_formed.proofs.fresh_stations.Tie as tie
+
+abbrev Inv-loop : tie.InvT-loop
+Inv-loop n r₀ p₀ r p = (p ≤ n) × (r ≡ filled 32 p suc 0)
+
+abbrev μ-loop : tie.MeasureT-loop
+μ-loop n r₀ p₀ r p = n - p
+
+loop-holds : tie.Need-loop-holds Inv-loop μ-loop
+loop-holds c = (search needs, filled-none 32 _ 0)
+
+add-r : tie.Need-add-r Inv-loop μ-loop
+add-r c = search needs
+
+cast-r : tie.Need-cast-r Inv-loop μ-loop
+cast-r c = search needs
+
+mul-r : tie.Need-mul-r Inv-loop μ-loop
+mul-r c = search needs
+
+array-write-r : tie.Need-array-write-r Inv-loop μ-loop
+array-write-r c = search needs
+
+add-p : tie.Need-add-p Inv-loop μ-loop
+add-p c = search needs
+
+loop-less : tie.Need-loop-less Inv-loop μ-loop
+loop-less c = search needs
+
+loop-again : tie.Need-loop-again Inv-loop μ-loop
+loop-again c = (search needs, rw (c .before .loop .inv .1) (filled-more 32 _ 0 (c .before .loop .p) _ (search needs) (add-one _)))
+
+returns : tie.Need-returns Inv-loop μ-loop
+returns c = c .before .loop .inv .1 ∙ ap (λ (k : ℕ). filled 32 k suc 0) (omega arith)
+
+pub fresh-stations-spec : {M : Type 1} → statement M
+fresh-stations-spec =
+    tie.close
+    (tie.spec
+    Inv-loop
+    μ-loop
+    loop-holds
+    add-r
+    cast-r
+    mul-r
+    array-write-r
+    add-p
+    loop-less
+    loop-again
+    returns)
