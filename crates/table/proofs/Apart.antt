@@ -4,6 +4,7 @@ use Prim.Native.Nat.{ℕ, zero, suc, _≤_, _<_}
 use native.Mathlib.Nat.{zero-add}
 use native.Mathlib.Omega.{arith}
 use mathlib.Core.Path.{_≡_, refl, sym, ap, ap₂, subst, _∙_}
+use mathlib.Core.Bool.{true}
 use mathlib.Core.List as Lists
 use mathlib.Core.List.{[], _∷_}
 use lib.ListN.{length, getD}
@@ -24,7 +25,7 @@ use Rattle.moves.specs.declared.Phase.the-variants.{Idle, Snap, Update, End}
 use Rattle.arrays.specs.Arrays.{Rows, Arrays, arrays, cell, phaseNumber, phaseFor, resultRows, stateOf, arraysOf}
 use Rattle.arrays.specs.WellFormed.{wellFormed}
 use Rattle.arrays.specs.Sizes.{Sized, Shaped}
-use Rattle.arrays.proofs.States.{tabulate-is, two-lists, one-list, phase-back, phase-low, number-back, lent-lawful}
+use Rattle.arrays.proofs.States.{tabulate-is, two-lists, one-list, phase-back, phase-low, number-back, lent-lawful, written-held}
 use Rattle.table.specs.Tables.{declaredOperation, declaredPhase, entry, blank, rowsOf, entriesOf, Bytes, at, apart, stationOf, together, declared}
 use Rattle.table.specs.declared.Entry.{Entry}
 use Rattle.table.specs.declared.Station.{Station}
@@ -218,6 +219,11 @@ module _ (t : Table) (w : Whole t) where
       one : (i : ℕ) → i < 1 → length (getD (apart t .control) i []) ≡ 32
       one zero h = length-tabulate 32 0 _
       one (suc i) h = absurd (omega arith)
+
+  -- so a well-formed table is that of the state that it holds
+  pub declared-written : wellFormed (apart t) ≡ true → together (arraysOf (t .count) (stateOf (apart t))) ≡ t
+  unfolding apart
+  declared-written e = ap together (written-held (apart t) apart-shaped e) ∙ together-apart
 
   pub apart-bytes : (i : ℕ) → i < 32 → Bytes (getD (apart t .results) i [])
   unfolding apart
