@@ -40,16 +40,16 @@ use denote.Triple.End.{all, Fins, Outs, outs, lastsOf}
 use denote.Triple.Walked.{says, Stays, stay-ref, walkOf, fitsOf, hasOf, goes-ref, Walks, ends-at, walked, walk-meets}
 use denote.Exit.{yes}
 use Rattle.table.specs.declared.Table.{Table}
-use Rattle.step.specs.declared.Reply.{Reply}
+use Rattle.engine.specs.declared.Reply.{Reply}
 use Rattle.step.specs.declared.Outcome.{Outcome}
 use Rattle.table.proofs.Table as T
 use Rattle.table.proofs.Table.Laws as T′
 use Rattle.step.proofs.Outcome as S
 use Rattle.step.proofs.Outcome.Laws as S′
-use Rattle.step.proofs.Reply as R
-use Rattle.step.proofs.Reply.Laws as R′
-use Rattle.board.proofs.Numbers.{Nums, Fit, nums, stays, args, vals, spells, tells, front, back, args-is, vals-is, fit-of, are-of, Clause, lasts, last, clause-in, clause-out, fit-in, go-nums, own-rest, own-all, has-all, last-rest, locals, past, reads, alloc-nums, pass-nums, read-nums, free-nums}
-use Rattle.board.proofs.Report.{lives, buffer, buffer′, gave, go-buffer, spell, spell′, spell-tells, bytes, bytes′, seen, seen′, Fine, fine-of, on, end, same-said, hand-on, take-back, after, beyond, buffer-local, borrow-locals, prepare, passed, borrow-env, rest-env, from-rest, alloc-buffer, alloc-borrow, pass-buffer, prepares, read-borrow, free-buffer, free-borrow}
+use Rattle.engine.proofs.Reply as R
+use Rattle.engine.proofs.Reply.Laws as R′
+use Rattle.lent_table.proofs.Numbers.{Nums, Fit, nums, stays, args, vals, spells, tells, front, back, args-is, vals-is, fit-of, are-of, Clause, lasts, last, clause-in, clause-out, fit-in, go-nums, own-rest, own-all, has-all, last-rest, locals, past, reads, alloc-nums, pass-nums, read-nums, free-nums}
+use Rattle.lent_table.proofs.Report.{lives, buffer, buffer′, gave, go-buffer, spell, spell′, spell-tells, bytes, bytes′, seen, seen′, Fine, fine-of, on, end, same-said, hand-on, take-back, after, beyond, buffer-local, borrow-locals, prepare, passed, borrow-env, rest-env, from-rest, alloc-buffer, alloc-borrow, pass-buffer, prepares, read-borrow, free-buffer, free-borrow}
 
 -- what a call says: of the table, the numbers and the report buffer passed, and of the table, the reply and the buffer left
 abbrev pub Says : ℕ → Type 1

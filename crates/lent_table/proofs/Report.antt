@@ -32,7 +32,7 @@ use denote.Triple.Walked.{Stays, gave-slice, fitsOf, hasOf, AllGo, goes-gave-sli
 use denote.Exit.{yes}
 use Rattle.table.proofs.Table.Laws as T′
 use Rattle.step.proofs.Outcome.Laws as S′
-use Rattle.board.proofs.Numbers.{Nums, past, env, past-is, from-at, look-first}
+use Rattle.lent_table.proofs.Numbers.{Nums, past, env, past-is, from-at, look-first}
 
 -- ---- a signature
 -- the buffer's lifetimes

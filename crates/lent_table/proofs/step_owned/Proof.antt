@@ -1,4 +1,4 @@
--- `board::step_owned` meets its contract: a walk of its MIR. The table is copied into a local, which is lent to `step` for a lifetime that is made for the
+-- `lent_table::step_owned` meets its contract: a walk of its MIR. The table is copied into a local, which is lent to `step` for a lifetime that is made for the
 -- call, and comes back as the call left it. The report buffer is passed on at its own lifetime, share and ghost name.
 use mathlib.Core.Path.{_≡_, refl, ap, subst}
 use Prim.Native.Nat.{ℕ, _<_, _^_}
@@ -44,23 +44,24 @@ use denote.Triple.Walked.{says, Stays, gave-slice, stay-none, walkOf, goes-none,
 use denote.Exit.{yes}
 use Rattle.table.specs.declared.Table.{Table}
 use Rattle.step.specs.declared.Outcome.{Outcome}
-use Rattle.step.specs.declared.Reply.{Reply}
-use Rattle.moves.specs.Moves.{called}
-use Rattle.step.specs.Contracts.{Steps}
+use Rattle.engine.specs.declared.Reply.{Reply}
+use Rattle.transition.specs.Sequences.{Steps}
+use Rattle.moves.specs.Moves.{refusalNumber, called}
+use Rattle.table.specs.Tables.{declared}
 use Rattle.table.proofs.Table as T
 use Rattle.table.proofs.Table.Laws as T′
 use Rattle.step.proofs.Outcome as S
 use Rattle.step.proofs.Outcome.Laws as S′
-use Rattle.step.proofs.Reply as R
-use Rattle.step.proofs.Reply.Laws as R′
-use Rattle.board.proofs.step as step
-use Rattle.board.proofs.step.Symbol as step-def
-use Rattle.board.proofs.step.Symbol.{name as #board·step}
-use Rattle.board.proofs.step.Met as step-thm
-use Rattle.board.proofs.step_owned.Key.{name as #board·step-owned}
-use Rattle.board.proofs.step_owned as own
-use Rattle.board.proofs.step_owned.Statement as stated
-use Rattle.board.proofs.step_owned.Code as code
+use Rattle.engine.proofs.Reply as R
+use Rattle.engine.proofs.Reply.Laws as R′
+use Rattle.lent_table.proofs.step as step
+use Rattle.lent_table.proofs.step.Symbol as step-def
+use Rattle.lent_table.proofs.step.Symbol.{name as #lent-table·step}
+use Rattle.lent_table.proofs.step.Met as step-thm
+use Rattle.lent_table.proofs.step_owned.Key.{name as #lent-table·step-owned}
+use Rattle.lent_table.proofs.step_owned as own
+use Rattle.lent_table.proofs.step_owned.Statement as stated
+use Rattle.lent_table.proofs.step_owned.Code as code
 
 abbrev stayed : Stays (own.ended .signature .params) (own.ended .kept)
 stayed = (
@@ -130,7 +131,7 @@ module _ {M : Type 1} (𝓤 : URA M) (H : Heap 𝓤) (A : Atoms 𝓤) (W : Given
 
   -- what `step` ensures of what it returns, and of the table's and the report buffer's last contents
   abbrev Says : Reply → Table → List ℕ → Type 0
-  Says r t zs = Steps h (called 0 c n j (length ys)) ys t r zs
+  Says r t zs = Steps declared h (called 0 c n j (length ys)) ys t (refusalNumber (r .refusal)) (r .written) zs
 
   abbrev whole-of : Reply → Table → Outcome
   whole-of r t = record { table = t; reply = r }
@@ -169,7 +170,7 @@ module _ {M : Type 1} (𝓤 : URA M) (H : Heap 𝓤) (A : Atoms 𝓤) (W : Given
       owned ! T.the-row (Is T.the-row) (LL.makes T.the-type T′.the-plain 𝓤 H A) h _ is-h $ fjoin ! $ frame ! $
       owned ! S.the-row (Is S.the-row) (LL.makes S.the-type S′.the-plain 𝓤 H A) (whole-of r t) _ is $ done !
 
-  module _ (C : Calls 𝓤 H) (Λ : Loops 𝓤 H) (fm : FmC 𝓤 H (W .laws) C) (known : Triple 𝓤 (C #board·step) (Step 𝓤 H A at-mem run)) where
+  module _ (C : Calls 𝓤 H) (Λ : Loops 𝓤 H) (fm : FmC 𝓤 H (W .laws) C) (known : Triple 𝓤 (C #lent-table·step) (Step 𝓤 H A at-mem run)) where
     walk : ent 𝓤 (onEntry 𝓤 H A own.signature (κ, tt) (q, tt) a vals) (WpFn 𝓤 H C Λ code.function (tv h ∷ vint w64 c ∷ vint w64 n ∷ vint w64 j ∷ s ∷ []) Post)
     walk =
         qed W ((‵ (flft κ q) ⊛ ‵ ftrue) ∷ ‵ (owns (T.the-row ∷ u64 ∷ u64 ∷ u64 ∷ MutSlice (named 0) κ u8 ∷ []) a vals) ∷ []) ∵ enter ! C Λ code.function
@@ -231,7 +232,7 @@ module _ {M : Type 1} (𝓤 : URA M) (H : Heap 𝓤) (A : Atoms 𝓤) (W : Given
         (subst (Is R.the-row r) (LL.tells R.the-type R′.the-laws r _ is) is))))))))))))))))))))))))
 
 module _ {M : Type 1} (𝓤 : URA M) (H : Heap 𝓤) (A : Atoms 𝓤) (W : Given 𝓤 H A) (mem : Memory → SProp 𝓤) (run : Routine → Fun 𝓤) where
-  own-walks : (C : Calls 𝓤 H) (Λ : Loops 𝓤 H) → FmC 𝓤 H (W .laws) C → Triple 𝓤 (C #board·step) (Step 𝓤 H A mem run)
+  own-walks : (C : Calls 𝓤 H) (Λ : Loops 𝓤 H) → FmC 𝓤 H (W .laws) C → Triple 𝓤 (C #lent-table·step) (Step 𝓤 H A mem run)
       → Walks 𝓤 H A own.ended stayed (WpFn 𝓤 H C Λ code.function) (own.clauses 𝓤 H A mem run)
   own-walks C Λ fm known = walked 𝓤 H A own.ended stayed (own.clauses 𝓤 H A mem run) (WpFn 𝓤 H C Λ code.function)
       (λ κs. (LL.vals T.the-type T′.the-laws, (uint-vals w64, (uint-vals w64, (uint-vals w64, (slice-vals, tt))))))
@@ -241,7 +242,7 @@ module _ {M : Type 1} (𝓤 : URA M) (H : Heap 𝓤) (A : Atoms 𝓤) (W : Given
       (are .1 .1 .1 .0 .1) (are .1 .1 .1 .1 .0 .0 .1) C Λ fm known))
 
 own-meets : {M : Type 1} (𝓤 : URA M) (H : Heap 𝓤) (A : Atoms 𝓤) → Given 𝓤 H A → (mem : Memory → SProp 𝓤) (run : Routine → Fun 𝓤) (𝓣 : Tables 𝓤 H)
-    → Triple 𝓤 (𝓣 .C #board·step) (Step 𝓤 H A mem run)
+    → Triple 𝓤 (𝓣 .C #lent-table·step) (Step 𝓤 H A mem run)
     → Meets 𝓤 H A own.signature (WpFn 𝓤 H (𝓣 .C) (𝓣 .Λ) code.function) (own.spec 𝓤 H A mem run)
 own-meets 𝓤 H A W mem run 𝓣 known =
     walk-meets 𝓤 H A own.ended stayed W (
@@ -260,6 +261,6 @@ pub step-owned-spec : {M : Type 1} → stated.statement M
 unfolding code.routine tablesOf
 step-owned-spec 𝓤 H 𝓜 𝓖 𝓡 =
     entered 𝓤 H (tripleOf 𝓤 H (𝓖 .A) own.signature (own.spec 𝓤 H (𝓖 .A) (𝓜 .mem) (𝓡 .run)))
-    (tables 𝓤 H 𝓜 𝓡 code.env .C) (tables 𝓤 H 𝓜 𝓡 code.env .Λ) #board·step-owned code.function (code.unfolded 𝓤 H 𝓜 𝓡)
+    (tables 𝓤 H 𝓜 𝓡 code.env .C) (tables 𝓤 H 𝓜 𝓡 code.env .Λ) #lent-table·step-owned code.function (code.unfolded 𝓤 H 𝓜 𝓡)
     (own-meets 𝓤 H (𝓖 .A) (givenOf 𝓤 H 𝓜 𝓖) (𝓜 .mem) (𝓡 .run) (tablesOf 𝓤 H 𝓜 (tables 𝓤 H 𝓜 𝓡 code.env))
-    (cited 𝓤 H (Step 𝓤 H (𝓖 .A) (𝓜 .mem) (𝓡 .run)) 𝓜 𝓡 code.env #board·step step-def.routine code.calls-board·step (step-thm.met 𝓤 H 𝓜 𝓖 𝓡)))
+    (cited 𝓤 H (Step 𝓤 H (𝓖 .A) (𝓜 .mem) (𝓡 .run)) 𝓜 𝓡 code.env #lent-table·step step-def.routine code.calls-lent-table·step (step-thm.met 𝓤 H 𝓜 𝓖 𝓡)))

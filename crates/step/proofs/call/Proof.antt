@@ -45,8 +45,10 @@ station-at-requires c κs =
     let p = s .before .before .before .before .before .before in
     let b = p .before .before .before .before .before .before in
     let w = whole _ _ (b .good .0) in
-    let z = sym (i .before .number .ensures) ∙ i .if1 .left in
-    (place-inside _ w _ (p .take-apart .ensures) (s .step .ensures) z (f .place-of .ensures), place-bytes _ w _ (p .take-apart .ensures) (s .step .ensures) z (f .place-of .ensures))
+    let z = sym (i .before .number .ensures) ∙ i .if1 .left in (
+      place-inside _ w _ (p .take-apart .ensures) (s .step .ensures) z (f .place-of .ensures),
+      place-bytes _ w _ (p .take-apart .ensures) (s .step .ensures) z (f .place-of .ensures),
+    )
 
 mul-record : tie.Need-mul-record
 mul-record c =
