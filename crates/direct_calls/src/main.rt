@@ -27,7 +27,6 @@ use commands::Command;
 use engine::Reply;
 use libc::STDIN_FILENO;
 use libc::STDOUT_FILENO;
-use session::Session;
 use step::Outcome;
 use table::Table;
 ghost use Prim.Native.Nat.{_≤_};

@@ -17,8 +17,10 @@ use prog.Wp.{Heap, Calls, Loops, WpFn, Tables}
 use ghost.Atoms.{Atoms}
 use contract.Monad.{fact}
 use contract.Lifetimes.{Lfts, Shares, toks}
-use types.Kit.{Given, ‵, raw, _⊛_, some, later, given, ⋆, _$_, _∵_, !, qed, by, move, keep, drop, use1, use3, split, join, pick, learn, rewrite, fsplit, fsplit3, fjoin, fjoin3, feqI, suffices, frame, await, done}
-use types.Run.{look, look-raw, init, store-raw, forget, stop, hop, fld, from, load, of-opd, and-then, assigns, land, returns, enter, alloc1, params1, pass1, free1}
+use types.Kit.{Given, ‵, raw, _⊛_, some, later, given, ⋆, _$_, _∵_, !, qed, by, move, keep, drop, use1, use3, split, join, pick, learn, rewrite, fsplit}
+use types.Kit.{fsplit3, fjoin, fjoin3, feqI, suffices, frame, await, done}
+use types.Run.{look, look-raw, init, store-raw, forget, stop, hop, fld, from, load, of-opd, and-then, assigns, land, returns, enter, alloc1, params1, pass1}
+use types.Run.{free1}
 use types.Part.{whole, sub, look-in}
 use types.SemTy.{Body}
 use sound.WpLaws.{FmC, fmOf, WpFn-mono}
@@ -48,8 +50,12 @@ use Rattle.step.proofs.Outcome as S
 use Rattle.step.proofs.Outcome.Laws as S′
 use Rattle.engine.proofs.Reply as R
 use Rattle.engine.proofs.Reply.Laws as R′
-use Rattle.lent_table.proofs.Numbers.{Nums, Fit, nums, stays, args, vals, spells, tells, front, back, args-is, vals-is, fit-of, are-of, Clause, lasts, last, clause-in, clause-out, fit-in, go-nums, own-rest, own-all, has-all, last-rest, locals, past, reads, alloc-nums, pass-nums, read-nums, free-nums}
-use Rattle.lent_table.proofs.Report.{lives, buffer, buffer′, gave, go-buffer, spell, spell′, spell-tells, bytes, bytes′, seen, seen′, Fine, fine-of, on, end, same-said, hand-on, take-back, after, beyond, buffer-local, borrow-locals, prepare, passed, borrow-env, rest-env, from-rest, alloc-buffer, alloc-borrow, pass-buffer, prepares, read-borrow, free-buffer, free-borrow}
+use Rattle.lent_table.proofs.Numbers.{Nums, Fit, nums, stays, args, vals, spells, tells, front, back, args-is, vals-is, fit-of, are-of, Clause, lasts}
+use Rattle.lent_table.proofs.Numbers.{last, clause-in, clause-out, fit-in, go-nums, own-rest, own-all, has-all, last-rest, locals, past, reads}
+use Rattle.lent_table.proofs.Numbers.{alloc-nums, pass-nums, read-nums, free-nums}
+use Rattle.lent_table.proofs.Report.{lives, buffer, buffer′, gave, go-buffer, spell, spell′, spell-tells, bytes, bytes′, seen, seen′, Fine, fine-of}
+use Rattle.lent_table.proofs.Report.{on, end, same-said, hand-on, take-back, after, beyond, buffer-local, borrow-locals, prepare, passed, borrow-env}
+use Rattle.lent_table.proofs.Report.{rest-env, from-rest, alloc-buffer, alloc-borrow, pass-buffer, prepares, read-borrow, free-buffer, free-borrow}
 
 -- what a call says: of the table, the numbers and the report buffer passed, and of the table, the reply and the buffer left
 abbrev pub Says : ℕ → Type 1
@@ -174,8 +180,10 @@ module _ {M : Type 1} (𝓤 : URA M) (H : Heap 𝓤) (A : Atoms 𝓤) (W : Given
   goes : ent 𝓤 (⋆ 𝓤 H A (raw (toks 𝓤 A (lives b) (κs .1) (qs .1)) ∷ ‵ (owns (typesAt (buffer′ b) (κs .1)) x′ vs′) ∷ ‵ (T.the-row .own h (tv h ∷ [])) ∷ []))
       (Step b k Q 𝓤 H A .pre to)
   goes =
-      qed W (raw (toks 𝓤 A (lives b) (κs .1) (qs .1)) ∷ ‵ (owns (typesAt (buffer′ b) (κs .1)) x′ vs′) ∷ ‵ (T.the-row .own h (tv h ∷ [])) ∷ []) ∵ move ! (1 ∷ []) $
-      use1 W (‵ (owns (typesAt (nums k (buffer′ b)) (κs .1)) (a′ .1) (av′ .1))) (own-all 𝓤 H A W (κs .1) (buffer′ b) x′ vs′ k ns fit) $ move ! (2 ∷ 0 ∷ []) $ fjoin ! $
+      qed W (raw (toks 𝓤 A (lives b) (κs .1) (qs .1)) ∷ ‵ (owns (typesAt (buffer′ b) (κs .1)) x′ vs′) ∷ ‵ (T.the-row .own h (tv h ∷ [])) ∷ []) ∵ move !
+      (1 ∷ []) $
+      use1 W (‵ (owns (typesAt (nums k (buffer′ b)) (κs .1)) (a′ .1) (av′ .1))) (own-all 𝓤 H A W (κs .1) (buffer′ b) x′ vs′ k ns fit) $
+      move ! (2 ∷ 0 ∷ []) $ fjoin ! $
       move ! (1 ∷ 0 ∷ []) $ join ! $ frame ! $ done !
 
   exits : (r : Outcome) (w : Fins κs (buffer b) (all yes (buffer b)) x) → Said r ns x (outs κs (buffer b) (all yes (buffer b)) x w)
@@ -198,7 +206,8 @@ module _ {M : Type 1} (𝓤 : URA M) (H : Heap 𝓤) (A : Atoms 𝓤) (W : Given
     walk : ent 𝓤 (onEntry 𝓤 H A (lent-ended b k .signature) κs qs a av) (WpFn 𝓤 H C Λ (lent-function b k key)
         (flat (typesAt (lent-ended b k .signature .params) κs) av) Post)
     walk =
-        qed W ((‵ (flft (κs .0) (qs .0)) ⊛ raw (toks 𝓤 A (lives b) (κs .1) (qs .1))) ∷ ‵ (owns (typesAt (lent-ended b k .signature .params) κs) a av) ∷ []) ∵ enter ! C Λ
+        qed W ((‵ (flft (κs .0) (qs .0)) ⊛ raw (toks 𝓤 A (lives b) (κs .1) (qs .1))) ∷ ‵
+        (owns (typesAt (lent-ended b k .signature .params) κs) a av) ∷ []) ∵ enter ! C Λ
         (lent-function b k key) (flat (typesAt (lent-ended b k .signature .params) κs) av) _ $
         alloc1 ! (λ l₀. alloc1 ! (λ l₁. alloc-nums ! k (λ bs. alloc-buffer ! b (λ p. alloc1 ! (λ r₀. alloc1 ! (λ r₁. alloc-borrow ! b (λ i j. params1 ! $
         -- [the borrow's; r₁; …; r₀; …; the buffer's; the numbers; _1; …; room for _0; …; the tokens; what the parameters own]
@@ -208,29 +217,34 @@ module _ {M : Type 1} (𝓤 : URA M) (H : Heap 𝓤) (A : Atoms 𝓤) (W : Given
         move ! (12 ∷ []) $ fsplit ! $ move ! (1 ∷ []) $ use1 W (‵ (owns (typesAt (buffer b) κs) x vs)) (own-rest 𝓤 H A W κs (buffer b) x vs k ns) $
         use1 W (‵ (owns (typesAt (buffer′ b) (κs .1)) x′ vs′)) (hand-on 𝓤 H A W b κs x) $
         move ! (13 ∷ []) $ split ! $ move ! (3 ∷ []) $ fsplit3 ! $ drop ! $
-        -- [obs; the borrow of t; the table's token; the buffer's; what it owns; the buffer's cell; the numbers; the borrow's; r₁; …; r₀; …; _1; …; room for _0; …]
+        -- [obs; the borrow of t; the table's token; the buffer's; what it owns; the buffer's cell; the numbers; the borrow's; r₁; …; r₀; …; _1; …; room for
+        -- _0; …]
         opens ! tt T.the-row {h = h} m o (λ us. spelt ! T.the-row (Is T.the-row) (shows 𝓤 H A T.the-row) (LL.vals T.the-type T′.the-laws)
         (LL.tells T.the-type T′.the-laws) fullShare h us m o $
         move ! (1 ∷ []) $ peeks ! T.the-row (Is T.the-row) (shows 𝓤 H A T.the-row) h (tv h ∷ []) (λ g. move ! (1 ∷ 0 ∷ []) $
-        -- [the table's cell; what a Table owns; the open borrow; obs; auth; the buffer's token; what it owns; its cell; the numbers; the borrow's; r₁; …; r₀; …; _1;
+        -- [the table's cell; what a Table owns; the open borrow; obs; auth; the buffer's token; what it owns; its cell; the numbers; the borrow's; r₁; …;
+        -- r₀; …; _1;
         -- …; room for _0; …]
         assigns ! (of-opd ! (load ! (from ! (hop ! (look ! 14 refl) (stop !))) (look-raw ! 0 refl))) (from-rest ! 1 b k bs p r₀ r₁ i j (stop !))
         (init ! 10 refl (LL.lawful T.the-type T′.the-laws 𝓤 H A W .typed h _ g .0)) $
         move ! (9 ∷ 7 ∷ []) $ prepares ! b κs x fine k bs _ _ p r₀ r₁ i j $ move ! (7 ∷ 8 ∷ 3 ∷ []) $ use3 W (raw (Step b k Q 𝓤 H A .pre to)) goes $
         -- [what the step asks; the borrow's; the buffer's; the table's cell; the open borrow; obs; auth; the numbers; r₁; …; r₀; …; _1; …; room for _0; …]
         calls-at ! fm (Step b k Q 𝓤 H A) known to (and-then ! (load ! (from-rest ! 1 b k bs p r₀ r₁ i j (stop !)) (look ! 8 refl))
-        (read-nums ! 7 k bs ns (κs .1) (buffer′ b) vs′ (λ i. suc (suc i)) (rest-env b p r₀ r₁ i j) refl (λ i. refl) (read-borrow ! 1 b κs x k bs _ _ p r₀ r₁ i j refl)))
+        (read-nums ! 7 k bs ns (κs .1) (buffer′ b) vs′ (λ i. suc (suc i)) (rest-env b p r₀ r₁ i j) refl (λ i. refl)
+        (read-borrow ! 1 b κs x k bs _ _ p r₀ r₁ i j refl)))
         (λ v.
         use1 W (later (some (λ (r : Outcome). (raw (toks 𝓤 A (lives b) (κs .1) (qs .1)) ⊛ ‵ (S.the-row .own r (v ∷ []))) ⊛ raw
         (ensured 𝓤 H A (step-ended b k) (step-clauses b k Q 𝓤) (κs .1) a′ tt r)))) (id⊢ 𝓤 _) $ await ! tt $ pick ! (λ r.
         -- what the step ensures, at some last contents of the buffer
-        split ! $ move ! (1 ∷ []) $ use1 W (some (λ (ws : Lasts (step-ended b k) (κs .1) a′). ‵ (lasting (step-ended b k) (κs .1) a′ ws) ⊛ raw (fact 𝓤 (Ensured r ws))))
+        split ! $ move ! (1 ∷ []) $ use1 W (some (λ (ws : Lasts (step-ended b k) (κs .1) a′). ‵ (lasting (step-ended b k) (κs .1) a′ ws) ⊛ raw
+        (fact 𝓤 (Ensured r ws))))
         (id⊢ 𝓤 _) $ pick ! (λ ws. split ! $ move ! (1 ∷ []) $ heard ! (Ensured r ws) (λ e. fsplit ! $ drop ! $
         use1 W (‵ (lastsOf (κs .1) (buffer′ b) (all yes (buffer′ b)) x′ (last′ ws))) (last-rest 𝓤 H A W (κs .1) (buffer′ b) x′ vs′ k ns (ws .1)) $
         use1 W (given (fitsOf κs (buffer b) (all yes (buffer b)) (gave b) x (end b κs x (last′ ws)))
         (‵ (hasOf κs (buffer b) (all yes (buffer b)) (gave b) x (end b κs x (last′ ws)) vs))) (take-back 𝓤 H A W b κs x (last′ ws)) $ learn ! (λ f.
         move ! (1 ∷ []) $ split ! $ move ! (1 ∷ []) $ peeks ! S.the-row (Is S.the-row) (shows 𝓤 H A S.the-row) r (v ∷ []) (λ is.
-        -- [what an Outcome owns; the buffer's token; what is had of it; the borrow's; the buffer's; the table's cell; the open borrow; obs; auth; the numbers; r₁;
+        -- [what an Outcome owns; the buffer's token; what is had of it; the borrow's; the buffer's; the table's cell; the open borrow; obs; auth; the
+        -- numbers; r₁;
         -- …; r₀; …; _1; …; room for _0; …]
         land ! (from-rest ! 0 b k bs p r₀ r₁ i j (stop !)) (init ! 12 refl (LL.lawful S.the-type S′.the-laws 𝓤 H A W .typed r _ is .0)) $
         rewrite ! 12 (λ (u : Val). ‵ (fat fullShare S′.mir r₀ 0 u)) (ap only (LL.tells S.the-type S′.the-laws r _ is)) refl $
@@ -256,7 +270,11 @@ module _ {M : Type 1} (𝓤 : URA M) (H : Heap 𝓤) (A : Atoms 𝓤) (W : Given
   lent-walks : (C : Calls 𝓤 H) (Λ : Loops 𝓤 H) → FmC 𝓤 H (W .laws) C → Triple 𝓤 (C key) (Step b k Q 𝓤 H A)
       → Walks 𝓤 H A (lent-ended b k) (stayed b k) (WpFn 𝓤 H C Λ (lent-function b k key)) (lent-clauses b k Q 𝓤)
   lent-walks C Λ fm known = walked 𝓤 H A (lent-ended b k) (stayed b k) (lent-clauses b k Q 𝓤) (WpFn 𝓤 H C Λ (lent-function b k key))
-      (λ κs. (ptr-vals, spells κs (buffer b) k (spell b κs))) (λ κs. (mut-tells (named 0) (κs .0) T.the-row, tells κs (buffer b) k (spell b κs) (spell-tells b κs)))
+      (λ κs. (ptr-vals, spells κs (buffer b) k (spell b κs))) (λ κs. (
+        mut-tells (named 0) (κs .0) T.the-row,
+        tells κs (buffer b) k (spell b κs)
+            (spell-tells b κs),
+      ))
       (λ κs qs bounds a g are. via 𝓤 _ (fst∗ 𝓤 _ (emp 𝓤))
       (subst (λ (y : Rest κs). ent 𝓤 (onEntry 𝓤 H A (lent-ended b k .signature) κs qs (a .0, y .0) (ptr-vals (a .0), y .1))
       (WpFn 𝓤 H C Λ (lent-function b k key) (flat (typesAt (lent-ended b k .signature .params) κs) (ptr-vals (a .0), y .1))

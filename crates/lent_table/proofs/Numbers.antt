@@ -15,7 +15,8 @@ use base.Fml.{Share, ftrue, fat, froom, fdies}
 use prog.Wp.{Heap, Env, Spot, spotOf, walk}
 use ghost.Atoms.{Atoms, sem}
 use contract.Lifetimes.{Lfts}
-use types.Kit.{Given, Item, ‵, raw, _⊛_, mean, ⋆, nth, del, pull, unpull, Goal, allocs, passes, frees, Seq, Step, step, _$_, _∵_, !, qed, by, move, drop, use1, split, join, fsplit, fjoin, done}
+use types.Kit.{Given, Item, ‵, raw, _⊛_, mean, ⋆, nth, del, pull, unpull, Goal, allocs, passes, frees, Seq, Step, step, _$_, _∵_, !, qed, by, move, drop}
+use types.Kit.{use1, split, join, fsplit, fjoin, done}
 use types.Run.{Reads, Walks, Finds, Opds, init, forget, stop, load, and-then, alloc1, pass1, free1}
 use denote.RattleType.{Denots, Valss, owns, flat}
 use denote.Laws.{Is, Ises, Are, Spells, valss, Tellss}
@@ -142,7 +143,8 @@ module _ {M : Type 1} (𝓤 : URA M) (H : Heap 𝓤) (A : Atoms 𝓤) (W : Given
     pub own-all : (k : ℕ) (ns : Nums k) → Fit k ns → ent 𝓤 (sem 𝓤 H A (owns (typesAt ss κs) x vs))
         (sem 𝓤 H A (owns (typesAt (nums k ss) κs) (args κs ss k ns x) (vals κs ss k ns vs)))
     own-all zero ns fit = id⊢ 𝓤 _
-    own-all (suc k) ns fit = qed W (‵ (owns (typesAt ss κs) x vs) ∷ []) ∵ use1 W (‵ (owns (typesAt (nums k ss) κs) (args κs ss k (ns .1) x) (vals κs ss k (ns .1) vs)))
+    own-all (suc k) ns fit = qed W (‵ (owns (typesAt ss κs) x vs) ∷ []) ∵ use1 W (‵
+        (owns (typesAt (nums k ss) κs) (args κs ss k (ns .1) x) (vals κs ss k (ns .1) vs)))
         (own-all k (ns .1) (fit .1)) $
         owned ! u64 (Is u64) (uint-makes 𝓤 H A W w64) (ns .0) _ (refl, fit .0) $ fjoin ! $ done !
 
@@ -156,7 +158,8 @@ module _ {M : Type 1} (𝓤 : URA M) (H : Heap 𝓤) (A : Atoms 𝓤) (W : Given
         owned ! u64 (Is u64) (uint-makes 𝓤 H A W w64) (ns .0) _ (refl, fit .0) $ fjoin ! $ done !
 
     pub last-rest : (k : ℕ) (ns : Nums k) (w : Fins κs (nums k ss) (all yes (nums k ss)) (args κs ss k ns x))
-        → ent 𝓤 (sem 𝓤 H A (lastsOf κs (nums k ss) (all yes (nums k ss)) (args κs ss k ns x) w)) (sem 𝓤 H A (lastsOf κs ss (all yes ss) x (last κs ss x k ns w)))
+        → ent 𝓤 (sem 𝓤 H A (lastsOf κs (nums k ss) (all yes (nums k ss)) (args κs ss k ns x) w))
+        (sem 𝓤 H A (lastsOf κs ss (all yes ss) x (last κs ss x k ns w)))
     last-rest zero ns w = id⊢ 𝓤 _
     last-rest (suc k) ns w = qed W (‵ (lastsOf κs (nums (suc k) ss) (all yes (nums (suc k) ss)) (args κs ss (suc k) ns x) w) ∷ []) ∵ fsplit ! $ drop ! $
         by ! (last-rest k (ns .1) (w .1))
@@ -218,7 +221,8 @@ module _ {M : Type 1} {𝓤 : URA M} {H : Heap 𝓤} {A : Atoms 𝓤} {K : Type 
   pass-nums t (suc k) bs ns fit κs ss vs = step (λ s. split t $ split t $ pass1 t (init t 0 refl (tt, record { fits = fit .0 })) $ move t (2 ∷ []) $
       pass-nums t k (bs .1) (ns .1) (fit .1) κs ss vs $ move t (1 ∷ 2 ∷ []) $ join t $ join t $ s)
 
-  pub free-nums : K → (k : ℕ) (bs ns : Nums k) {Γ : List (Item 𝓤)} {E : Env 𝓤 H} {g : Goal 𝓤 H} → Step K W Γ (frees E g) (cells 𝓤 k bs ns ∷ Γ) (frees (env k bs E) g)
+  pub free-nums : K → (k : ℕ) (bs ns : Nums k) {Γ : List (Item 𝓤)} {E : Env 𝓤 H} {g : Goal 𝓤 H} → Step K W Γ (frees E g) (cells 𝓤 k bs ns ∷ Γ)
+      (frees (env k bs E) g)
   free-nums t zero bs ns = drop t
   free-nums t (suc k) bs ns = step (λ s. split t $ split t $ forget t 0 refl $ free1 t $ free-nums t k (bs .1) (ns .1) $ s)
 
@@ -229,13 +233,15 @@ module _ {M : Type 1} {𝓤 : URA M} {H : Heap 𝓤} {A : Atoms 𝓤} {K : Type 
       let At : Val → SProp 𝓤 = λ u. H .at fullShare τ b zero u in
       record {
         go = λ Kt h. via 𝓤 (sep 𝓤 (At v) X) out
-            (via 𝓤 (sep 𝓤 (At v) (wand 𝓤 (At v) (Kt v))) (monoR 𝓤 (At v) (wandI 𝓤 X (At v) (Kt v) (via 𝓤 (sep 𝓤 (At v) X) (comm∗ 𝓤 X (At v)) (via 𝓤 (⋆ 𝓤 H A Γ) into h))))
+            (via 𝓤 (sep 𝓤 (At v) (wand 𝓤 (At v) (Kt v))) (monoR 𝓤 (At v) (wandI 𝓤 X (At v) (Kt v)
+            (via 𝓤 (sep 𝓤 (At v) X) (comm∗ 𝓤 X (At v)) (via 𝓤 (⋆ 𝓤 H A Γ) into h))))
             (via 𝓤 (ex 𝓤 (λ (u : Val). sep 𝓤 (At u) (wand 𝓤 (At u) (Kt u)))) (exI 𝓤 (λ (u : Val). sep 𝓤 (At u) (wand 𝓤 (At u) (Kt u))) v)
             (exI 𝓤 (λ (s : Share). ex 𝓤 (λ (u : Val). sep 𝓤 (H .at s τ b zero u) (wand 𝓤 (H .at s τ b zero u) (Kt u)))) fullShare)));
       }
 
   -- entry p of the context begins with the cell
-  pub look-first : K → (p : ℕ) {Γ : List (Item 𝓤)} {τ : Ty} {b : ℕ} {v : Val} {j : Item 𝓤} → nth 𝓤 H A p Γ ≡ (‵ (fat fullShare τ b zero v) ⊛ j) → Reads K W Γ τ b zero v
+  pub look-first : K → (p : ℕ) {Γ : List (Item 𝓤)} {τ : Ty} {b : ℕ} {v : Val} {j : Item 𝓤} → nth 𝓤 H A p Γ ≡ (‵ (fat fullShare τ b zero v) ⊛ j)
+      → Reads K W Γ τ b zero v
   look-first t p {Γ} {τ} {b} {v} {j} is =
       let c : SProp 𝓤 = H .at fullShare τ b zero v in
       let X : SProp 𝓤 = ⋆ 𝓤 H A (del 𝓤 H A p Γ) in
@@ -254,13 +260,16 @@ module _ {M : Type 1} {𝓤 : URA M} {H : Heap 𝓤} {A : Atoms 𝓤} {K : Type 
       let d : Item 𝓤 = ‵ (fdies (tyInt w64) (bs .0)) in
       let cs : Item 𝓤 = cells 𝓤 k (bs .1) (ns .1) in
       and-then t (load t (from-at t (at 0) (stop t)) (reads-by t (sep 𝓤 (mean 𝓤 H A d) (sep 𝓤 (mean 𝓤 H A cs) X))
-      (via 𝓤 _ out (qed W (((c ⊛ d) ⊛ cs) ∷ raw X ∷ []) ∵ split ! $ split ! $ done !)) (via 𝓤 _ (qed W (c ∷ d ∷ cs ∷ raw X ∷ []) ∵ join ! $ join ! $ done !) into)))
+      (via 𝓤 _ out (qed W (((c ⊛ d) ⊛ cs) ∷ raw X ∷ []) ∵ split ! $ split ! $ done !)) (via 𝓤 _ (qed W (c ∷ d ∷ cs ∷ raw X ∷ []) ∵ join ! $ join ! $
+      done !) into)))
       (reading t k (bs .1) (ns .1) κs ss vs (λ i. f (suc i)) E′ (sep 𝓤 (mean 𝓤 H A (c ⊛ d)) X)
-      (via 𝓤 _ out (qed W (((c ⊛ d) ⊛ cs) ∷ raw X ∷ []) ∵ split ! $ move ! (1 ∷ 0 ∷ []) $ done !)) (via 𝓤 _ (qed W (cs ∷ (c ⊛ d) ∷ raw X ∷ []) ∵ move ! (1 ∷ 0 ∷ []) $
+      (via 𝓤 _ out (qed W (((c ⊛ d) ⊛ cs) ∷ raw X ∷ []) ∵ split ! $ move ! (1 ∷ 0 ∷ []) $
+      done !)) (via 𝓤 _ (qed W (cs ∷ (c ⊛ d) ∷ raw X ∷ []) ∵ move ! (1 ∷ 0 ∷ []) $
       join ! $ done !) into) (λ i. at (suc i)) os)
 
   -- entry p of the context is that of the numbers
-  pub read-nums : K → (p : ℕ) (k : ℕ) (bs ns : Nums k) {n : ℕ} (κs : Lfts n) (ss : List (Slot n)) (vs : Valss (typesAt ss κs)) (f : ℕ → ℕ) (E′ : Env 𝓤 H) {Γ : List
+  pub read-nums : K → (p : ℕ) (k : ℕ) (bs ns : Nums k) {n : ℕ} (κs : Lfts n) (ss : List (Slot n)) (vs : Valss (typesAt ss κs)) (f : ℕ → ℕ) (E′ : Env 𝓤 H)
+      {Γ : List
       (Item 𝓤)} {E : Env 𝓤 H} {xs : List Operand} → nth 𝓤 H A p Γ ≡ cells 𝓤 k bs ns
       → ((i : ℕ) → spotOf 𝓤 H E (f i) ≡ spotOf 𝓤 H (env k bs E′) i) → Opds K W Γ E xs (flat (typesAt ss κs) vs)
       → Opds K W Γ E (reads k f xs) (flat (typesAt (nums k ss) κs) (vals κs ss k ns vs))

@@ -72,7 +72,9 @@ obey-requires-2 : tie.Need-obey-requires-2 Inv-loop μ-loop
 obey-requires-2 c κs = search needs
 
 add-at : tie.Need-add-at Inv-loop μ-loop
-add-at c = omega (arith, c .before .before .before .before .before .before .before .before .before .find .ensures .1, c .before .before .before .before .before .before .before .before .before .before .before .before .before .before .before .before .pre)
+add-at c =
+    let f = c .before .before .before .before .before .before .before .before .before in
+    omega (arith, f .find .ensures .1, f .before .before .before .before .before .before .before .pre)
 
 loop-less : tie.Need-loop-less Inv-loop μ-loop
 loop-less c = search needs

@@ -16,8 +16,10 @@ use prog.Wp.{Heap, Calls, Loops, WpFn, Tables}
 use ghost.Atoms.{Atoms, sem}
 use contract.Monad.{Fun, fact}
 use contract.Running.{givenOf, tables, tablesOf}
-use types.Kit.{Given, ‵, raw, _⊛_, some, later, ⋆, _$_, _∵_, !, qed, by, move, keep, drop, use1, use2, use3, split, join, pick, rewrite, fsplit, fjoin, fpick, fpack, feqL, suffices, frame, await, done}
-use types.Run.{look, init, forget, stop, hop, fld, from, load, addr, of-opd, and-then, no-more, assigns, land, returns, enter, alloc1, alloc0, params1, pass1, pass0, free1, free0}
+use types.Kit.{Given, ‵, raw, _⊛_, some, later, ⋆, _$_, _∵_, !, qed, by, move, keep, drop, use1, use2, use3, split, join, pick, rewrite, fsplit, fjoin, fpick}
+use types.Kit.{fpack, feqL, suffices, frame, await, done}
+use types.Run.{look, init, forget, stop, hop, fld, from, load, addr, of-opd, and-then, no-more, assigns, land, returns, enter, alloc1, alloc0, params1, pass1}
+use types.Run.{pass0, free1, free0}
 use types.Part.{agg, whole, sub, look-in}
 use types.SemTy.{Body}
 use sound.WpLaws.{FmC, fmOf, WpFn-mono}
@@ -98,7 +100,8 @@ module _ {M : Type 1} (𝓤 : URA M) (H : Heap 𝓤) (A : Atoms 𝓤) (W : Given
 abbrev Step : {M : Type 1} (𝓤 : URA M) (H : Heap 𝓤) (A : Atoms 𝓤) (mem : Memory → SProp 𝓤) (run : Routine → Fun 𝓤) → Contract 𝓤
 Step 𝓤 H A mem run = tripleOf 𝓤 H A step.signature (step.spec 𝓤 H A mem run)
 
-module _ {M : Type 1} (𝓤 : URA M) (H : Heap 𝓤) (A : Atoms 𝓤) (W : Given 𝓤 H A) (at-mem : Memory → SProp 𝓤) (run : Routine → Fun 𝓤) (κ : Lft) (q : Share) (h : Table)
+module _ {M : Type 1} (𝓤 : URA M) (H : Heap 𝓤) (A : Atoms 𝓤) (W : Given 𝓤 H A) (at-mem : Memory → SProp 𝓤) (run : Routine → Fun 𝓤) (κ : Lft) (q : Share)
+    (h : Table)
     (c n j : ℕ) (b o : ℕ) (γ : GName) (ys : List ℕ)
     (is-h : Is T.the-row h (tv h ∷ [])) (c-fits : c < 2 ^ 64) (n-fits : n < 2 ^ 64) (j-fits : j < 2 ^ 64) (room : Room u8 (length ys)) where
   abbrev x : RefT (List ℕ)
@@ -139,7 +142,8 @@ module _ {M : Type 1} (𝓤 : URA M) (H : Heap 𝓤) (A : Atoms 𝓤) (W : Given
   abbrev mach : Reply → Table → Val
   mach r t = vstruct (vcons (tv t) (vcons (LL.val R.the-type R′.the-laws r) vnil))
 
-  is-whole : (r : Reply) (t : Table) → Is T.the-row t (tv t ∷ []) → Is R.the-row r (LL.vals R.the-type R′.the-laws r) → Is S.the-row (whole-of r t) (mach r t ∷ [])
+  is-whole : (r : Reply) (t : Table) → Is T.the-row t (tv t ∷ []) → Is R.the-row r (LL.vals R.the-type R′.the-laws r) → Is S.the-row (whole-of r t)
+      (mach r t ∷ [])
   is-whole r t g is = LL.owes S.the-type S′.the-laws (whole-of r t) (g, (is, tt))
 
   abbrev Post : Val → SProp 𝓤
@@ -150,13 +154,15 @@ module _ {M : Type 1} (𝓤 : URA M) (H : Heap 𝓤) (A : Atoms 𝓤) (W : Given
   to l ν δ = (((ν ∷ [], (κ, tt)), (fullShare, (q, tt)), tt, (loan l δ, rest), (vptr l 0 ∷ [], rest-vals)), tt)
 
   goes : (l ν : ℕ) (δ : GName) → ent 𝓤 (⋆ 𝓤 H A ((‵ (flft (ν ∷ []) fullShare) ⊛ ‵ (flft κ q)) ∷ ‵
-      (MutRef (named 0) (ν ∷ []) T.the-row .own (loan l δ) (vptr l 0 ∷ [])) ∷ ‵ (MutSlice (named 0) κ u8 .own x (s ∷ [])) ∷ [])) (Step 𝓤 H A at-mem run .pre (to l ν δ))
+      (MutRef (named 0) (ν ∷ []) T.the-row .own (loan l δ) (vptr l 0 ∷ [])) ∷ ‵ (MutSlice (named 0) κ u8 .own x (s ∷ [])) ∷ []))
+      (Step 𝓤 H A at-mem run .pre (to l ν δ))
   goes l ν δ =
       qed W ((‵ (flft (ν ∷ []) fullShare) ⊛ ‵ (flft κ q)) ∷ ‵ (MutRef (named 0) (ν ∷ []) T.the-row .own (loan l δ) (vptr l 0 ∷ [])) ∷ ‵
       (MutSlice (named 1) κ u8 .own x (s ∷ [])) ∷ []) ∵ nothing ! $ move ! (3 ∷ 0 ∷ []) $ fjoin ! $
       owned ! u64 (Is u64) (uint-makes 𝓤 H A W w64) j _ (refl, j-fits) $ fjoin ! $ owned ! u64 (Is u64) (uint-makes 𝓤 H A W w64) n _ (refl, n-fits) $ fjoin ! $
       owned ! u64 (Is u64) (uint-makes 𝓤 H A W w64) c _ (refl, c-fits) $ fjoin ! $
-      move ! (2 ∷ 0 ∷ []) $ fjoin ! $ nothing ! $ move ! (2 ∷ []) $ split ! $ move ! (1 ∷ 2 ∷ []) $ join ! $ move ! (1 ∷ 0 ∷ []) $ join ! $ join ! $ frame ! $ done !
+      move ! (2 ∷ 0 ∷ []) $ fjoin ! $ nothing ! $ move ! (2 ∷ []) $ split ! $ move ! (1 ∷ 2 ∷ []) $ join ! $ move ! (1 ∷ 0 ∷ []) $ join ! $ join ! $
+      frame ! $ done !
 
   exits : (r : Reply) (t : Table) (zs : List ℕ) → Says r t zs → length zs ≡ length ys → Is S.the-row (whole-of r t) (mach r t ∷ [])
       → ent 𝓤 (⋆ 𝓤 H A ((‵ (flft κ q) ⊛ ‵ ftrue) ∷ ‵ (finally u8 γ zs) ∷ [])) (Post (mach r t))
@@ -204,29 +210,36 @@ module _ {M : Type 1} (𝓤 : URA M) (H : Heap 𝓤) (A : Atoms 𝓤) (W : Given
         (ensured 𝓤 H A step.ended (step.clauses 𝓤 H A at-mem run) (ν ∷ [], (κ, tt)) (loan l₆ δ, rest) tt r)))) (id⊢ 𝓤 _) $ await ! tt $ pick ! (λ r.
         split ! $ move ! (1 ∷ []) $ use1 W (some (λ (zs : Table × (Unit {0} × (Unit {0} × (Unit {0} × (List ℕ × Unit {0}))))). ‵
         (lasts step.ended (ν ∷ [], (κ, tt)) (loan l₆ δ, rest) zs) ⊛ raw (fact 𝓤 (Says r (zs .0) (zs .1 .1 .1 .1 .0))))) (id⊢ 𝓤 _) $ pick ! (λ zs.
-        split ! $ move ! (1 ∷ []) $ heard ! (Says r (zs .0) (zs .1 .1 .1 .1 .0)) (λ e. fsplit ! $ move ! (1 ∷ []) $ fsplit ! $ drop ! $ fsplit ! $ drop ! $ fsplit ! $
+        split ! $ move ! (1 ∷ []) $ heard ! (Says r (zs .0) (zs .1 .1 .1 .1 .0)) (λ e. fsplit ! $ move ! (1 ∷ []) $ fsplit ! $ drop ! $ fsplit ! $ drop ! $
+        fsplit ! $
         drop ! $ fsplit ! $ fsplit ! $ move ! (1 ∷ []) $ feqL ! (λ l.
         -- [the report's last contents; true; the table's last value; the tokens and the result; the lender's part; true; true; _11; …]
         move ! (3 ∷ []) $ split ! $ move ! (1 ∷ []) $ peeks ! R.the-row (Is R.the-row) (shows 𝓤 H A R.the-row) r (v ∷ []) (λ is.
         land ! (from ! (stop !)) (init ! 16 refl (LL.lawful R.the-type R′.the-laws 𝓤 H A W .typed r _ is .0)) $
         rewrite ! 16 (λ (u : Val). ‵ (fat fullShare R′.mir l₇ 0 u)) (ap only (LL.tells R.the-type R′.the-laws r _ is)) refl $ drop ! $
         -- the lifetime is ended, and the local comes back at that table
-        split ! $ lft-end ! tt $ move ! (0 ∷ 5 ∷ 4 ∷ []) $ use3 W (later (‵ (mem T.the-row .lies (zs .0) l₆ 0))) (ref-back 𝓤 H A W T.the-row (ν ∷ []) δ (zs .0) l₆ 0) $
+        split ! $ lft-end ! tt $ move ! (0 ∷ 5 ∷ 4 ∷ []) $ use3 W (later (‵ (mem T.the-row .lies (zs .0) l₆ 0)))
+        (ref-back 𝓤 H A W T.the-row (ν ∷ []) δ (zs .0) l₆ 0) $
         await ! tt $
         use1 W (‵ (fat fullShare T′.mir l₆ 0 (tv (zs .0))) ⊛ ‵ (T.the-row .own (zs .0) (tv (zs .0) ∷ []))) (lies-out 𝓤 H A W (zs .0) l₆) $ split ! $
         move ! (1 ∷ []) $ peeks ! T.the-row (Is T.the-row) (shows 𝓤 H A T.the-row) (zs .0) (tv (zs .0) ∷ []) (λ g. move ! (1 ∷ 0 ∷ []) $
-        -- [_6; what the table owns; the report's token; its last contents; true; true; true; _11; …; _10; …; _9; …; _8; …; _7; …; _6's end; _5; …; _4; …; _3; …; _2;
+        -- [_6; what the table owns; the report's token; its last contents; true; true; true; _11; …; _10; …; _9; …; _8; …; _7; …; _6's end; _5; …; _4; …;
+        -- _3; …; _2;
         -- …; _1; …; room for _0; …]
         assigns ! (of-opd ! (load ! (from ! (stop !)) (look ! 0 refl))) (from ! (stop !))
         (init ! 7 refl (LL.lawful T.the-type T′.the-laws 𝓤 H A W .typed (zs .0) _ g .0)) $
-        assigns ! (agg ! (and-then ! (load ! (from ! (stop !)) (look ! 7 refl)) (and-then ! (load ! (from ! (stop !)) (look ! 15 refl)) (no-more !)))) (from ! (stop !))
+        assigns ! (agg ! (and-then ! (load ! (from ! (stop !)) (look ! 7 refl)) (and-then ! (load ! (from ! (stop !)) (look ! 15 refl)) (no-more !))))
+        (from ! (stop !))
         (init ! 28 refl (LL.lawful S.the-type S′.the-laws 𝓤 H A W .typed (whole-of r (zs .0)) _
         (is-whole r (zs .0) g (subst (Is R.the-row r) (LL.tells R.the-type R′.the-laws r _ is) is)) .0)) $
-        returns ! (look ! 28 refl) $ forget ! 0 refl $ forget ! 7 refl $ forget ! 9 refl $ forget ! 11 refl $ forget ! 13 refl $ forget ! 15 refl $ forget ! 18 refl $
+        returns ! (look ! 28 refl) $ forget ! 0 refl $ forget ! 7 refl $ forget ! 9 refl $ forget ! 11 refl $ forget ! 13 refl $ forget ! 15 refl $
+        forget ! 18 refl $
         forget ! 20 refl $ forget ! 22 refl $ forget ! 24 refl $ forget ! 26 refl $ forget ! 28 refl $
-        move ! (28 ∷ 29 ∷ []) $ free1 ! $ move ! (26 ∷ 27 ∷ []) $ free1 ! $ move ! (24 ∷ 25 ∷ []) $ free1 ! $ move ! (22 ∷ 23 ∷ []) $ free1 ! $ move ! (20 ∷ 21 ∷ []) $
+        move ! (28 ∷ 29 ∷ []) $ free1 ! $ move ! (26 ∷ 27 ∷ []) $ free1 ! $ move ! (24 ∷ 25 ∷ []) $ free1 ! $ move ! (22 ∷ 23 ∷ []) $ free1 ! $
+        move ! (20 ∷ 21 ∷ []) $
         free1 ! $ move ! (18 ∷ 19 ∷ []) $ free1 ! $ move ! (0 ∷ 17 ∷ []) $ free1 ! $
-        move ! (14 ∷ 15 ∷ []) $ free1 ! $ move ! (12 ∷ 13 ∷ []) $ free1 ! $ move ! (10 ∷ 11 ∷ []) $ free1 ! $ move ! (8 ∷ 9 ∷ []) $ free1 ! $ move ! (6 ∷ 7 ∷ []) $
+        move ! (14 ∷ 15 ∷ []) $ free1 ! $ move ! (12 ∷ 13 ∷ []) $ free1 ! $ move ! (10 ∷ 11 ∷ []) $ free1 ! $ move ! (8 ∷ 9 ∷ []) $ free1 ! $
+        move ! (6 ∷ 7 ∷ []) $
         free1 ! $ free0 ! $
         keep ! (1 ∷ 2 ∷ []) $ by ! (exits r (zs .0) (zs .1 .1 .1 .1 .0) e l (is-whole r (zs .0) g
         (subst (Is R.the-row r) (LL.tells R.the-type R′.the-laws r _ is) is))))))))))))))))))))))))
