@@ -39,11 +39,11 @@ getD-all k i f d e = by-cases (decLt i k)
     (λ l. getD-tabulate k 0 i f d l ∙ ap f (zero-add i))
     (λ l. List·getD-eq-default (tabulate k 0 f) d (rw (length-tabulate k 0 f) (omega arith)) ∙ e (omega arith))
 
-tabulate-is : {A : Type 0} (k : ℕ) (l : Lists.List A) (d : A) (f : ℕ → A) → length l ≡ k → ((i : ℕ) → i < k → f i ≡ getD l i d) → tabulate k 0 f ≡ l
+pub tabulate-is : {A : Type 0} (k : ℕ) (l : Lists.List A) (d : A) (f : ℕ → A) → length l ≡ k → ((i : ℕ) → i < k → f i ≡ getD l i d) → tabulate k 0 f ≡ l
 tabulate-is k l d f e h = ext-getD d _ _ (length-tabulate k 0 f ∙ sym e) (λ i u.
     let v : i < k = rw (length-tabulate k 0 f) at u in getD-tabulate k 0 i f d v ∙ ap f (zero-add i) ∙ h i v)
 
-two-lists : {A : Type 0} (xs : Lists.List A) (d : A) → length xs ≡ 2 → getD xs 0 d ∷ getD xs 1 d ∷ [] ≡ xs
+pub two-lists : {A : Type 0} (xs : Lists.List A) (d : A) → length xs ≡ 2 → getD xs 0 d ∷ getD xs 1 d ∷ [] ≡ xs
 two-lists xs d e = ext-getD d _ _ (sym e) each
   where
     each : (i : ℕ) → i < 2 → getD (getD xs 0 d ∷ getD xs 1 d ∷ []) i d ≡ getD xs i d
@@ -51,7 +51,7 @@ two-lists xs d e = ext-getD d _ _ (sym e) each
     each (suc zero) h = refl
     each (suc (suc i)) h = absurd (omega arith)
 
-one-list : {A : Type 0} (xs : Lists.List A) (d : A) → length xs ≡ 1 → getD xs 0 d ∷ [] ≡ xs
+pub one-list : {A : Type 0} (xs : Lists.List A) (d : A) → length xs ≡ 1 → getD xs 0 d ∷ [] ≡ xs
 one-list xs d e = ext-getD d _ _ (sym e) each
   where
     each : (i : ℕ) → i < 1 → getD (getD xs 0 d ∷ []) i d ≡ getD xs i d
@@ -68,7 +68,7 @@ phase-back Update = refl
 phase-back (End Label) = refl
 phase-back (End Scan) = refl
 
-phase-low : (p : Phase) → phaseNumber p ≤ 5
+pub phase-low : (p : Phase) → phaseNumber p ≤ 5
 phase-low Idle = omega arith
 phase-low (Snap Label) = omega arith
 phase-low (Snap Scan) = omega arith
