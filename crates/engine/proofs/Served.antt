@@ -108,7 +108,7 @@ module _ (a : Arrays) (ok : wellFormed a ≡ true) (q : Request) (room top : ℕ
   }
 
   -- the move is the one that the machine judges
-  judged : moveOf (x .place) (x .job) (x .action) ≡ judge (a .count) (restOf a) c
+  pub judged : moveOf (x .place) (x .job) (x .action) ≡ judge (a .count) (restOf a) c
   judged = ap (λ v. moveOf (x .place) v (x .action)) (j .job) ∙ j .action ∙ go (within 1 (a .count) (q .station)) refl
     where
       go : (b : Bool) → within 1 (a .count) (q .station) ≡ b → judgeIn (a .count) ph c ≡ judge (a .count) (restOf a) c
