@@ -4,11 +4,15 @@ ghost use mathlib.Core.Bool.{cond};
 ghost use Prim.Native.Nat.{ℕ, suc};
 ghost use lib.Dec.{ltb};
 ghost use Rattle.basics.specs.Tests.{tabulate};
+ghost use Rattle.moves.specs.Moves.{phaseOf};
 ghost use Rattle.simulation.specs.Machine.{freshRest};
 ghost use Rattle.transition.specs.Forms.{freshTable};
-ghost use Rattle.arrays.specs.Arrays.{arrays, resultRows};
+ghost use Rattle.arrays.specs.Arrays.{arrays, phaseFor, resultRows};
 ghost use Rattle.arrays.specs.Form.{lent};
 ghost use Rattle.arrays.specs.Sizes.{Shaped};
+
+use moves::Operation;
+use moves::Phase;
 
 // Current and pending labels.
 pub type Labels = [[[u8; 31]; 32]; 2];
@@ -21,6 +25,41 @@ pub type Control = [[u8; 32]; 1];
 
 // The stations, from 1, and the jobs of each station's scan result.
 pub type Results = [[[u32; 32]; 2]; 32];
+
+// The numbers of the phases.
+pub const IDLE: u8 = 0;
+
+pub const SNAP_LABEL: u8 = 1;
+
+pub const SNAP_SCAN: u8 = 2;
+
+pub const UPDATE: u8 = 3;
+
+pub const END_LABEL: u8 = 4;
+
+pub const END_SCAN: u8 = 5;
+
+// The phase that a number stands for.
+pub fn phase_of(b: u8) -> Phase
+    ensures { λ r. ⌜ phaseOf r ≡ phaseFor b ⌝ }
+{
+    if b == IDLE {
+        return Phase::Idle;
+    }
+    if b == SNAP_LABEL {
+        return Phase::Snap(Operation::Label);
+    }
+    if b == SNAP_SCAN {
+        return Phase::Snap(Operation::Scan);
+    }
+    if b == UPDATE {
+        return Phase::Update;
+    }
+    if b == END_LABEL {
+        return Phase::End(Operation::Label);
+    }
+    Phase::End(Operation::Scan)
+}
 
 // The lengths of lent arrays, which are known of arrays passed by value. Nothing is left of the copies when this is compiled.
 pub fn shaped(labels: Labels, jobs: Jobs, control: Control, results: Results)
@@ -60,7 +99,7 @@ pub fn refresh(
     let label = [1u8; 31];
     let plane = [label; 32];
     let none = [0u32; 32];
-    let idle = [0u8; 32];
+    let idle = [IDLE; 32];
     let result = fresh_result(n);
     *labels = [plane; 2];
     *jobs = [none; 2];

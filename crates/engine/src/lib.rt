@@ -10,20 +10,24 @@ ghost use Rattle.simulation.specs.Calls.{reportLines};
 ghost use Rattle.simulation.specs.Machine.{labelStep};
 ghost use Rattle.transition.specs.Forms.{over};
 ghost use Rattle.transition.specs.Sequences.{Steps};
-ghost use Rattle.moves.specs.Moves.{refusalNumber, phaseOf, moveOf, kindOf};
+ghost use Rattle.moves.specs.Moves.{refusalNumber, moveOf, kindOf};
 ghost use Rattle.moves.specs.declared.Move.the-variants.{BeginLabel, SnapLabel, SnapScan, EndScan};
-ghost use Rattle.arrays.specs.Arrays.{arrays, phaseFor, resultOf};
+ghost use Rattle.arrays.specs.Arrays.{arrays, resultOf};
 ghost use Rattle.arrays.specs.WellFormed.{wellFormed};
 ghost use Rattle.arrays.specs.Form.{lent};
 ghost use Rattle.engine.specs.Stores.{orderOf, scanRows, labelsAfter, jobsAfter, resultsAfter, phaseAfter};
 ghost use Rattle.engine.specs.Contracts.{callOf, Replies, Ready, Carries, Judges};
 use arrays::Control;
+use arrays::END_LABEL;
+use arrays::END_SCAN;
+use arrays::IDLE;
 use arrays::Jobs;
 use arrays::Labels;
 use arrays::Results;
+use arrays::SNAP_LABEL;
+use arrays::SNAP_SCAN;
+use arrays::UPDATE;
 use moves::Move;
-use moves::Operation;
-use moves::Phase;
 use moves::Refusal;
 
 // The planes.
@@ -32,19 +36,6 @@ const CURRENT: usize = 0;
 const PENDING: usize = 1;
 
 const PHASE: usize = 0;
-
-// The numbers of the phases.
-const IDLE: u8 = 0;
-
-const SNAP_LABEL: u8 = 1;
-
-const SNAP_SCAN: u8 = 2;
-
-const UPDATE: u8 = 3;
-
-const END_LABEL: u8 = 4;
-
-const END_SCAN: u8 = 5;
 
 // What a caller is told: the refusal, and how many bytes of report were written.
 pub struct Reply {
@@ -67,28 +58,6 @@ pub struct Task {
     pub job: u64,
     pub line: u64,
     pub newest: usize,
-}
-
-// The phase that a number stands for.
-pub fn phase_of(b: u8) -> Phase
-    ensures { λ r. ⌜ phaseOf r ≡ phaseFor b ⌝ }
-{
-    if b == IDLE {
-        return Phase::Idle;
-    }
-    if b == SNAP_LABEL {
-        return Phase::Snap(Operation::Label);
-    }
-    if b == SNAP_SCAN {
-        return Phase::Snap(Operation::Scan);
-    }
-    if b == UPDATE {
-        return Phase::Update;
-    }
-    if b == END_LABEL {
-        return Phase::End(Operation::Label);
-    }
-    Phase::End(Operation::Scan)
 }
 
 // The first n stations of an order, from 1, with their jobs; nothing past them.
@@ -266,7 +235,7 @@ pub fn judge(n: usize, q: Request, control: &Control, room: usize, top: usize) -
     let station = q.station;
     let job = q.job;
     let place = moves::place_of(station, n);
-    let phase = phase_of(control[PHASE][place]);
+    let phase = arrays::phase_of(control[PHASE][place]);
     Task {
         action: moves::judge(n, phase, q.code, station, job, room),
         place,

@@ -6,6 +6,7 @@ ghost use Rattle.transition.specs.Sequences.{Steps};
 ghost use Rattle.moves.specs.Moves.{called};
 ghost use Rattle.arrays.specs.Arrays.{arrays};
 ghost use Rattle.arrays.specs.Form.{lent};
+ghost use Rattle.file.specs.Contracts.{ReportsFile};
 ghost use Rattle.exports.specs.Contracts.{Starts};
 use arrays::Control;
 use arrays::Jobs;
@@ -70,6 +71,19 @@ pub extern "C" fn tickets_step(
         line: 0,
     };
     let reply = engine::step(count, request, labels, jobs, control, results, report);
+    let refusal = reply.refusal;
+    Answer {
+        refusal: refusal.number(),
+        written: reply.written as u64,
+    }
+}
+
+// Writes the report of a whole schedule file, and answers its final refusal, 0 if it has none; 7, and nothing is written, if the report does not fit.
+#[no_mangle]
+pub extern "C" fn tickets_report(schedule: &[u8], report: &mut [u8]) -> Answer
+    ensures { λ r. ⌜ ReportsFile (now (schedule .entry)) (now (report .entry)) (r .refusal) (r .written) (now (report .exit)) ⌝ }
+{
+    let reply = file::report(schedule, report);
     let refusal = reply.refusal;
     Answer {
         refusal: refusal.number(),

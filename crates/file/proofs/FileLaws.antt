@@ -225,15 +225,15 @@ module _ (bs buffer : Lists.List ℕ) (r : Reply) (buffer′ : Lists.List ℕ) w
       (refusalNumber (r .refusal) ≡ cond fit (o .refusal) 7) × (r .written ≡ cond fit (length (o .bytes)) 0)
       × (buffer′ ≡ cond fit (over (o .bytes) buffer) buffer)
 
-  file-told : {o : Served Arrays} → fileRun lent bs ≡ o → Told o → ReportsFile bs buffer r buffer′
+  file-told : {o : Served Arrays} → fileRun lent bs ≡ o → Told o → ReportsFile bs buffer (refusalNumber (r .refusal)) (r .written) buffer′
   file-told e h = let x = subst Told (sym e) h in record { number = x .0; count = x .1; report = x .2 }
 
   pub file-fits : {o : Served Arrays} → fileRun lent bs ≡ o → refusalNumber (r .refusal) ≡ o .refusal → r .written ≡ length (o .bytes)
-      → length (o .bytes) ≤ length buffer → buffer′ ≡ over (o .bytes) buffer → ReportsFile bs buffer r buffer′
+      → length (o .bytes) ≤ length buffer → buffer′ ≡ over (o .bytes) buffer → ReportsFile bs buffer (refusalNumber (r .refusal)) (r .written) buffer′
   file-fits e n w h p = file-told e (rw (le-leb _ _ h) (n, w, p))
 
   pub file-short : {o : Served Arrays} → fileRun lent bs ≡ o → length buffer < length (o .bytes) → refusalNumber (r .refusal) ≡ 7 → r .written ≡ 0
-      → buffer′ ≡ buffer → ReportsFile bs buffer r buffer′
+      → buffer′ ≡ buffer → ReportsFile bs buffer (refusalNumber (r .refusal)) (r .written) buffer′
   file-short e h n w p = file-told e (rw (lt-leb _ _ h) (n, w, p))
 
 -- a header that is refused: its line is the report
@@ -245,11 +245,11 @@ module _ (bs : Lists.List ℕ) {l : Lists.List ℕ} (e : l ≡ take 18 bs) {x : 
   long = length-report-line 1 (refusalNumber x) 0 0 0
 
   pub refused-short : (buffer : Lists.List ℕ) (r : Reply) → length buffer < 29 → refusalNumber (r .refusal) ≡ 7 → r .written ≡ 0
-      → ReportsFile bs buffer r buffer
+      → ReportsFile bs buffer (refusalNumber (r .refusal)) (r .written) buffer
   refused-short buffer r s n w = file-short bs buffer r buffer only (omega (arith, long)) n w refl
 
   pub refused-told : (buffer : Lists.List ℕ) (r : Reply) {buffer′ : Lists.List ℕ} → 29 ≤ length buffer → r .refusal ≡ x
-      → let line = printed 1 (refusalNumber x) [] in r .written ≡ length line → buffer′ ≡ over line buffer → ReportsFile bs buffer r buffer′
+      → let line = printed 1 (refusalNumber x) [] in r .written ≡ length line → buffer′ ≡ over line buffer → ReportsFile bs buffer (refusalNumber (r .refusal)) (r .written) buffer′
   refused-told buffer r {buffer′} s n w p =
       let q : printed 1 (refusalNumber x) [] ≡ refusalLine 1 (refusalNumber x) = rw (ne-eqb _ _ (header-refused l x h)) refl in
       file-fits bs buffer r buffer′ only (ap refusalNumber n) (w ∙ ap length q) (omega (arith, long)) (p ∙ ap (λ b. over b buffer) q)
@@ -270,11 +270,11 @@ module _ (bs : Lists.List ℕ) {l : Lists.List ℕ} (e : l ≡ take 18 bs) {n : 
     whole = file-served lent bs n (ap headerRead (sym e) ∙ h) ∙ ap (runOf opened) (sym after)
 
     pub steps-told : {r : Reply} {buffer′ : Lists.List ℕ} → ReportsAll (runOf opened rest) rest r buffer buffer′ → r .written ≤ length buffer
-        → ReportsFile bs buffer r buffer′
+        → ReportsFile bs buffer (refusalNumber (r .refusal)) (r .written) buffer′
     steps-told {r} {buffer′} g s = file-fits bs buffer r buffer′ whole (g .number) (g .count) (omega (arith, g .count)) (g .report s)
 
     pub steps-short : (r : Reply) → length buffer < length (runOf opened rest .bytes) → refusalNumber (r .refusal) ≡ 7 → r .written ≡ 0
-        → ReportsFile bs buffer r buffer
+        → ReportsFile bs buffer (refusalNumber (r .refusal)) (r .written) buffer
     steps-short r s n w = file-short bs buffer r buffer whole s n w refl
 
     -- room for 928 bytes for each line is enough

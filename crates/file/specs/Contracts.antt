@@ -63,7 +63,7 @@ pub record ReportsAll (o : Served Arrays) (rest : Lists.List ℕ) (r : Reply) (b
 abbrev pub fits : Lists.List ℕ → Lists.List ℕ → Bool
 fits bs buffer = leb (length (fileReport lent bs)) (length buffer)
 
-pub record ReportsFile (bs buffer : Lists.List ℕ) (r : Reply) (buffer′ : Lists.List ℕ) : Type 0 where
-  pub number : refusalNumber (r .refusal) ≡ cond (fits bs buffer) (fileRefusal lent bs) 7
-  pub count : r .written ≡ cond (fits bs buffer) (length (fileReport lent bs)) 0
+pub record ReportsFile (bs buffer : Lists.List ℕ) (refusal written : ℕ) (buffer′ : Lists.List ℕ) : Type 0 where
+  pub number : refusal ≡ cond (fits bs buffer) (fileRefusal lent bs) 7
+  pub count : written ≡ cond (fits bs buffer) (length (fileReport lent bs)) 0
   pub report : buffer′ ≡ cond (fits bs buffer) (over (fileReport lent bs) buffer) buffer

@@ -332,7 +332,7 @@ fn report_size(n: usize, rest: &[u8]) -> usize
 // Writes the report of a whole file, and answers its final refusal; 7, and nothing is written, if the report does not fit. Where room for 928 bytes for
 // each line is not there, a first run tells how long the report is.
 pub fn report(file: &[u8], out: &mut [u8]) -> Reply
-    ensures { λ r. ⌜ ReportsFile (now (file .entry)) (now (out .entry)) r (now (out .exit)) ⌝ }
+    ensures { λ r. ⌜ ReportsFile (now (file .entry)) (now (out .entry)) (refusalNumber (r .refusal)) (r .written) (now (out .exit)) ⌝ }
 {
     let header = line_at(file, 0);
     match schedule::read_header(header) {

@@ -1,7 +1,7 @@
 -- Each test is one of those by which `phaseFor` decides.
 use borrow.Author.Tests.{eq-eqb, ne-eqb}
-use Rattle.engine.proofs.phase_of.Statement.{statement}
-use Rattle.engine.proofs.phase_of.Tie as tie
+use Rattle.arrays.proofs.phase_of.Statement.{statement}
+use Rattle.arrays.proofs.phase_of.Tie as tie
 
 returns : tie.Need-returns
 returns c = simp (eq-eqb _ _ (c .if1 .taken))
