@@ -11,39 +11,16 @@ use mathlib.Core.List.{List, [], _∷_}
 use lib.ListN.{length, getD}
 use lib.Dec.{eqb, leb, ltb}
 use borrow.Author.Tests.{eqb-true, eq-eqb, ne-eqb, le-leb, lt-leb, ltb-true, lt-ltb, le-ltb}
-use base.Fml.{Fml}
-use mir.Val.{Val}
-use denote.Shadow.{shadow}
-use denote.Array.{each}
 use Rattle.basics.specs.Tests.{within, every, count, tabulate}
 use Rattle.basics.proofs.Facts.{and-both, both, left-no, tf, is-false, within-true, within-of, every-all, every-at, every-same}
 use Rattle.basics.proofs.Facts.{getD-tabulate, tabulate-same, getD-any}
 use Rattle.basics.proofs.Filled.{filled}
-use Rattle.basics.proofs.Loops.{and-yes}
+use Rattle.basics.proofs.Loops.{same-test, every-and, and-yes}
 use Rattle.basics.proofs.Counts.{count-same}
 use Rattle.label.specs.Rows.{digit, rowFits, noRing}
 use Rattle.well_formed.specs.Halves.{halfTops, topDigits, halfFits, labelFits, labelsFit}
 use Rattle.arrays.specs.Arrays.{Arrays, Rows, plane, cell, labelRow, rowsAt}
 use Rattle.arrays.specs.WellFormed.{resultFits, resultFresh, stationFits, placeFresh, wellFormed}
-
--- two tests that pass together are one
-pub same-test : (a b : Bool) → (a ≡ true → b ≡ true) → (b ≡ true → a ≡ true) → a ≡ b
-same-test true b f g = sym (f refl)
-same-test false true f g = g refl
-same-test false false f g = refl
-
-pub every-and : (k : ℕ) (f g : ℕ → Bool) → every k (λ i. f i && g i) ≡ (every k f && every k g)
-every-and k f g = same-test _ _
-    (λ e. both (every-all k f (λ i l. and-both (f i) (g i) (every-at k _ e i l) .0)) (every-all k g (λ i l. and-both (f i) (g i) (every-at k _ e i l) .1)))
-    (λ e. let h = and-both (every k f) (every k g) e in every-all k _ (λ i l. both (every-at k f (h .0) i l) (every-at k g (h .1) i l)))
-
--- what holds of each element that an array owns
-pub each-holds : {d : Type 0} (f : d → List Val → Fml) (P : d → Type 0) → ((x : d) (vs : List Val) → shadow (f x vs) → P x)
-    → (z : d) (xs : List d) (us : List Val) → shadow (each d f xs us) → (i : ℕ) → i < length xs → P (getD xs i z)
-each-holds f P told z [] us s i h = absurd (not-suc-le-zero h)
-each-holds f P told z (x ∷ xs) [] s i h = absurd s
-each-holds f P told z (x ∷ xs) (u ∷ us) s zero h = told x (u ∷ []) (s .0)
-each-holds f P told z (x ∷ xs) (u ∷ us) s (suc i) h = each-holds f P told z xs us (s .1) i (le-of-suc-le-suc h)
 
 -- LABELS
 
@@ -94,10 +71,6 @@ module _ (m : ℕ) (l : List ℕ) (h : m ≤ 31) (long : length l ≡ 31) where
 
   pub row-fits : labelFits (topDigits m) l ≡ rowFits 31 m l
   row-fits = ap₂ _&&_ (half 0 (omega arith)) (half 15 (omega arith)) ∙ halves ∙ parts
-
--- an array that is filled to its end
-pub all-filled : {A : Type 0} (w : ℕ) (f : ℕ → A) (z : A) → filled w w f z ≡ tabulate w 0 f
-all-filled w f z = tabulate-same w 0 _ _ (λ k h. rw (lt-ltb k w (omega arith)) refl)
 
 -- RESULTS
 

@@ -65,26 +65,27 @@ fn half_fits(label: &[u8; 31], top: &[u8; 16], h: usize) -> bool
     r
 }
 
-// Whether both halves of a label fit.
-fn label_fits(label: &[u8; 31], tops: &[[u8; 16]; 2]) -> bool
-    ensures { λ r. ⌜ r ≡ labelFits (now (tops .entry)) (now (label .entry)) ⌝ }
-{
-    half_fits(label, &tops[0], 0) && half_fits(label, &tops[1], 15)
-}
-
-// Whether the k labels from row i on are such.
-fn labels_within(rows: &[[u8; 31]; 32], tops: &[[u8; 16]; 2], i: usize, k: usize) -> bool
-    requires { ⌜ i + k ≤ 32 ⌝ }
-    ensures { λ r. ⌜ r ≡ every k (λ j. labelFits (now (tops .entry)) (getD (now (rows .entry)) (i + j) [])) ⌝ }
+// Whether the 16 digits from position h on fit in each of the k labels from row i on.
+fn halves_fit(rows: &[[u8; 31]; 32], top: &[u8; 16], h: usize, i: usize, k: usize) -> bool
+    requires { ⌜ (h ≤ 15) × (i + k ≤ 32) ⌝ }
+    ensures { λ r. ⌜ r ≡ every k (λ j. halfFits (now (top .entry)) (getD (now (rows .entry)) (i + j) []) h) ⌝ }
 {
     let mut j: usize = 0;
     while j < k {
-        if !label_fits(&rows[i + j], tops) {
+        if !half_fits(&rows[i + j], top, h) {
             return false;
         }
         j += 1;
     }
     true
+}
+
+// Whether the k labels from row i on fit: first one half of all of them, then the other, so that no byte is read for both at once.
+fn labels_within(rows: &[[u8; 31]; 32], tops: &[[u8; 16]; 2], i: usize, k: usize) -> bool
+    requires { ⌜ i + k ≤ 32 ⌝ }
+    ensures { λ r. ⌜ r ≡ every k (λ j. labelFits (now (tops .entry)) (getD (now (rows .entry)) (i + j) [])) ⌝ }
+{
+    halves_fit(rows, &tops[0], 0, i, k) && halves_fit(rows, &tops[1], 15, i, k)
 }
 
 // Whether the labels of n stations fit, and those past them are all 1.
@@ -262,12 +263,6 @@ fn rest_is_fresh(n: usize, results: &Results) -> bool
     true
 }
 
-// Tells what the types keep: each label has 31 digits, and there are 32 results.
-fn sized(labels: Labels, results: Results)
-    ensures { λ _. ⌜ ((x i : ℕ) → x < 2 → i < 32 → length (getD (getD labels x []) i []) ≡ 31) ⌝ }
-    ensures { λ _. ⌜ length results ≡ 32 ⌝ }
-{}
-
 // Whether the arrays hold a well-formed table.
 pub fn well_formed(
     count: u64,
@@ -285,7 +280,7 @@ pub fn well_formed(
         return false;
     }
     let n = count as usize;
-    sized(*labels, *results);
+    arrays::shaped(*labels, *jobs, *control, *results);
     if !labels_fit(n, &labels[0]) {
         return false;
     }

@@ -20,8 +20,7 @@ returns : tie.Need-returns
 returns c =
     let s = c .before .before .before in
     let g = s .before .before .before .before .before .before in
-    let e = s .step .ensures in
-    (
+    let e = s .step .ensures in (
       record { table = e .table; number = c .number .ensures ∙ e .number; count = e .count; report = e .report },
       λ d. kept (g .shaped .ensures _) e (λ z. d (c .number .ensures ∙ z)),
     )

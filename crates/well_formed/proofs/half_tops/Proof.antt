@@ -3,8 +3,7 @@ use native.Mathlib.Omega.{arith}
 use mathlib.Core.Path.{_≡_, ap, _∙_}
 use mathlib.Core.Bool.{cond}
 use lib.Dec.{ltb}
-use Rattle.basics.proofs.Filled.{filled, filled-none, filled-more}
-use Rattle.well_formed.proofs.WellFormedLaws.{all-filled}
+use Rattle.basics.proofs.Filled.{filled, filled-none, filled-more, all-filled}
 use borrow.Author.Needs.{needs}
 use Rattle.well_formed.proofs.half_tops.Statement.{statement}
 use Rattle.well_formed.proofs.half_tops.Tie as tie

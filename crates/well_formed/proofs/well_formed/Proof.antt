@@ -15,28 +15,28 @@ returns c = wrong-count _ (left-no _ (lt-leb 2 _ (c .if1 .taken)))
 returns-2 : tie.Need-returns-2
 returns-2 c = wrong-count _ (right-no (leb 2 (c .before .before .args .count)) (lt-leb _ 32 (c .if2 .taken)))
 
-sized-requires : tie.Need-sized-requires
-sized-requires c κs = search needs
+shaped-requires : tie.Need-shaped-requires
+shaped-requires c κs = search needs
 
 index-1-labels-fit : tie.Need-index-1-labels-fit
 index-1-labels-fit c = search needs
 
 labels-fit-requires : tie.Need-labels-fit-requires
-labels-fit-requires c κs = (search needs, λ i h. c .before .sized .ensures .0 0 i (search needs) h)
+labels-fit-requires c κs = (search needs, λ i h. c .before .shaped .ensures 0 .label 0 (omega arith) .each i h)
 
 returns-3 : tie.Need-returns-3
 returns-3 c =
-    failed _ (c .before .before .before .sized .ensures .1) (search needs) _ (λ p. p .labels) (was-false (c .before .labels-fit .ensures) (c .if3 .taken))
+    failed _ (c .before .before .before .shaped .ensures 0 .results .long) (search needs) _ (λ p. p .labels) (was-false (c .before .labels-fit .ensures) (c .if3 .taken))
 
 index-1-labels-fit-2 : tie.Need-index-1-labels-fit-2
 index-1-labels-fit-2 c = search needs
 
 labels-fit-requires-2 : tie.Need-labels-fit-requires-2
-labels-fit-requires-2 c κs = (search needs, λ i h. c .before .before .before .before .sized .ensures .0 1 i (search needs) h)
+labels-fit-requires-2 c κs = (search needs, λ i h. c .before .before .before .before .shaped .ensures 0 .label 1 (omega arith) .each i h)
 
 returns-4 : tie.Need-returns-4
 returns-4 c =
-    failed _ (c .before .before .before .before .before .before .sized .ensures .1) (search needs) _ (λ p. p .pending)
+    failed _ (c .before .before .before .before .before .before .shaped .ensures 0 .results .long) (search needs) _ (λ p. p .pending)
     (was-false (c .before .labels-fit2 .ensures) (c .if4 .taken))
 
 index-1-phases-known : tie.Need-index-1-phases-known
@@ -47,7 +47,7 @@ phases-known-requires c κs = search needs
 
 returns-5 : tie.Need-returns-5
 returns-5 c =
-    failed _ (c .before .before .before .before .before .before .before .before .before .sized .ensures .1) (search needs) _ (λ p. p .phases)
+    failed _ (c .before .before .before .before .before .before .before .before .before .shaped .ensures 0 .results .long) (search needs) _ (λ p. p .phases)
     (was-false (c .before .phases-known .ensures) (c .if5 .taken))
 
 index-1-idle-from : tie.Need-index-1-idle-from
@@ -59,7 +59,7 @@ idle-from-requires c κs = search needs
 returns-6 : tie.Need-returns-6
 returns-6 c =
     let b = c .before .before in
-    failed _ (b .before .before .before .before .before .before .before .before .before .before .sized .ensures .1) (search needs) _ (λ p. p .idle)
+    failed _ (b .before .before .before .before .before .before .before .before .before .before .shaped .ensures 0 .results .long) (search needs) _ (λ p. p .idle)
     (was-false (c .before .idle-from .ensures) (c .if6 .taken))
 
 index-1-none-from : tie.Need-index-1-none-from
@@ -71,7 +71,7 @@ none-from-requires c κs = search needs
 returns-7 : tie.Need-returns-7
 returns-7 c =
     let b = c .before .before .before .before .before in
-    failed _ (b .before .before .before .before .before .before .before .before .before .before .sized .ensures .1) (search needs) _ (λ p. p .jobs)
+    failed _ (b .before .before .before .before .before .before .before .before .before .before .shaped .ensures 0 .results .long) (search needs) _ (λ p. p .jobs)
     (was-false (c .before .none-from .ensures) (c .if7 .taken))
 
 index-1-none-from-2 : tie.Need-index-1-none-from-2
@@ -83,7 +83,7 @@ none-from-requires-2 c κs = search needs
 returns-8 : tie.Need-returns-8
 returns-8 c =
     let b = c .before .before .before .before .before .before .before .before in
-    failed _ (b .before .before .before .before .before .before .before .before .before .before .sized .ensures .1) (search needs) _ (λ p. p .pendingJobs)
+    failed _ (b .before .before .before .before .before .before .before .before .before .before .shaped .ensures 0 .results .long) (search needs) _ (λ p. p .pendingJobs)
     (was-false (c .before .none-from2 .ensures) (c .if8 .taken))
 
 results-fit-requires : tie.Need-results-fit-requires
@@ -92,7 +92,7 @@ results-fit-requires c κs = search needs
 returns-9 : tie.Need-returns-9
 returns-9 c =
     let b = c .before .before .before .before .before .before .before .before .before .before in
-    failed _ (b .before .before .before .before .before .before .before .before .before .before .sized .ensures .1) (search needs) _ (λ p. p .results)
+    failed _ (b .before .before .before .before .before .before .before .before .before .before .shaped .ensures 0 .results .long) (search needs) _ (λ p. p .results)
     (was-false (c .before .results-fit .ensures) (c .if9 .taken))
 
 rest-is-fresh-requires : tie.Need-rest-is-fresh-requires
@@ -101,7 +101,7 @@ rest-is-fresh-requires c κs = search needs
 returns-10 : tie.Need-returns-10
 returns-10 c =
     let b = c .before .before .before .before .before .before .before .before .before .before .before .before in
-    failed _ (b .before .before .before .before .before .before .before .before .before .before .sized .ensures .1) (search needs) _ (λ p. p .rest)
+    failed _ (b .before .before .before .before .before .before .before .before .before .before .shaped .ensures 0 .results .long) (search needs) _ (λ p. p .rest)
     (was-false (c .before .rest-is-fresh .ensures) (c .if10 .taken))
 
 index-1-no-ring : tie.Need-index-1-no-ring
@@ -121,8 +121,8 @@ returns-11 c =
     let b₄ = b₅ .before .before .before in
     let b₃ = b₄ .before .before .before in
     let z = b₃ .before .before .before in
-    let i = z .before .before .before in
-    by-rings _ (z .sized .ensures .1) (omega (arith, i .if2 .left)) (omega (arith, i .before .if1 .left))
+    let i = z .before .before .before .before .before in
+    by-rings _ (z .shaped .ensures 0 .results .long) (omega (arith, i .if2 .left)) (omega (arith, i .before .if1 .left))
     record {
       labels = was-true (b₃ .before .labels-fit .ensures) (b₃ .if3 .left);
       pending = was-true (b₄ .before .labels-fit2 .ensures) (b₄ .if4 .left);
@@ -141,7 +141,7 @@ well-formed-spec =
     (tie.spec
     returns
     returns-2
-    sized-requires
+    shaped-requires
     index-1-labels-fit
     labels-fit-requires
     returns-3

@@ -1,0 +1,70 @@
+use Prim.Native.Nat.{_+_, _-_, _≤_}
+use native.Mathlib.Omega.{arith}
+use mathlib.Core.Path.{_≡_, sym}
+use mathlib.Core.Bool.{true}
+use mathlib.Core.List.{[]}
+use lib.ListN.{getD}
+use Rattle.basics.specs.Tests.{every}
+use Rattle.basics.proofs.Facts.{every-no}
+use Rattle.basics.proofs.Loops.{every-none, every-more, every-done, was-false, was-true}
+use Rattle.well_formed.specs.Halves.{halfFits}
+use borrow.Author.Needs.{needs}
+use Rattle.well_formed.proofs.halves_fit.Statement.{statement}
+use Rattle.well_formed.proofs.halves_fit.Tie as tie
+
+abbrev Inv-loop : tie.InvT-loop
+Inv-loop rows top h i k j₀ j = (j ≤ k) × (every j (λ q. halfFits top (getD rows (i + q) []) h) ≡ true)
+
+abbrev μ-loop : tie.MeasureT-loop
+μ-loop rows top h i k j₀ j = k - j
+
+loop-holds : tie.Need-loop-holds Inv-loop μ-loop
+loop-holds c = (search needs, every-none _)
+
+add-half-fits : tie.Need-add-half-fits Inv-loop μ-loop
+add-half-fits c = search needs
+
+mul-half-fits : tie.Need-mul-half-fits Inv-loop μ-loop
+mul-half-fits c = search needs
+
+index-1-half-fits : tie.Need-index-1-half-fits Inv-loop μ-loop
+index-1-half-fits c = search needs
+
+half-fits-requires : tie.Need-half-fits-requires Inv-loop μ-loop
+half-fits-requires c κs = search needs
+
+returns : tie.Need-returns Inv-loop μ-loop
+returns c =
+    let b = c .before .before .before .before in
+    sym (every-no _ _ (b .loop .j) (search needs) (was-false (c .before .half-fits .ensures) (c .if1 .taken)))
+
+add-j : tie.Need-add-j Inv-loop μ-loop
+add-j c = search needs
+
+loop-less : tie.Need-loop-less Inv-loop μ-loop
+loop-less c = search needs
+
+loop-again : tie.Need-loop-again Inv-loop μ-loop
+loop-again c =
+    let b = c .before .before .before .before in
+    (search needs, every-more _ _ (b .loop .inv .1) (was-true (c .before .half-fits .ensures) (c .if1 .left)))
+
+returns-2 : tie.Need-returns-2 Inv-loop μ-loop
+returns-2 c = every-done _ (c .before .loop .inv .1) (omega arith)
+
+pub halves-fit-spec : {M : Type 1} → statement M
+halves-fit-spec =
+    tie.close
+    (tie.spec
+    Inv-loop
+    μ-loop
+    loop-holds
+    add-half-fits
+    mul-half-fits
+    index-1-half-fits
+    half-fits-requires
+    returns
+    add-j
+    loop-less
+    loop-again
+    returns-2)
