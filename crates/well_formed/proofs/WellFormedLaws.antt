@@ -8,7 +8,7 @@ use mathlib.Core.Logic.{by-cases}
 use mathlib.Core.Bool.{Bool, true, false, _&&_, cond}
 use mathlib.Core.List as Lists
 use mathlib.Core.List.{List, [], _∷_}
-use lib.ListN.{length, getD}
+use lib.ListN.{length, getD, replicate, getD-replicate}
 use lib.Dec.{eqb, leb, ltb}
 use borrow.Author.Tests.{eqb-true, eq-eqb, ne-eqb, le-leb, lt-leb, ltb-true, lt-ltb, le-ltb}
 use Rattle.basics.specs.Tests.{within, every, count, tabulate}
@@ -19,7 +19,9 @@ use Rattle.basics.proofs.Loops.{same-test, every-and, and-yes}
 use Rattle.basics.proofs.Counts.{count-same}
 use Rattle.label.specs.Rows.{digit, rowFits, noRing}
 use Rattle.well_formed.specs.Halves.{halfTops, topDigits, halfFits, labelFits, labelsFit}
-use Rattle.arrays.specs.Arrays.{Arrays, Rows, plane, cell, labelRow, rowsAt}
+use Rattle.simulation.specs.Machine.{freshRest}
+use Rattle.arrays.specs.Arrays.{Arrays, Rows, plane, cell, resultRows, labelRow, rowsAt}
+use Rattle.arrays.proofs.Fresh.{fresh-rows}
 use Rattle.arrays.specs.WellFormed.{resultFits, resultFresh, stationFits, placeFresh, wellFormed}
 
 -- LABELS
@@ -100,14 +102,17 @@ result-rows n rows counts h c = ap₂ _&&_
     (every-same n _ _ (λ i l. ap (λ x. eqb x 1) (c i (omega arith))))
     (sym (every-and (32 - n) _ _))
 
-pub fresh-rows : (n : ℕ) (rows : Rows) (fresh : List ℕ) → fresh ≡ tabulate 32 0 (λ p. cond (ltb p n) (suc p) 0)
-    → (every 32 (λ p. eqb (cell rows 0 p 0) (getD fresh p 0)) && every (32 - 0) (λ p. eqb (cell rows 1 (0 + p) 0) 0)) ≡ resultFresh n rows
+pub fresh-result : (n : ℕ) (rows fresh : Rows) → fresh ≡ resultRows (freshRest n .result 0)
+    → (every 32 (λ p. eqb (cell rows 0 p 0) (cell fresh 0 p 0)) && every 32 (λ p. eqb (cell rows 1 p 0) (cell fresh 1 p 0))) ≡ resultFresh n rows
 unfolding resultFresh
-fresh-rows n rows fresh e = ap₂ _&&_
+fresh-result n rows fresh e = ap₂ _&&_
     (every-same 32 _ _ (λ p l. ap (eqb (cell rows 0 p 0))
-    (ap (λ f. getD f p 0) e ∙ getD-tabulate 32 0 p _ 0 l ∙ ap (λ q. cond (ltb q n) (suc q) 0) (zero-add p))))
-    (every-same 32 _ _ (λ p _. ap (λ q. eqb (cell rows 1 q 0) 0) (zero-add p)))
+    (ap (λ f. cell f 0 p 0) f ∙ getD-tabulate 32 0 p _ 0 l ∙ ap (λ q. cond (ltb q n) (suc q) 0) (zero-add p))))
+    (every-same 32 _ _ (λ p l. ap (eqb (cell rows 1 p 0)) (ap (λ f. cell f 1 p 0) f ∙ getD-replicate {A = ℕ} 32 p 0 0 l)))
     ∙ sym (every-and 32 _ _)
+  where
+    f : fresh ≡ tabulate 32 0 (λ p. cond (ltb p n) (suc p) 0) ∷ replicate 32 0 ∷ []
+    f = e ∙ sym (fresh-rows n refl)
 
 -- the labels of a plane: n that fit, and those past them
 module _ (n : ℕ) (rows : Rows) (low : 1 ≤ n) (high : n ≤ 32) (long : (i : ℕ) → i < 32 → length (getD rows i []) ≡ 31) where

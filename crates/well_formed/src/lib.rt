@@ -5,8 +5,9 @@ ghost use mathlib.Core.List.{[]};
 ghost use Prim.Native.Nat.{ℕ, suc, _+_, _-_, _≤_, _<_};
 ghost use lib.ListN.{length, getD};
 ghost use lib.Dec.{eqb, leb, ltb};
-ghost use Rattle.basics.specs.Tests.{within, every, count, tabulate};
-ghost use Rattle.arrays.specs.Arrays.{arrays};
+ghost use Rattle.basics.specs.Tests.{within, every, count};
+ghost use Rattle.simulation.specs.Machine.{freshRest};
+ghost use Rattle.arrays.specs.Arrays.{arrays, resultRows};
 ghost use Rattle.arrays.specs.WellFormed.{resultFits, resultFresh, wellFormed};
 ghost use Rattle.well_formed.specs.Halves.{halfTops, topDigits, halfFits, labelFits, labelsFit};
 use arrays::Control;
@@ -211,22 +212,7 @@ fn results_fit(n: usize, results: &Results) -> bool
     true
 }
 
-// The stations of a fresh result of n.
-fn fresh_stations(n: usize) -> [u32; 32]
-    requires { ⌜ n ≤ 32 ⌝ }
-    ensures { λ r. ⌜ r ≡ tabulate 32 0 (λ p. cond (ltb p n) (suc p) 0) ⌝ }
-{
-    let mut r = [0u32; 32];
-    let mut p: usize = 0;
-    while p < n {
-        r[p] = (p + 1) as u32;
-        p += 1;
-    }
-    r
-}
-
-// Whether two rows hold the same stations.
-fn same_stations(a: &[u32; 32], b: &[u32; 32]) -> bool
+fn same_row(a: &[u32; 32], b: &[u32; 32]) -> bool
     ensures { λ r. ⌜ r ≡ every 32 (λ p. eqb (getD (now (a .entry)) p 0) (getD (now (b .entry)) p 0)) ⌝ }
 {
     let mut r = true;
@@ -240,22 +226,22 @@ fn same_stations(a: &[u32; 32], b: &[u32; 32]) -> bool
     r
 }
 
-// Whether a result is that of a fresh station, whose stations are `fresh`.
-fn is_fresh(rows: &[[u32; 32]; 2], fresh: &[u32; 32]) -> bool
-    ensures { λ r. ⌜ ((n : ℕ) → now (fresh .entry) ≡ tabulate 32 0 (λ p. cond (ltb p n) (suc p) 0) → r ≡ resultFresh n (now (rows .entry))) ⌝ }
+// Whether a result is `fresh`, that of a fresh station.
+fn is_fresh(rows: &[[u32; 32]; 2], fresh: &[[u32; 32]; 2]) -> bool
+    ensures { λ r. ⌜ ((n : ℕ) → now (fresh .entry) ≡ resultRows (freshRest n .result 0) → r ≡ resultFresh n (now (rows .entry))) ⌝ }
 {
-    same_stations(&rows[0], fresh) && none_from(0, &rows[1])
+    same_row(&rows[0], &fresh[0]) && same_row(&rows[1], &fresh[1])
 }
 
-// Whether the results past the n stations are fresh.
-fn rest_is_fresh(n: usize, results: &Results) -> bool
+// Whether the results past the n stations are `fresh`, that of a fresh station of n.
+fn rest_is_fresh(n: usize, results: &Results, fresh: &[[u32; 32]; 2]) -> bool
     requires { ⌜ n ≤ 32 ⌝ }
+    requires { ⌜ now fresh ≡ resultRows (freshRest n .result 0) ⌝ }
     ensures { λ r. ⌜ r ≡ every (32 - n) (λ i. resultFresh n (getD (now (results .entry)) (n + i) [])) ⌝ }
 {
-    let fresh = fresh_stations(n);
     let mut i: usize = 0;
     while i < 32 - n {
-        if !is_fresh(&results[n + i], &fresh) {
+        if !is_fresh(&results[n + i], fresh) {
             return false;
         }
         i += 1;
@@ -302,7 +288,8 @@ pub fn well_formed(
     if !results_fit(n, results) {
         return false;
     }
-    if !rest_is_fresh(n, results) {
+    let fresh = arrays::fresh_result(n);
+    if !rest_is_fresh(n, results, &fresh) {
         return false;
     }
     rows::ring::no_ring(&labels[0], n)

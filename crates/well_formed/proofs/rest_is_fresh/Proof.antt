@@ -18,9 +18,6 @@ Inv-loop n results fresh i₀ i = (i ≤ 32 - n) × (every i (λ k. resultFresh 
 abbrev μ-loop : tie.MeasureT-loop
 μ-loop n results fresh i₀ i = 32 - n - i
 
-fresh-stations-requires : tie.Need-fresh-stations-requires Inv-loop μ-loop
-fresh-stations-requires c κs = search needs
-
 loop-holds : tie.Need-loop-holds Inv-loop μ-loop
 loop-holds c = (search needs, every-none _)
 
@@ -41,8 +38,8 @@ is-fresh-requires c κs = search needs
 
 returns : tie.Need-returns Inv-loop μ-loop
 returns c =
-    let b = c .before .before .before .before .before in
-    sym (every-no _ _ (b .loop .i) (search needs) (was-false (c .before .is-fresh .ensures _ (b .before .fresh-stations .ensures)) (c .if1 .taken)))
+    let b = c .before .before .before .before in
+    sym (every-no _ _ (b .loop .i) (search needs) (was-false (c .before .is-fresh .ensures _ (b .before .pre .1)) (c .if1 .taken)))
 
 add-i : tie.Need-add-i Inv-loop μ-loop
 add-i c = search needs
@@ -52,8 +49,8 @@ loop-less c = search needs
 
 loop-again : tie.Need-loop-again Inv-loop μ-loop
 loop-again c =
-    let b = c .before .before .before .before .before in
-    (search needs, every-more _ _ (b .loop .inv .1) (was-true (c .before .is-fresh .ensures _ (b .before .fresh-stations .ensures)) (c .if1 .left)))
+    let b = c .before .before .before .before in
+    (search needs, every-more _ _ (b .loop .inv .1) (was-true (c .before .is-fresh .ensures _ (b .before .pre .1)) (c .if1 .left)))
 
 returns-2 : tie.Need-returns-2 Inv-loop μ-loop
 returns-2 c = every-done _ (c .before .loop .inv .1) (omega arith)
@@ -64,7 +61,6 @@ rest-is-fresh-spec =
     (tie.spec
     Inv-loop
     μ-loop
-    fresh-stations-requires
     loop-holds
     sub-loop
     add-is-fresh

@@ -95,12 +95,15 @@ returns-9 c =
     failed _ (b .before .before .before .before .before .before .before .before .before .before .shaped .ensures 0 .results .long) (search needs) _ (λ p. p .results)
     (was-false (c .before .results-fit .ensures) (c .if9 .taken))
 
+fresh-result-requires : tie.Need-fresh-result-requires
+fresh-result-requires c κs = search needs
+
 rest-is-fresh-requires : tie.Need-rest-is-fresh-requires
 rest-is-fresh-requires c κs = search needs
 
 returns-10 : tie.Need-returns-10
 returns-10 c =
-    let b = c .before .before .before .before .before .before .before .before .before .before .before .before in
+    let b = c .before .before .before .before .before .before .before .before .before .before .before .before .before .before in
     failed _ (b .before .before .before .before .before .before .before .before .before .before .shaped .ensures 0 .results .long) (search needs) _ (λ p. p .rest)
     (was-false (c .before .rest-is-fresh .ensures) (c .if10 .taken))
 
@@ -113,7 +116,7 @@ no-ring-requires c κs = search needs
 returns-11 : tie.Need-returns-11
 returns-11 c =
     let b₁₀ = c .before .before in
-    let b₉ = b₁₀ .before .before in
+    let b₉ = b₁₀ .before .before .before .before in
     let b₈ = b₉ .before .before in
     let b₇ = b₈ .before .before .before in
     let b₆ = b₇ .before .before .before in
@@ -162,6 +165,7 @@ well-formed-spec =
     returns-8
     results-fit-requires
     returns-9
+    fresh-result-requires
     rest-is-fresh-requires
     returns-10
     index-1-no-ring

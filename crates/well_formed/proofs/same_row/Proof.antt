@@ -8,8 +8,8 @@ use borrow.Author.Tests.{eq-eqb, ne-eqb}
 use Rattle.basics.specs.Tests.{every}
 use Rattle.basics.proofs.Loops.{flag-up, flag-down, flag-stays, flag-end}
 use borrow.Author.Needs.{needs}
-use Rattle.well_formed.proofs.same_stations.Statement.{statement}
-use Rattle.well_formed.proofs.same_stations.Tie as tie
+use Rattle.well_formed.proofs.same_row.Statement.{statement}
+use Rattle.well_formed.proofs.same_row.Tie as tie
 
 abbrev Inv-loop : tie.InvT-loop
 Inv-loop a b r₀ p₀ r p = (p ≤ 32) × (r ≡ every p (λ q. eqb (getD a q 0) (getD b q 0)))
@@ -52,8 +52,8 @@ loop-again c =
 returns : tie.Need-returns Inv-loop μ-loop
 returns c = flag-end _ (c .before .loop .inv .1) (omega arith)
 
-pub same-stations-spec : {M : Type 1} → statement M
-same-stations-spec =
+pub same-row-spec : {M : Type 1} → statement M
+same-row-spec =
     tie.close
     (tie.spec
     Inv-loop
