@@ -19,7 +19,8 @@ use Rattle.arrays.specs.Form.{lent}
 use Rattle.arrays.proofs.States.{lent-lawful}
 
 carried : ℕ → Arrays → Lists.List Call → Arrays
-unfolding row arraysOf unless judgeIn pendingAfter relabelled scanOf carryOut step below next agrees firstDifference labelBelow labelBefore nextLabel others level newLabel every count firstFrom newest inserted ordered tabulate call labelled
+unfolding row arraysOf unless judgeIn pendingAfter relabelled scanOf carryOut step below next agrees firstDifference labelBelow labelBefore nextLabel others
+    level newLabel every count firstFrom newest inserted ordered tabulate call labelled
 carried n a [] = a
 carried n a (c ∷ cs) = carried n (arraysOf n (step original n (digits n) (stateOf a) c .state)) cs
 
@@ -33,7 +34,8 @@ module _ (n : ℕ) (low : 2 ≤ n) (high : n ≤ 32) where
 
   leads : (F : Form) → Lawful F → (cs : Lists.List Call) (l : Lists.List (Lists.List ℕ)) (o : Lists.List ℕ)
       → let s = stateOf (carried n (freshTable lent n) cs) in (shown n s ≡ l) × (order n s ≡ o) → Holds F (reaches n cs l o)
-  leads F L cs l o = rw (same-after F lent L lent-lawful n low high cs ∙ ap stateOf (carried-same cs (fresh (λ p. 1) n) (reached-fresh n (omega arith)))) (λ c. c)
+  leads F L cs l o = rw (same-after F lent L lent-lawful n low high cs ∙ ap stateOf (carried-same cs (fresh (λ p. 1) n) (reached-fresh n (omega arith))))
+      (λ c. c)
 
 module _ (F : Form) (L : Lawful F) where
   two-stations : (cs : Lists.List Call) {l : Lists.List (Lists.List ℕ)} {o : Lists.List ℕ}

@@ -129,7 +129,8 @@ fits-blank n rows h e p l u =
 fresh-cells : (n : ℕ) (rows : Rows) → resultFresh n rows ≡ true → (p : ℕ) → p < 32 → (cell rows 0 p 0 ≡ cond (ltb p n) (suc p) 0) × (cell rows 1 p 0 ≡ 0)
 unfolding resultFresh
 fresh-cells n rows e p u =
-    let b = and-both (eqb (cell rows 0 p 0) (cond (ltb p n) (suc p) 0)) (eqb (cell rows 1 p 0) 0) (every-at 32 _ e p u) in (eqb-true _ _ (b .0), eqb-true _ 0 (b .1))
+    let b = and-both (eqb (cell rows 0 p 0) (cond (ltb p n) (suc p) 0)) (eqb (cell rows 1 p 0) 0) (every-at 32 _ e p u) in
+    (eqb-true _ _ (b .0), eqb-true _ 0 (b .1))
 
 fresh-blank : (n : ℕ) (rows : Rows) → resultFresh n rows ≡ true → Blank n rows
 fresh-blank n rows e p l u = let c = fresh-cells n rows e p u in (c .0 ∙ rw (le-ltb p n l) refl, c .1)
@@ -170,7 +171,12 @@ module _ (n : ℕ) (high : n ≤ 32) (s : State Labels.Label) (w : Writable n s)
   held-written = λ y. record {
     labels = λ x i. label-at x i y;
     rest = record {
-      process = λ i. record { job = job-at false i y; pendingJob = job-at true i y; phase = (ap phaseFor (phase-at i) ∙ phase-back (s .rest .process i .phase)) y };
+      process = λ i. record {
+        job = job-at false i y;
+        pendingJob = job-at true i y;
+        phase =
+            (ap phaseFor (phase-at i) ∙ phase-back (s .rest .process i .phase)) y;
+      };
       result = λ i. (ap (resultOf n) (rows-at i) ∙ result-back n (s .rest .result i) high (w .long i)) y;
     };
   }
@@ -234,7 +240,8 @@ module _ (n : ℕ) (low : 2 ≤ n) (high : n ≤ 32) (s : State Labels.Label) (r
   unfolding wellFormed stationFits placeFresh arraysOf
   reached-passes = both (both (both (within-of 2 32 n low high)
       (every-all n _ (λ i l. both (both (both (rows-fit false i l) (rows-fit true i l))
-      (le-leb (cell (arraysOf n s .control) 0 i 0) 5 (rw (phase-at n high s w i) (phase-low (s .rest .process i .phase))))) (rw (rows-at n high s w i) (result-fits i)))))
+      (le-leb (cell (arraysOf n s .control) 0 i 0) 5 (rw (phase-at n high s w i) (phase-low (s .rest .process i .phase)))))
+      (rw (rows-at n high s w i) (result-fits i)))))
       (every-all (32 - n) _ (λ i l. fresh (n + i) (omega arith))))
       (ap (λ (u : State Labels.Label). noRing (n - 1) (u .labels false)) (held-written n high s w) ∙ choice-ring-free n (omega arith) r (λ i. false))
     where

@@ -57,7 +57,8 @@ module _ (w : ℕ) (f : ℕ → Bool) (s : ℕ → ℕ) (r : List ℕ) (j : ℕ)
   pub tally-miss : f j ≡ false → (q : ℕ) → q < w → getD r q 0 ≡ count (j + 1) (λ i. f i && eqb (s i) q)
   tally-miss e q l = old q l ∙ sym (count-no j (λ i. f i && eqb (s i) q) (rw e refl))
 
-  pub tally-hit : f j ≡ true → s j < w → s j < length r → (q : ℕ) → q < w → getD (set r (s j) (getD r (s j) 0 + 1)) q 0 ≡ count (j + 1) (λ i. f i && eqb (s i) q)
+  pub tally-hit : f j ≡ true → s j < w → s j < length r → (q : ℕ) → q < w
+      → getD (set r (s j) (getD r (s j) 0 + 1)) q 0 ≡ count (j + 1) (λ i. f i && eqb (s i) q)
   tally-hit e ls h = set-each w r (s j) _ 0 (λ q. count j (λ i. f i && eqb (s i) q)) _ h old
       (ap (λ n. n + 1) (old (s j) ls) ∙ sym (count-yes j (λ i. f i && eqb (s i) (s j)) (rw (e, eq-eqb (s j) (s j) refl) refl)))
       (λ q l d. sym (count-no j (λ i. f i && eqb (s i) q) (rw (e, ne-eqb (s j) q (λ p. d (sym p))) refl)))

@@ -26,7 +26,8 @@ use Rattle.simulation.specs.Machine.{changed, scanOf, carryOut, State, moved}
 use Rattle.simulation.proofs.Labellings.{here-yes}
 use Rattle.simulation.proofs.Judged.{Inside}
 use Rattle.moves.specs.Moves.{numberOf}
-use Rattle.arrays.specs.Arrays.{Rows, Planes, Arrays, arrays, cell, planes, phaseNumber, resultRows, resultOf, rowsAt, labelRow, restOf, stateOf, jobsOf, arraysOf}
+use Rattle.arrays.specs.Arrays.{Rows, Planes, Arrays, arrays, cell, planes, phaseNumber, resultRows, resultOf, rowsAt, labelRow, restOf, stateOf, jobsOf}
+use Rattle.arrays.specs.Arrays.{arraysOf}
 use Rattle.arrays.specs.WellFormed.{wellFormed}
 use Rattle.arrays.specs.Sizes.{Shaped}
 use Rattle.arrays.proofs.Passed.{passed}
@@ -165,9 +166,11 @@ module _ (a : Arrays) (g : Shaped a) (ok : wellFormed a ≡ true) where
       (e ∙ sym (ap (λ (p : Process). phaseNumber (p .phase)) (at-own (restOf a) k f)))
       (λ i _ d. sym (ap (λ (p : Process). phaseNumber (p .phase)) (at-other (restOf a) k f i d))))
 
-  control-written : (k : ℕ) → k < n → (w : Move) → Own k w → put (a .control) 0 k (phaseAfter (cell (a .control) 0 k 0) w) ≡ tabulate 32 0 (phaseIn (restAfter w)) ∷ []
+  control-written : (k : ℕ) → k < n → (w : Move) → Own k w → put (a .control) 0 k (phaseAfter (cell (a .control) 0 k 0) w) ≡ tabulate 32 0
+      (phaseIn (restAfter w)) ∷ []
   unfolding carryOut
-  control-written k l (Move.refused x) h = ap (set (a .control) 0) (set-getD (getD (a .control) 0 []) k 0) ∙ set-getD (a .control) 0 [] ∙ sym (control-back a g ok)
+  control-written k l (Move.refused x) h = ap (set (a .control) 0) (set-getD (getD (a .control) 0 []) k 0) ∙ set-getD (a .control) 0 []
+      ∙ sym (control-back a g ok)
   control-written k l (Move.begins j job Label) h = rw h (phase-put k (begun job) 1 l refl)
   control-written k l (Move.begins j job Scan) h = rw h (phase-put k (inPhase (Snap Scan)) 2 l refl)
   control-written k l (Move.updates j) h = rw h (phase-put k updated 4 l refl)
@@ -211,7 +214,8 @@ module _ (a : Arrays) (g : Shaped a) (ok : wellFormed a ≡ true) where
           (λ u. rw (le-ltb p n (omega arith)) (sym (ap (λ (x : Entry). x .job) (outside p (omega arith)))))
 
   results-scanned : (k : ℕ) → k < n → (q : Lists.List ℕ) → q ≡ orderOf n rows
-      → set (a .results) k (scanRows n q (getD (a .jobs) 0 [])) ≡ tabulate 32 0 (λ i. resultRows (cond (eqb i k) (scanOf (restOf a) order) (restOf a .result i)))
+      → set (a .results) k (scanRows n q (getD (a .jobs) 0 [])) ≡ tabulate 32 0
+      (λ i. resultRows (cond (eqb i k) (scanOf (restOf a) order) (restOf a .result i)))
   results-scanned k l q e = ap (λ r. set r k (scanRows n q (getD (a .jobs) 0 []))) (sym (results-back a g ok))
       ∙ set-tabulate 32 k _ (λ i. resultRows (restOf a .result i)) (λ i. resultRows (cond (eqb i k) (scanOf (restOf a) order) (restOf a .result i)))
       (omega (arith, high)) (scan-written q e ∙ rw (here-yes k) refl) (λ i _ d. rw (ne-eqb i k d) refl)
@@ -253,7 +257,8 @@ module _ (a : Arrays) (g : Shaped a) (ok : wellFormed a ≡ true) where
   handed-told k l (Move.ends j Scan) h = rw h (ap (resultOf n) (sym (rows-here a g ok k (omega (arith, high)))))
 
   -- ALL OF IT: the arrays and what is told after the move w of the station at place k
-  module _ (k : ℕ) (l : k < n) (w : Move) (own : Own k w) (inside : Inside n (labelStep w)) (q : Lists.List ℕ) (o : w ≡ Move.snaps k Scan → q ≡ orderOf n rows) where
+  module _ (k : ℕ) (l : k < n) (w : Move) (own : Own k w) (inside : Inside n (labelStep w)) (q : Lists.List ℕ)
+      (o : w ≡ Move.snaps k Scan → q ≡ orderOf n rows) where
     pub arrays-written : (line : ℕ) → arrays n (labelsAfter n (a .labels) (labelStep w)) (jobsAfter (a .jobs) w)
         (put (a .control) 0 k (phaseAfter (cell (a .control) 0 k 0) w)) (resultsAfter n q (getD (a .jobs) 0 []) (a .results) w)
         ≡ arraysOf n (moved n (digits n) (stateOf a) line w .state)

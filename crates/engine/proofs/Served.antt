@@ -156,12 +156,18 @@ module _ {a : Arrays} {x : Task} {order : Lists.List ℕ} {room : ℕ} (s : Read
   snap-asks e = (orderly a (s .passed), s .isNewest e)
 
   pub scan-asks : x .action ≡ SnapScan → (p : ℕ) → p < a .count → getD order p 0 < 32
-  scan-asks e p h = omega (arith, in-arrays, listed-below _ _ _ (order-front 32 (standsIn (a .count) (getD (a .labels) 0 [])) (a .count) order (s .isOrder e)) p h)
+  scan-asks e p h = omega (
+    arith,
+    in-arrays,
+    listed-below _ _ _ (order-front 32 (standsIn (a .count) (getD (a .labels) 0 [])) (a .count) order
+        (s .isOrder e)) p h,
+  )
 
   scans : actionOf x ≡ Calls.Move.snaps (x .place) Calls.Scan → order ≡ orderOf (a .count) (getD (a .labels) 0 [])
   scans e = s .isOrder (is-scan (x .place) (x .job) (x .action) (ap isScan e))
 
-  pub carried : Shaped a → {buffer buffer′ : Lists.List ℕ} {r : Reply} → Replies (a .count) (x .line) (kindOf (x .action)) (getD (a .results) (x .place) []) buffer r buffer′
+  pub carried : Shaped a → {buffer buffer′ : Lists.List ℕ} {r : Reply} → Replies (a .count) (x .line) (kindOf (x .action))
+      (getD (a .results) (x .place) []) buffer r buffer′
       → {l s′ : Planes} {j : Rows} {v : ℕ} → l ≡ labelsAfter (a .count) (a .labels) (labelStep (moveOf (x .place) 0 (x .action)))
       → j ≡ jobsAfter (a .jobs) (actionOf x) → v ≡ phaseAfter (cell (a .control) 0 (x .place) 0) (kindOf (x .action))
       → s′ ≡ resultsAfter (a .count) order (getD (a .jobs) 0 []) (a .results) (moveOf (x .place) 0 (x .action))
@@ -171,7 +177,8 @@ module _ {a : Arrays} {x : Task} {order : Lists.List ℕ} {room : ℕ} (s : Read
       let w = actionOf x in
       let n = a .count in
       let bytes : reportLines (x .line) 1 (handedOut n (getD (a .results) k []) (kindOf (x .action))) ≡ doneOf a x .bytes
-      = ap (reportLines (x .line) 1) (same-handed k (x .job) n (getD (a .results) k []) (x .action)) ∙ bytes-told a g (s .passed) k (s .inside) w own within order scans (x .line) in
+      = ap (reportLines (x .line) 1) (same-handed k (x .job) n (getD (a .results) k []) (x .action))
+      ∙ bytes-told a g (s .passed) k (s .inside) w own within order scans (x .line) in
       record {
         table = (λ i. arrays n
             ((el ∙ ap (labelsAfter n (a .labels)) (same-labels k (x .job) (x .action))) i)

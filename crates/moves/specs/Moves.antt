@@ -10,7 +10,8 @@ use Rattle.moves.specs.declared.Phase.{Phase}
 use Rattle.moves.specs.declared.Phase.the-variants.{Idle, Snap, Update, End}
 use Rattle.moves.specs.declared.Refusal.{Refusal}
 use Rattle.moves.specs.declared.Refusal.the-variants.{Accepted, StationCount, UnknownStation, Busy, NoSnapDue, NoUpdateDue, NothingToEnd}
-use Rattle.moves.specs.declared.Refusal.the-variants.{BufferTooShort, IncompleteLine, MalformedColumn, UnknownStep, JobOutOfRange, TooManyLines, IllFormedTable}
+use Rattle.moves.specs.declared.Refusal.the-variants.{BufferTooShort, IncompleteLine, MalformedColumn, UnknownStep, JobOutOfRange, TooManyLines}
+use Rattle.moves.specs.declared.Refusal.the-variants.{IllFormedTable}
 use Rattle.moves.specs.declared.Move.{Move}
 use Rattle.moves.specs.declared.Move.the-variants as Moves
 use Rattle.moves.specs.declared.Move.the-variants.{Refused, BeginLabel, BeginScan, SnapLabel, SnapScan, EndLabel, EndScan}

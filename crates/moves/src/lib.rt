@@ -125,7 +125,8 @@ fn updates(p: Phase) -> Move
 
 fn end_of(o: Operation, n: usize, room: usize) -> Move
     requires { ⌜ n ≤ 32 ⌝ }
-    ensures { λ r. ⌜ ((line station job : ℕ) → moveOf (station - 1) job r ≡ unless (roomFor n (called line 5 station job room) (operationOf o)) 7 (ends (station - 1) (operationOf o))) ⌝ }
+    ensures { λ r. ⌜ ((line station job : ℕ) → moveOf (station - 1) job r ≡ unless (roomFor n (called line 5 station job room) (operationOf o)) 7
+        (ends (station - 1) (operationOf o))) ⌝ }
 {
     match o {
         Operation::Label => Move::EndLabel,
@@ -156,7 +157,8 @@ fn ends(p: Phase, n: usize, room: usize) -> Move
 fn by_code(n: usize, code: u64, job: u64, room: usize, p: Phase) -> Move
     requires { ⌜ n ≤ 32 ⌝ }
     requires { ⌜ (1 ≤ code) × (code ≤ 5) ⌝ }
-    ensures { λ r. ⌜ ((line station : ℕ) → moveOf (station - 1) job r ≡ unless (jobFits code job) 11 (byPhase n (called line code station job room) (phaseOf p))) ⌝ }
+    ensures { λ r. ⌜ ((line station : ℕ) → moveOf (station - 1) job r ≡ unless (jobFits code job) 11
+        (byPhase n (called line code station job room) (phaseOf p))) ⌝ }
 {
     if code == 1 {
         if job < 1 {

@@ -102,7 +102,8 @@ module _ (n k : ℕ) (s : ℕ → ℕ) where
 module _ (m : ℕ) (t u : ℕ → Label) (e : (j : ℕ) → j < suc m → t j ≡ u j) where
   level-same : (top : Label) (k : ℕ) → level m t top k ≡ level m u top k
   unfolding level others
-  level-same top k = firstFrom-same m 0 _ _ (λ p l. ap (leb (m - p)) (count-same (suc m) _ _ (λ j h. ap (λ (a : Label). not (eqb j k) && agrees (suc p) a top) (e j h))))
+  level-same top k = firstFrom-same m 0 _ _ (λ p l. ap (leb (m - p)) (count-same (suc m) _ _
+      (λ j h. ap (λ (a : Label). not (eqb j k) && agrees (suc p) a top) (e j h))))
 
   pub new-label-same : (fill z k : ℕ) → z < suc m → newLabel m fill t z k ≡ newLabel m fill u z k
   unfolding newLabel

@@ -38,7 +38,8 @@ inserted-at b i [] zero h early found = refl
 inserted-at b i [] (suc q) h early found = absurd (omega arith)
 inserted-at b i (j ∷ l) zero h early found = rw (found (omega arith), inserted) refl
 inserted-at b i (j ∷ l) (suc q) h early found =
-    rw (early 0 (omega arith), inserted) (ap (λ (r : List ℕ). j ∷ r) (inserted-at b i l q (omega arith) (λ p k. early (suc p) (omega arith)) (λ k. found (omega arith))))
+    rw (early 0 (omega arith), inserted) (ap (λ (r : List ℕ). j ∷ r) (inserted-at b i l q (omega arith) (λ p k. early (suc p) (omega arith))
+    (λ k. found (omega arith))))
 
 -- putting in, in an array of which l is the front
 module _ {A : Type 0} where
@@ -60,14 +61,20 @@ module _ {A : Type 0} where
     front = length-take-le k l (omega arith)
 
     pub shift-starts : l ≡ shiftedTo l k k (getD l k d)
-    shift-starts = split-at l k d h ∙ sym (rw (take-all k (take k l) (omega (arith, front)), drop-of-length-le (take k l) {i = k} (omega (arith, front)), append-assoc, add-one) refl)
+    shift-starts = split-at l k d h ∙ sym (rw (
+      take-all k (take k l) (omega (arith, front)),
+      drop-of-length-le (take k l) {i = k} (omega (arith, front)),
+      append-assoc,
+      add-one,
+    ) refl)
 
     read-front : (p : ℕ) (y : A) → p < k → getD (shiftedTo l k (suc p) y) p d ≡ getD (take k l) p d
     read-front p y v =
         let t : p < length (take (suc p) (take k l)) = omega (arith, length-take-le (suc p) (take k l) (omega (arith, front))) in
         rw append-assoc (List·getD-append (take (suc p) (take k l)) _ d p t ∙ getD-take (suc p) (take k l) p d (omega arith))
 
-    pub shift-turns : (p : ℕ) (r : List A) → r ≡ shiftedTo l k p (getD l p d) → 1 ≤ p → p ≤ k → set r p (getD r (p - 1) d) ≡ shiftedTo l k (p - 1) (getD l (p - 1) d)
+    pub shift-turns : (p : ℕ) (r : List A) → r ≡ shiftedTo l k p (getD l p d) → 1 ≤ p → p ≤ k
+        → set r p (getD r (p - 1) d) ≡ shiftedTo l k (p - 1) (getD l (p - 1) d)
     shift-turns zero r e u v = absurd (omega arith)
     shift-turns (suc p) r e u v =
         let q : suc p - 1 ≡ p = omega arith in
@@ -160,7 +167,8 @@ module _ (w : ℕ) (b : ℕ → ℕ → Bool) (k : ℕ) (l : List ℕ) (e : l �
 
   -- what is listed is other than station k, and stands there oldest first
   pub order-others : (n : ℕ) → k < n → (p : ℕ) → p < k → Other n k (getD l p 0)
-  order-others n h = front-all k l (ordered k b) order-front (ordered-length b k) (Other n k) (ordered-all (Other n k) b k (λ i u. (omega arith, λ f. omega arith)))
+  order-others n h = front-all k l (ordered k b) order-front (ordered-length b k) (Other n k)
+      (ordered-all (Other n k) b k (λ i u. (omega arith, λ f. omega arith)))
 
   pub order-sorted : {n : ℕ} → Total n b → k < n → (p q : ℕ) → p < q → q < k → b (getD l p 0) (getD l q 0) ≡ true
   order-sorted {n} o h = front-sorted k l (ordered k b) order-front (ordered-length b k) b (ordered-sorted n b o k (omega arith))
@@ -169,7 +177,8 @@ module _ (w : ℕ) (b : ℕ → ℕ → Bool) (k : ℕ) (l : List ℕ) (e : l �
   order-rest h = rw (e, replicate-more {A = ℕ} w k 0 h) (ap (λ (i : ℕ). drop (i + 1) (ordered k b ++ 0 ∷ replicate (w - (k + 1)) 0)) (sym (ordered-length b k))
       ∙ drop-append-add (ordered k b) (0 ∷ replicate (w - (k + 1)) 0) 1)
 
-  pub order-turns : (q : ℕ) (r : List ℕ) → r ≡ putIn q k (take k l) ++ drop (k + 1) l → inserted b k (take k l) ≡ putIn q k (take k l) → k < w → r ≡ orderIn w b (k + 1)
+  pub order-turns : (q : ℕ) (r : List ℕ) → r ≡ putIn q k (take k l) ++ drop (k + 1) l → inserted b k (take k l) ≡ putIn q k (take k l) → k < w
+      → r ≡ orderIn w b (k + 1)
   unfolding ordered
   order-turns q r f g h = f ∙ rw (← g, order-front, order-rest h, add-one k, ordered) refl
 
@@ -205,7 +214,8 @@ module _ {n : ℕ} {rows : List (List ℕ)} {k : ℕ} {l : List ℕ} (valid : Or
     pub place-found : p < n
     place-found = by-cases (decLt p n) (λ h. h)
         (λ h. absurd (ordered-each (λ j. j ≢ k) before₀ n (each-all (λ j. j ≢ k) (ordered n before₀) 0
-        (λ q u. rw (← read q (omega (arith, ordered-length before₀ n))) (eqb-false _ k (place .earlier q (omega arith) (omega (arith, ordered-length before₀ n)))))) k lk refl))
+        (λ q u. rw (← read q (omega (arith, ordered-length before₀ n))) (eqb-false _ k
+        (place .earlier q (omega arith) (omega (arith, ordered-length before₀ n)))))) k lk refl))
 
     -- the others stand in the old order as in the new one, which is theirs with k put in
     abbrev others : List ℕ
@@ -252,7 +262,12 @@ module _ {n : ℕ} {rows : List (List ℕ)} {k : ℕ} {l : List ℕ} (valid : Or
       pub put-again : (q : ℕ) (r′ : List ℕ) → q ≤ n - 1 → ((p : ℕ) → p < q → before (getD r p 0) k ≡ true)
           → ((p : ℕ) → q ≤ p → p < n - 1 → before k (getD r p 0) ≡ true)
           → r′ ≡ putIn q k (take (n - 1) r) ++ drop (n - 1 + 1) r → r′ ≡ orderIn 32 before n
-      put-again q r′ h early late e = e ∙ rw (← put-in total-now k lk (n - 1) r others-listed (omega (arith, listed-long, valid .high)) q h early late, rest, others-front, back) refl
+      put-again q r′ h early late e = e ∙ rw (
+        ← put-in total-now k lk (n - 1) r others-listed (omega (arith, listed-long, valid .high)) q h early late,
+        rest,
+        others-front,
+        back,
+      ) refl
 
 -- THE NEWEST
 
@@ -265,6 +280,7 @@ last-newest n b l o h e =
     let low : (p : ℕ) → p < n → getD list p 0 < n = λ p u. all-at (λ i. i < n) list 0 (ordered-all (λ i. i < n) b n (λ i v. v)) p (omega arith) in
     let none : (p : ℕ) → p < length list → b z (getD list p 0) ≡ false = λ p u. by-cases (ℕ-discrete p (n - 1))
     (λ q. rw q (o .irrefl z (low (n - 1) (omega arith))))
-    (λ d. one-way o (getD list p 0) z (low p (omega arith)) (low (n - 1) (omega arith)) (sorted-at b list (ordered-sorted n b o n (omega arith)) p (n - 1) (omega arith) (omega arith))) in
+    (λ d. one-way o (getD list p 0) z (low p (omega arith)) (low (n - 1) (omega arith))
+    (sorted-at b list (ordered-sorted n b o n (omega arith)) p (n - 1) (omega arith) (omega arith))) in
     sym (getD-take n l (n - 1) 0 (omega arith)) ∙ ap (λ (x : List ℕ). getD x (n - 1) 0) e
     ∙ newest-only n b o z (low (n - 1) (omega arith)) (ordered-each (λ j. b z j ≡ false) b n (each-all _ list 0 none))

@@ -53,7 +53,8 @@ fn position(rows: &[[u8; 31]; 32], n: usize, order: &[usize], m: usize, k: usize
 // The first k of `order` get x put in among them at place q; what stands past them stays.
 fn insert_at(order: &mut [usize], k: usize, q: usize, x: usize)
     requires { ⌜ (q ≤ k) × (k < length (now order)) ⌝ }
-    ensures { λ _. ⌜ now (order .exit) ≡ take q (take k (now (order .entry))) ++ x ∷ drop q (take k (now (order .entry))) ++ drop (k + 1) (now (order .entry)) ⌝ }
+    ensures { λ _. ⌜ now (order .exit) ≡ take q (take k (now (order .entry))) ++ x ∷ drop q (take k (now (order .entry))) ++ drop (k + 1)
+        (now (order .entry)) ⌝ }
 {
     let mut p = k;
     while q < p {

@@ -10,7 +10,8 @@ use borrow.Author.Tests.{ne-eqb}
 use Rattle.basics.specs.Tests.{newest, ordered, All}
 use Rattle.basics.proofs.Facts.{by-here, all-parts, all-map}
 use Rattle.simulation.specs.Calls.{Call}
-use Rattle.simulation.specs.Machine.{Board, Labelling, put, numbers, stands, LabelStep, stay, snap, update, labelStep, labelSnap, pendingAfter, relabelled, carryOut, State, answer, step, snapsOf, run, snaps}
+use Rattle.simulation.specs.Machine.{Board, Labelling, put, numbers, stands, LabelStep, stay, snap, update, labelStep, labelSnap, pendingAfter}
+use Rattle.simulation.specs.Machine.{relabelled, carryOut, State, answer, step, snapsOf, run, snaps}
 use Rattle.simulation.specs.Numbering.{numbered, LabelSnap, met, labelSnaps, Fit, advance, advances}
 
 -- one step of the labels: the advance comes to the number, and is used up
@@ -43,11 +44,13 @@ module _ (n : ℕ) (l : Labelling ℕ) (v : ℕ) where
 labels-tell : (B : Board) (n : ℕ) (s : State ℕ) (c : Call) (v a : ℕ) → let w = labelStep (B .judge n (s .rest) c) in
     relabelled n (numbers a) (s .labels) w ≡ relabelled n (numbered v) (s .labels) w → step B n (numbers a) s c ≡ step B n (numbered v) s c
 unfolding step
-labels-tell B n s c v a = ap (λ (l : Labelling ℕ). answer (c .line) l (carryOut (ordered n (stands (numbered v) (s .labels))) (s .rest) (B .judge n (s .rest) c)))
+labels-tell B n s c v a = ap (λ (l : Labelling ℕ). answer (c .line) l (carryOut (ordered n (stands (numbered v) (s .labels))) (s .rest)
+    (B .judge n (s .rest) c)))
 
 -- all calls: the same answers, and all advances used up
 pub run-advances : (B : Board) (n most : ℕ) (cs : Lists.List Call) (s : State ℕ) (ns : Lists.List ℕ) → All (Fit most) (labelSnaps B n s ns cs)
-    → (run B n numbers s (advances B n s ns cs) cs ≡ run B n numbered s ns cs) × (snaps B n numbers s (advances B n s ns cs) cs ≡ length (labelSnaps B n s ns cs))
+    → (run B n numbers s (advances B n s ns cs) cs ≡ run B n numbered s ns cs) ×
+    (snaps B n numbers s (advances B n s ns cs) cs ≡ length (labelSnaps B n s ns cs))
 unfolding run snaps labelSnaps snapsOf
 run-advances B n most [] s ns h = (refl, refl)
 run-advances B n most (c ∷ cs) s ns h = go (run-advances B n most cs s′ ns′ (h′ .1))

@@ -12,8 +12,10 @@ use lib.Seq.{drop-nil}
 use Rattle.basics.specs.Tests.{All}
 use Rattle.basics.proofs.Facts.{all-append, all-replicate, all-weaken, map-replicate, member-replicate, first-replicate, drop-replicate, ordered-same}
 use Rattle.simulation.specs.Calls.{Rest, Call}
-use Rattle.simulation.specs.Machine.{Board, Labelling, Rules, numbers, LabelStep, labelStep, labelSnap, carryOut, State, Answer, answer, fresh, step, snapsOf, run, snaps, seen, Bounded}
-use Rattle.simulation.specs.Numbering.{numbered, LabelSnap, met, labelSnaps, Fit, Fits, Gapless, advance, advances, through, Renumbering, renumber, renumbered}
+use Rattle.simulation.specs.Machine.{Board, Labelling, Rules, numbers, LabelStep, labelStep, labelSnap, carryOut, State, Answer, answer, fresh, step}
+use Rattle.simulation.specs.Machine.{snapsOf, run, snaps, seen, Bounded}
+use Rattle.simulation.specs.Numbering.{numbered, LabelSnap, met, labelSnaps, Fit, Fits, Gapless, advance, advances, through, Renumbering, renumber}
+use Rattle.simulation.specs.Numbering.{renumbered}
 use Rattle.simulation.proofs.Sync.{Rising, rising-le}
 use Rattle.simulation.proofs.Numbers.{Upto, Old, Span}
 use Rattle.simulation.proofs.Simulable.{Simulable, order-kept, Stepped, stepped}
@@ -81,11 +83,13 @@ module _ {A : Type 0} {n : ℕ} {r : Rules A} {a₀ : A} {Able : LabelStep → T
       replicate (snapsOf B n s c) (later cs s′ (e .beside) (e .number)) ++ given cs s′ (e .beside)
 
   -- the one pass finds just these
-  renumbered-is : (cs : Lists.List Call) (s : State A) (N : Labelling ℕ) (l : Lists.List ℕ) → renumbered n r (L .slot) B s N l cs ≡ map (later cs s N) l ++ given cs s N
+  renumbered-is : (cs : Lists.List Call) (s : State A) (N : Labelling ℕ) (l : Lists.List ℕ)
+      → renumbered n r (L .slot) B s N l cs ≡ map (later cs s N) l ++ given cs s N
   unfolding renumbered later given renumbering
   renumbered-is [] s N l = sym (append-nil (map (λ x. x) l) ∙ map-id l)
   renumbered-is (c ∷ cs) s N l = renumbered-is cs s′ (e .beside) (map (e .shift) l ++ replicate ℓ (e .number))
-      ∙ ap (λ t. t ++ given cs s′ (e .beside)) (map-append f (map (e .shift) l) (replicate ℓ (e .number)) ∙ ap₂ _++_ (map-map f (e .shift) l) (map-replicate f ℓ (e .number)))
+      ∙ ap (λ t. t ++ given cs s′ (e .beside)) (map-append f (map (e .shift) l) (replicate ℓ (e .number))
+      ∙ ap₂ _++_ (map-map f (e .shift) l) (map-replicate f ℓ (e .number)))
       ∙ append-assoc (map (λ x. f (e .shift x)) l) (replicate ℓ (f (e .number))) (given cs s′ (e .beside))
     where
       ℓ : ℕ

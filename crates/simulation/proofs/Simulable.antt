@@ -114,7 +114,8 @@ module _ {A : Type 0} {n : ℕ} {r : Rules A} {a₀ : A} {Able : LabelStep → T
         zero = shift-zero p;
         ready = subst (λ t. L .R (put l k t) (placed N k p .beside)) (sym (pend-new n r l k _ refl d)) (found .1);
         span = λ b h. span-placed n N (N false (newest n (stands r l))) k p (found .0) b h;
-        follow = λ f rise v e. ap (put (through (λ x. f (shift p x)) N) k) (pend-new n (numbered v) (through (λ x. f (shift p x)) N) k _ (alike f rise v) d ∙ e (omega arith))
+        follow = λ f rise v e. ap (put (through (λ x. f (shift p x)) N) k)
+            (pend-new n (numbered v) (through (λ x. f (shift p x)) N) k _ (alike f rise v) d ∙ e (omega arith))
             ∙ through-put f (through (shift p) N) k (number p);
         fit = λ f rise zero most h v e. (
           record {
@@ -134,5 +135,6 @@ module _ {A : Type 0} {n : ℕ} {r : Rules A} {a₀ : A} {Able : LabelStep → T
     pub stepped : (w : LabelStep) → Able w → Stepped l N w (renumber n r (L .slot) l N w)
     unfolding renumber slot-here
     stepped stay a = stays
-    stepped (snap k) a = by-here (λ b. Stepped l N (snap k) (cond b (besideOnly N) (placed N k (slot-here k)))) (newest n (stands r l)) k (snap-newest k) (snap-placed k a)
+    stepped (snap k) a = by-here (λ b. Stepped l N (snap k) (cond b (besideOnly N) (placed N k (slot-here k)))) (newest n (stands r l)) k (snap-newest k)
+        (snap-placed k a)
     stepped (update k) a = updated k a

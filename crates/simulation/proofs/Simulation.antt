@@ -74,7 +74,8 @@ module _ (n m : ℕ) (size : n ≡ suc m) where
       z = z;
       top = l false z;
       inv = t .1;
-      behind = λ x i p h. by-put (λ b. cond b new (l x i) p ≡ 1) x k i (λ _. new-behind m 1 (l false) z k (inv .newest .station) (omega arith) d p h) (r .behind x i p h);
+      behind = λ x i p h. by-put (λ b. cond b new (l x i) p ≡ 1) x k i (λ _. new-behind m 1 (l false) z k (inv .newest .station) (omega arith) d p h)
+          (r .behind x i p h);
     },
   )
     where
@@ -104,7 +105,8 @@ bounded n some = let size : n ≡ suc (n - 1) = omega arith in record {
 -- DOCUMENT 01'S BOARD
 module _ (n : ℕ) (some : 1 ≤ n) where
   -- the invariant after a call
-  pub ready-step : (s : State Label) (N : Labelling ℕ) (c : Call) → Ready (n - 1) (s .labels) N → (N′ : Labelling ℕ) × Ready (n - 1) (step original n (digits n) s c .state .labels) N′
+  pub ready-step : (s : State Label) (N : Labelling ℕ) (c : Call) → Ready (n - 1) (s .labels) N
+      → (N′ : Labelling ℕ) × Ready (n - 1) (step original n (digits n) s c .state .labels) N′
   unfolding bounded
   ready-step s N c r = step-keeps (bounded n some) original (inside n) s N c r
 

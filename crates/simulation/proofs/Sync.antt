@@ -82,7 +82,13 @@ no-ring sync x y w i j l p bi bj bl ij jl li b s t three four five = omega (
   arith,
   lt-number (sync x y i j bi bj ij) (record { at = p; inside = b; same = s; below = rw (three, four) (record { fact = unfold below in refl }) }),
   lt-number (sync y w j l bj bl jl) (record { at = p; inside = b; same = t; below = rw (four, five) (record { fact = unfold below in refl }) }),
-  lt-number (sync w x l i bl bi li) (record { at = p; inside = b; same = λ q h. sym (s q h ∙ t q h); below = rw (five, three) (record { fact = unfold below in refl }) }),
+  lt-number (sync w x l i bl bi li) (record {
+    at = p;
+    inside = b;
+    same = λ q h. sym (s q h ∙ t q h);
+    below = rw (five, three)
+        (record { fact = unfold below in refl });
+  }),
 )
 
 -- ---- a renumbering that keeps the order

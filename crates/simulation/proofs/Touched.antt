@@ -21,7 +21,8 @@ touched (Move.snaps k o) i = eqb i k
 touched (Move.ends k o) i = eqb i k
 
 -- any other keeps labels, record and result
-pub labels-kept : {A : Type 0} (n : ℕ) (r : Rules A) (l : Labelling A) (w : Move) (i : ℕ) → touched w i ≡ false → (x : Bool) → relabelled n r l (labelStep w) x i ≡ l x i
+pub labels-kept : {A : Type 0} (n : ℕ) (r : Rules A) (l : Labelling A) (w : Move) (i : ℕ) → touched w i ≡ false → (x : Bool)
+    → relabelled n r l (labelStep w) x i ≡ l x i
 unfolding relabelled
 labels-kept n r l (Move.refused y) i e x = refl
 labels-kept n r l (Move.begins k job o) i e x = refl

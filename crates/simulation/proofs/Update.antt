@@ -8,7 +8,8 @@ use native.Mathlib.Omega.{arith}
 use lib.Dec.{eqb}
 use Rattle.label.proofs.Digits.{Tri, lt, eq, gt, compare, below-ne, below-next}
 use Rattle.label.specs.Labels.{Label, nextLabel}
-use Rattle.label.proofs.Order.{Agree, Within, Lt, Le, le-not-gt, next-label-before, next-label-at, next-label-behind, next-label-reach, next-label-order, next-label-again}
+use Rattle.label.proofs.Order.{Agree, Within, Lt, Le, le-not-gt, next-label-before, next-label-at, next-label-behind, next-label-reach, next-label-order}
+use Rattle.label.proofs.Order.{next-label-again}
 use Rattle.label.specs.Labels.{others}
 use Rattle.label.proofs.Choice.{all, others-grow, all-grow, one-more}
 use Rattle.basics.proofs.Facts.{by-here}

@@ -12,7 +12,8 @@ use Rattle.basics.specs.Tests.{newest, firstFrom, All}
 use Rattle.label.specs.Labels as Labels
 use Rattle.label.specs.Labels.{otherAgrees, labelBelow}
 use Rattle.simulation.specs.Calls.{Call}
-use Rattle.simulation.specs.Machine.{Board, Labelling, put, copy, Rules, digits, numberBefore, stands, LabelStep, stay, snap, update, labelStep, State, fresh, step, snapsOf}
+use Rattle.simulation.specs.Machine.{Board, Labelling, put, copy, Rules, digits, numberBefore, stands, LabelStep, stay, snap, update, labelStep, State}
+use Rattle.simulation.specs.Machine.{fresh, step, snapsOf}
 
 -- NUMBERS THAT FIT
 

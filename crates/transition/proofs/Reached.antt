@@ -74,7 +74,8 @@ module _ (n : ℕ) (some : 1 ≤ n) where
       ∙ ordered-once b n i l
     where
       entry-at : (p : ℕ) → p < length (ordered n b)
-          → getD (map (λ i. entry (suc i) (o .process i .job)) (ordered n b)) p (entry 0 0) ≡ entry (suc (getD (ordered n b) p 0)) (o .process (getD (ordered n b) p 0) .job)
+          → getD (map (λ i. entry (suc i) (o .process i .job)) (ordered n b)) p (entry 0 0) ≡ entry (suc (getD (ordered n b) p 0))
+          (o .process (getD (ordered n b) p 0) .job)
       entry-at p u = getD-any (map _ (ordered n b)) p (entry 0 0) (entry 1 (o .process 0 .job)) (rw (length-map (ordered n b) _) u)
           ∙ List·getD-map (λ i. entry (suc i) (o .process i .job)) (ordered n b) p 0
 

@@ -34,7 +34,12 @@ module _ (F : Form) where
   -- what a call hands back is the answer of `stepOf`
   answer-is : (t : F .Table) (x : Made (F .Table)) → Steps F t (callOf x) (x .buffer) (x .table) (x .refusal) (x .written) (x .buffer′)
       → told x ≡ stepOf F t (callOf x)
-  answer-is t x s i = record { table = s .table i; refusal = s .number i; bytes = bytes-read (stepOf F t (callOf x) .bytes) (x .buffer) (s .count) (s .report) i }
+  answer-is t x s i = record {
+    table = s .table i;
+    refusal = s .number i;
+    bytes = bytes-read (stepOf F t (callOf x) .bytes) (x .buffer) (s .count)
+        (s .report) i;
+  }
 
   sequence-run : (t : F .Table) (xs : Lists.List (Made (F .Table))) → Sequence F t xs → map told xs ≡ run F t (map callOf xs)
   unfolding run

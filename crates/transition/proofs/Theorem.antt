@@ -63,7 +63,8 @@ step-kept F t same c d = go (F .wellFormed t) refl
         let x : stepOf F t c .refusal ≡ step original n (digits n) (F .state t) c .refusal = ap (λ (a : Answer (F .Table)). a .refusal) w in
         w ∙ ap (answered F n) (refused-stays n (digits n) (F .state t) (c .line) (judge n (F .state t .rest) c) (λ z. d (x ∙ z)))
         ∙ (λ i. refuse (same e i) (sym x i))
-    go false e = let s : stepOf F t c ≡ refuse t 13 = unfold stepOf in rw (e, stepOf) refl in s ∙ ap (refuse t) (sym (ap (λ (a : Answer (F .Table)). a .refusal) s))
+    go false e = let s : stepOf F t c ≡ refuse t 13 = unfold stepOf in rw (e, stepOf) refl in s
+        ∙ ap (refuse t) (sym (ap (λ (a : Answer (F .Table)). a .refusal) s))
 
 -- a sequence of calls on the table of the state s is one on the bounded machine, and none of them is refused by 13
 pub record Runs (F : Form) (n : ℕ) (s : State Labels.Label) (cs : Lists.List Call) : Type 0 where
@@ -176,7 +177,8 @@ module _ (F : Form) (L : Lawful F) (n : ℕ) (low : 2 ≤ n) (high : n ≤ 32) w
 pub same-after : (F G : Form) → Lawful F → Lawful G → (n : ℕ) → 2 ≤ n → n ≤ 32 → (cs : Lists.List Call)
     → F .state (after F (freshTable F n) cs) ≡ G .state (after G (freshTable G n) cs)
 unfolding after
-same-after F G L M n low high cs = machine F L cs (fresh (λ p. 1) n) (reached-fresh n (omega arith)) ∙ sym (machine G M cs (fresh (λ p. 1) n) (reached-fresh n (omega arith)))
+same-after F G L M n low high cs = machine F L cs (fresh (λ p. 1) n) (reached-fresh n (omega arith))
+    ∙ sym (machine G M cs (fresh (λ p. 1) n) (reached-fresh n (omega arith)))
   where
     left : State Labels.Label → Lists.List Call → State Labels.Label
     left s [] = s

@@ -36,7 +36,12 @@ loop-less : tie.Need-loop-less Inv-loop μ-loop
 loop-less c = search needs
 
 loop-again : tie.Need-loop-again Inv-loop μ-loop
-loop-again c = (search needs, omega (arith, ltb-true), rw (c .before .before .loop .inv .2) (filled-more 32 _ 0 (c .before .before .loop .p) _ (search needs) (add-one _)))
+loop-again c = (
+  search needs,
+  omega (arith, ltb-true),
+  rw (c .before .before .loop .inv .2)
+      (filled-more 32 _ 0 (c .before .before .loop .p) _ (search needs) (add-one _)),
+)
 
 returns : tie.Need-returns Inv-loop μ-loop
 returns c = c .before .before .loop .inv .2 ∙ ap (λ (k : ℕ). filled 32 k suc 0) (omega (arith, ltb-false))

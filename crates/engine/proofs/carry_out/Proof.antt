@@ -11,10 +11,14 @@ report-due-requires : tie.Need-report-due-requires
 report-due-requires c κs = let s = c .before .before .before .before .before .before .before .before in (in-arrays (s .pre), s .pre .hasRoom)
 
 store-labels-requires : tie.Need-store-labels-requires
-store-labels-requires c κs = let s = c .before .before .before .before .before .before .before .before .before .before .before .before in (in-table (s .pre), snap-asks (s .pre))
+store-labels-requires c κs = let s = c .before .before .before .before .before .before .before .before .before .before .before .before in
+    (in-table (s .pre), snap-asks (s .pre))
 
 store-result-requires : tie.Need-store-result-requires
-store-result-requires c κs = let s = c .before .before .before .before .before .before .before .before .before .before .before .before .before .before .before in (in-arrays (s .pre), scan-asks (s .pre))
+store-result-requires c κs =
+    let z = c .before .before .before .before .before .before .before .before .before in
+    let s = z .before .before .before .before .before .before in
+    (in-arrays (s .pre), scan-asks (s .pre))
 
 store-jobs-requires : tie.Need-store-jobs-requires
 store-jobs-requires c κs =

@@ -41,7 +41,11 @@ add-r c =
     let k = c .before .before .before .before .args .k in
     let j = c .before .before .before .loop .j in
     let q = getD s j 0 in
-    omega (arith, c .before .before .before .loop .inv .2 q (c .before .before .before .before .pre .1 (c .before .before .before .loop .j) (omega arith)), count-bound j (λ i. not (eqb i k) && eqb (getD s i 0) q))
+    omega (
+      arith,
+      c .before .before .before .loop .inv .2 q (c .before .before .before .before .pre .1 (c .before .before .before .loop .j) (omega arith)),
+      count-bound j (λ i. not (eqb i k) && eqb (getD s i 0) q),
+    )
 
 mul-r-2 : tie.Need-mul-r-2 Inv-loop μ-loop
 mul-r-2 c = omega (arith, c .before .before .before .before .pre .1 (c .before .before .before .loop .j) (omega arith))
@@ -74,7 +78,8 @@ loop-again c =
     (c .if1 .came)
 
 returns : tie.Need-returns Inv-loop μ-loop
-returns c = λ q h. c .before .loop .inv .2 q h ∙ ap (λ (n : ℕ). count n (λ i. not (eqb i (c .before .before .args .k)) && eqb (getD (c .before .before .args .shared .now) i 0) q)) (omega arith)
+returns c = λ q h. c .before .loop .inv .2 q h ∙ ap (λ (n : ℕ). count n (λ i. not (eqb i (c .before .before .args .k)) && eqb
+    (getD (c .before .before .args .shared .now) i 0) q)) (omega arith)
 
 pub histogram-spec : {M : Type 1} → statement M
 histogram-spec =

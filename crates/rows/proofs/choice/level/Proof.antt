@@ -34,7 +34,12 @@ add-few c =
     let a = c .before .before .before .args in
     let r = c .before .before .histogram .result in
     let p = c .before .loop .p in
-    omega (arith, upto-more r p, upto-small (a .n) (a .k) (λ j. getD (a .shared .now) j 0) 32 r (c .before .before .histogram .ensures) (omega arith) (p + 1) (omega arith))
+    omega (
+      arith,
+      upto-more r p,
+      upto-small (a .n) (a .k) (λ j. getD (a .shared .now) j 0) 32 r (c .before .before .histogram .ensures) (omega arith) (p + 1)
+          (omega arith),
+    )
 
 returns : tie.Need-returns Inv-loop μ-loop
 returns c =
@@ -59,7 +64,8 @@ loop-again c =
 returns-2 : tie.Need-returns-2 Inv-loop μ-loop
 returns-2 c =
     let a = c .before .before .before .args in
-    level-is (a .n) (a .k) (λ j. getD (a .shared .now) j 0) 32 (c .before .before .histogram .result) (c .before .before .histogram .ensures) (omega arith) (c .before .loop .p) (omega arith) (omega arith)
+    level-is (a .n) (a .k) (λ j. getD (a .shared .now) j 0) 32 (c .before .before .histogram .result) (c .before .before .histogram .ensures) (omega arith)
+    (c .before .loop .p) (omega arith) (omega arith)
     (c .before .loop .inv .2) (λ h. absurd (omega arith))
 
 pub level-spec : {M : Type 1} → statement M

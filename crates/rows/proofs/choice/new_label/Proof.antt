@@ -20,14 +20,18 @@ shared-prefixes-requires c κs = search needs
 
 level-requires : tie.Need-level-requires
 level-requires c κs =
-    let a = c .before .before .before .args in
-    (search needs, shared-small 32 (a .n) (held (a .rows .now)) (a .z) (a .k) (c .before .shared-prefixes .result) (c .before .shared-prefixes .ensures) (omega arith))
+    let a = c .before .before .before .args in (
+      search needs,
+      shared-small 32 (a .n) (held (a .rows .now)) (a .z) (a .k) (c .before .shared-prefixes .result) (c .before .shared-prefixes .ensures)
+          (omega arith),
+    )
 
 next-label-requires : tie.Need-next-label-requires
 next-label-requires c κs =
     let a = c .before .before .before .before .args in
     let o = c .before .before .before .before .pre in
-    let l = level-inside 32 (a .n) (held (a .rows .now)) (a .z) (a .k) (c .before .before .shared-prefixes .result) (c .before .before .shared-prefixes .ensures) (omega arith)
+    let l = level-inside 32 (a .n) (held (a .rows .now)) (a .z) (a .k) (c .before .before .shared-prefixes .result)
+    (c .before .before .shared-prefixes .ensures) (omega arith)
     (c .level .result) (c .level .ensures) (omega arith) (omega arith) (o .1 .2) in
     (omega arith, o .0 .valid (a .z) (omega arith) (c .level .result) l)
 
@@ -36,7 +40,8 @@ unfolding newLabel
 returns c =
     let a = c .before .before .before .before .before .args in
     c .next-label .ensures ∙ ap (λ (p : ℕ). row 31 (nextLabel 1 (held (a .rows .now) (a .z)) p))
-    (level-found 32 (a .n) (held (a .rows .now)) (a .z) (a .k) (c .before .before .before .shared-prefixes .result) (c .before .before .before .shared-prefixes .ensures) (omega arith)
+    (level-found 32 (a .n) (held (a .rows .now)) (a .z) (a .k) (c .before .before .before .shared-prefixes .result)
+    (c .before .before .before .shared-prefixes .ensures) (omega arith)
     (c .before .level .result) (c .before .level .ensures) (omega arith))
 
 pub new-label-spec : {M : Type 1} → statement M

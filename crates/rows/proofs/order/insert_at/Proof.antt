@@ -56,7 +56,8 @@ returns : tie.Need-returns Inv-loop μ-loop
 returns c =
     let args = c .before .before .args in
     let e : c .before .loop .p ≡ args .q = omega arith in
-    shift-ends (args .order .now) (args .k) 0 (omega arith) (args .q) (args .x) _ (c .before .loop .inv .3 ∙ ap (λ (p : ℕ). shiftedTo (args .order .now) (args .k) p (getD (args .order .now) p 0)) e) (omega arith)
+    shift-ends (args .order .now) (args .k) 0 (omega arith) (args .q) (args .x) _
+    (c .before .loop .inv .3 ∙ ap (λ (p : ℕ). shiftedTo (args .order .now) (args .k) p (getD (args .order .now) p 0)) e) (omega arith)
 
 pub insert-at-spec : {M : Type 1} → statement M
 insert-at-spec =

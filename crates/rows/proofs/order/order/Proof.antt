@@ -24,8 +24,13 @@ slice-aggregate-position c = sym (order-long 32 _ _ _ (c .before .before .loop .
 position-requires : tie.Need-position-requires Inv-loop μ-loop
 position-requires c κs =
     let start = c .before .before .before in
-    let inv = c .before .before .loop .inv .1 in
-    (start .pre, ((search needs, omega (arith, order-long 32 _ _ _ inv (omega arith))), (order-others 32 _ _ _ inv _ (omega arith), order-sorted 32 _ _ _ inv (orderly-total _ _ (start .pre)) (omega arith))))
+    let inv = c .before .before .loop .inv .1 in (
+      start .pre,
+      (
+        (search needs, omega (arith, order-long 32 _ _ _ inv (omega arith))),
+        (order-others 32 _ _ _ inv _ (omega arith), order-sorted 32 _ _ _ inv (orderly-total _ _ (start .pre)) (omega arith)),
+      ),
+    )
 
 slice-aggregate-insert-at : tie.Need-slice-aggregate-insert-at Inv-loop μ-loop
 slice-aggregate-insert-at c = sym (order-long 32 _ _ _ (c .before .before .before .before .loop .inv .1) (omega arith))
@@ -47,8 +52,11 @@ loop-again c =
     let at = c .before .before .before .before .before .before .loop in
     let place = c .before .before .before .position .ensures in
     let next = put-in (orderly-total _ _ (start .pre)) (at .k) (omega arith) (at .k) (at .r) (order-others 32 _ _ _ (at .inv .1) _ (omega arith))
-    (omega (arith, order-long 32 _ _ _ (at .inv .1) (omega arith))) _ (place .0) (place .1 .0) (place .1 .1) in
-    (search needs, order-turns 32 _ (at .k) (at .r) (at .inv .1) (c .before .before .before .position .result) _ (c .before .insert-at .ensures) next (omega arith))
+    (omega (arith, order-long 32 _ _ _ (at .inv .1) (omega arith))) _ (place .0) (place .1 .0) (place .1 .1) in (
+      search needs,
+      order-turns 32 _ (at .k) (at .r) (at .inv .1) (c .before .before .before .position .result) _ (c .before .insert-at .ensures) next
+          (omega arith),
+    )
 
 returns : tie.Need-returns Inv-loop μ-loop
 returns c =

@@ -36,7 +36,8 @@ shared-slice-read-i : tie.Need-shared-slice-read-i Inv-loop μ-loop
 shared-slice-read-i c = search needs
 
 listed : (c : tie.In-loop Inv-loop μ-loop)
-    → getD (c .before .before .before .before .args .order .now) ((c .before .loop .low + c .before .loop .high) / 2) 0 < c .before .before .before .before .args .n
+    → getD (c .before .before .before .before .args .order .now) ((c .before .loop .low + c .before .loop .high) / 2) 0
+    < c .before .before .before .before .args .n
 listed c = c .before .before .before .before .pre .1 .1 .0 ((c .before .loop .low + c .before .loop .high) / 2) (omega arith) .0
 
 mul-label-before : tie.Need-mul-label-before Inv-loop μ-loop
@@ -65,7 +66,8 @@ loop-again c =
     let start = c .before .before .before .before .before .before .before .before in (
       omega arith,
       search needs,
-      before-front (orderly-total _ _ (start .pre .0)) _ (start .pre .1 .0 .0) _ (start .args .order .now) (start .pre .1 .1 .0) (start .pre .1 .1 .1) _ (omega arith) (c .before .label-before .ensures) (c .if1 .taken),
+      before-front (orderly-total _ _ (start .pre .0)) _ (start .pre .1 .0 .0) _ (start .args .order .now) (start .pre .1 .1 .0) (start .pre .1 .1 .1) _
+          (omega arith) (c .before .label-before .ensures) (c .if1 .taken),
       c .before .before .before .before .before .loop .inv .3,
     )
 
@@ -78,7 +80,8 @@ loop-again-2 c =
       omega arith,
       omega arith,
       c .before .before .before .before .before .loop .inv .2,
-      before-back (orderly-total _ _ (start .pre .0)) _ (start .pre .1 .0 .0) _ (start .args .order .now) (start .pre .1 .1 .0) (start .pre .1 .1 .1) _ (omega arith) (c .before .label-before .ensures) (c .if1 .left),
+      before-back (orderly-total _ _ (start .pre .0)) _ (start .pre .1 .0 .0) _ (start .args .order .now) (start .pre .1 .1 .0) (start .pre .1 .1 .1) _
+          (omega arith) (c .before .label-before .ensures) (c .if1 .left),
     )
 
 returns : tie.Need-returns Inv-loop μ-loop

@@ -12,8 +12,11 @@ place-requires c κs = let pre = c .before .before .pre in omega (arith, listed-
 
 remove-at-requires : tie.Need-remove-at-requires
 remove-at-requires c κs =
-    let pre = c .before .before .before .before .pre in
-    (omega (arith, place-found (pre .0) (pre .1 .0) (pre .1 .1) _ (c .before .place .ensures)), omega (arith, listed-long (pre .0) (pre .1 .0) (pre .1 .1), pre .0 .high))
+    let pre = c .before .before .before .before .pre in (
+      omega (arith, place-found (pre .0) (pre .1 .0) (pre .1 .1) _ (c .before .place .ensures)),
+      omega
+          (arith, listed-long (pre .0) (pre .1 .0) (pre .1 .1), pre .0 .high),
+    )
 
 position-requires : tie.Need-position-requires
 position-requires c κs =

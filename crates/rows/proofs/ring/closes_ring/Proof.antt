@@ -25,7 +25,8 @@ index-2-if1 c = search needs
 returns : tie.Need-returns
 returns c =
     let a = c .before .before .args in
-    ap not (sym (left-no _ (left-no _ (ne-eqb _ 3 (λ e. c .if1 .taken (read-else (getD (a .rows .now) (a .i) []) (a .p) 1 0 3 (omega arith) (omega arith) e))))))
+    ap not (sym (left-no _ (left-no _ (ne-eqb _ 3 (λ e. c .if1 .taken (read-else (getD (a .rows .now) (a .i) []) (a .p) 1 0 3 (omega arith)
+    (omega arith) e))))))
 
 parts-with-requires : tie.Need-parts-with-requires
 parts-with-requires c κs = search needs
@@ -44,7 +45,8 @@ returns-3 : tie.Need-returns-3
 returns-3 c =
     let a = c .before .before .before .before .args in
     let t = held (a .rows .now) in
-    ap not (c .if2 .left ∙ sym (left-no (partsWith (a .n) t (a .i) (a .p) 5) (right-no (eqb (t (a .i) (a .p)) 3) (sym (c .before .parts-with .ensures) ∙ c .if2 .left))))
+    ap not (c .if2 .left ∙ sym (left-no (partsWith (a .n) t (a .i) (a .p) 5)
+    (right-no (eqb (t (a .i) (a .p)) 3) (sym (c .before .parts-with .ensures) ∙ c .if2 .left))))
 
 pub closes-ring-spec : {M : Type 1} → statement M
 closes-ring-spec =

@@ -27,7 +27,8 @@ no-ring-at-requires : tie.Need-no-ring-at-requires Inv-loop μ-loop
 no-ring-at-requires c κs = search needs
 
 returns : tie.Need-returns Inv-loop μ-loop
-returns c = sym (no-ring-each _ _ (search needs) ∙ every-no _ _ (c .before .before .before .loop .p) (search needs) (was-false (c .before .no-ring-at .ensures) (c .if1 .taken)))
+returns c = sym (no-ring-each _ _ (search needs) ∙ every-no _ _ (c .before .before .before .loop .p) (search needs)
+    (was-false (c .before .no-ring-at .ensures) (c .if1 .taken)))
 
 add-p : tie.Need-add-p Inv-loop μ-loop
 add-p c = search needs

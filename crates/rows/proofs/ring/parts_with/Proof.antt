@@ -55,8 +55,10 @@ returns c =
     let b = c .before .before .before .before in
     let a = b .before .before .before .before .args in
     let j = b .before .before .before .loop .j in
-    sym (some-here (a .n) (λ k. eqb (held (a .rows .now) k (a .p)) (a .d) && agrees (a .p) (held (a .rows .now) (a .i)) (held (a .rows .now) k)) j (search needs)
-    (both (eq-eqb _ (a .d) (read-else (getD (a .rows .now) j []) (a .p) 0 1 (a .d) (omega arith) (omega arith) (b .if1 .taken))) (sym (c .before .agree .ensures) ∙ c .if2 .taken)))
+    sym (some-here (a .n) (λ k. eqb (held (a .rows .now) k (a .p)) (a .d) && agrees (a .p) (held (a .rows .now) (a .i)) (held (a .rows .now) k)) j
+    (search needs)
+    (both (eq-eqb _ (a .d) (read-else (getD (a .rows .now) j []) (a .p) 0 1 (a .d) (omega arith) (omega arith) (b .if1 .taken)))
+    (sym (c .before .agree .ensures) ∙ c .if2 .taken)))
 
 add-j : tie.Need-add-j Inv-loop μ-loop
 add-j c = search needs
