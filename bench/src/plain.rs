@@ -304,7 +304,7 @@ fn column(bytes: &[u8]) -> Result<u64, u64> {
 }
 
 /// The columns of a report line; the last byte is the line's end.
-fn report_line(line: u32, refused: u64) -> [u8; REPORT_LINE] {
+pub(crate) fn report_line(line: u32, refused: u64) -> [u8; REPORT_LINE] {
     let mut bytes = [b' '; REPORT_LINE];
     put(&mut bytes[..8], line);
     put(&mut bytes[8..11], refused as u32);
@@ -323,7 +323,7 @@ fn write_result(line: u32, s: &Station, report: &mut [u8]) {
     }
 }
 
-fn write_refusal(line: u32, refused: u64, report: &mut [u8]) {
+pub(crate) fn write_refusal(line: u32, refused: u64, report: &mut [u8]) {
     report[..REPORT_LINE].copy_from_slice(&report_line(line, refused));
     report[13] = b'0';
     report[16] = b'0';
@@ -331,14 +331,14 @@ fn write_refusal(line: u32, refused: u64, report: &mut [u8]) {
 }
 
 /// Station (in the header the count), code and job of a line.
-fn read_line(bytes: &[u8]) -> Result<(u64, u64, u64), u64> {
+pub(crate) fn read_line(bytes: &[u8]) -> Result<(u64, u64, u64), u64> {
     if bytes.len() != LINE || bytes[LINE - 1] != b'\n' {
         return Err(refusal::INCOMPLETE);
     }
     Ok((column(&bytes[..3])?, column(&bytes[3..6])?, column(&bytes[6..17])?))
 }
 
-fn read_header(bytes: &[u8]) -> Result<Table, u64> {
+pub(crate) fn read_header(bytes: &[u8]) -> Result<Table, u64> {
     let (n, code, job) = read_line(bytes)?;
     if code != 0 {
         Err(refusal::CODE)
@@ -360,7 +360,7 @@ fn serve_line(table: &mut Table, line: u32, bytes: &[u8], report: &mut [u8]) -> 
 }
 
 /// Reads until the buffer is full or the input ends.
-fn fill(input: &mut impl Read, buffer: &mut [u8]) -> io::Result<usize> {
+pub(crate) fn fill(input: &mut impl Read, buffer: &mut [u8]) -> io::Result<usize> {
     let mut len = 0;
     while len < buffer.len() {
         match input.read(&mut buffer[len..]) {

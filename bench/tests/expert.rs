@@ -161,7 +161,7 @@ fn tables_as_in_the_plain_program() {
             let (station, code, job) = (number(&bytes[..3]), number(&bytes[3..6]), number(&bytes[6..17]));
             let (refused, written) = plain::step(&mut expected, code, station, job, &mut [0; MAX_STATIONS * REPORT_LINE]);
             let ended = (written > 0).then(|| station as usize - 1);
-            assert_eq!(table.serve(bytes.try_into().unwrap()), if refused == 0 { Ok(ended) } else { Err(refused) });
+            assert_eq!(table.serve(bytes), if refused == 0 { Ok(ended) } else { Err(refused) });
             assert!((0..n).all(|i| table.label(i) == expected.stations[i].label));
             assert_eq!(table.order(), &expected.order()[..n]);
         }

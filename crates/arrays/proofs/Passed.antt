@@ -1,5 +1,5 @@
 -- What the test of 13 tells of the arrays that pass it: in parts; and that "stands before" is an order of the stations.
-use Prim.Native.Nat.{ℕ, suc, _+_, _-_, _≤_, _<_}
+use Prim.Native.Nat.{ℕ, _+_, _-_, _≤_, _<_}
 use native.Mathlib.Omega.{arith}
 use mathlib.Core.Path.{_≡_}
 use mathlib.Core.Logic.{_≢_}
@@ -12,7 +12,7 @@ use Rattle.label.specs.Rows.{digit, rowFits, noRing}
 use Rattle.label.proofs.RowLaws.{fits-digit, ringless}
 use Rattle.label.proofs.Total.{Total, total, newest-inside, newest-last, newest-only, Sorted, ordered-sorted}
 use Rattle.simulation.specs.Machine.{digits, stands}
-use Rattle.arrays.specs.Arrays.{Rows, Arrays, cell, labelRow, rowsAt, stateOf}
+use Rattle.arrays.specs.Arrays.{Arrays, cell, labelRow, rowsAt, stateOf}
 use Rattle.arrays.specs.WellFormed.{resultFits, resultFresh, stationFits, placeFresh, wellFormed}
 
 -- one of the n stations

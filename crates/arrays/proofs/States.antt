@@ -10,22 +10,22 @@ use mathlib.Core.List as Lists
 use mathlib.Core.List.{[], _∷_}
 use lib.ListN.{length, getD, List·getD-eq-default}
 use lib.Seq.{ext-getD}
-use lib.Dec.{eqb, leb, ltb}
+use lib.Dec.{eqb, ltb}
 use borrow.Author.Tests.{eqb-true, eq-eqb, le-leb, lt-ltb, le-ltb}
 use Rattle.basics.specs.Tests.{every, count, tabulate}
 use Rattle.basics.proofs.Facts.{both, and-both, within-of, every-all, every-at, getD-any, length-tabulate, getD-tabulate, tabulate-same}
 use Rattle.basics.proofs.Counts.{count-same}
 use Rattle.label.specs.Labels as Labels
 use Rattle.label.specs.Rows.{digit, row, rowFits, noRing}
-use Rattle.label.proofs.RowLaws.{digit-row, row-digit, fresh-row, label-fits, fits-behind}
+use Rattle.label.proofs.RowLaws.{digit-row, row-digit, label-fits, fits-behind}
 use Rattle.simulation.specs.Calls.{Call, Phase, Idle, Snap, Update, End, Label, Scan, Entry, entry, Process}
 use Rattle.simulation.specs.Machine.{original, digits, freshRest, State, step}
 use Rattle.transition.specs.Forms.{Answer, stepOf}
 use Rattle.transition.proofs.Written.{Unused, Writable, writable-step}
 use Rattle.transition.proofs.Reached.{Reached, choice-ring-free}
 use Rattle.transition.proofs.Theorem.{Lawful, step-written}
-use Rattle.arrays.specs.Arrays.{Rows, Planes, Arrays, arrays, cell, plane, planes, phaseNumber, phaseFor, resultRows, resultOf, rowsAt}
-use Rattle.arrays.specs.Arrays.{labelRow, restOf, stateOf, jobsOf, arraysOf}
+use Rattle.arrays.specs.Arrays.{Rows, Arrays, arrays, cell, plane, planes, phaseNumber, phaseFor, resultRows, resultOf, rowsAt}
+use Rattle.arrays.specs.Arrays.{labelRow, stateOf, jobsOf, arraysOf}
 use Rattle.arrays.specs.WellFormed.{resultFits, resultFresh, stationFits, placeFresh, wellFormed}
 use Rattle.arrays.specs.Form.{lent}
 use Rattle.arrays.specs.Sizes.{Sized, Shaped}
@@ -39,11 +39,11 @@ getD-all k i f d e = by-cases (decLt i k)
     (λ l. getD-tabulate k 0 i f d l ∙ ap f (zero-add i))
     (λ l. List·getD-eq-default (tabulate k 0 f) d (rw (length-tabulate k 0 f) (omega arith)) ∙ e (omega arith))
 
-tabulate-is : {A : Type 0} (k : ℕ) (l : Lists.List A) (d : A) (f : ℕ → A) → length l ≡ k → ((i : ℕ) → i < k → f i ≡ getD l i d) → tabulate k 0 f ≡ l
+pub tabulate-is : {A : Type 0} (k : ℕ) (l : Lists.List A) (d : A) (f : ℕ → A) → length l ≡ k → ((i : ℕ) → i < k → f i ≡ getD l i d) → tabulate k 0 f ≡ l
 tabulate-is k l d f e h = ext-getD d _ _ (length-tabulate k 0 f ∙ sym e) (λ i u.
     let v : i < k = rw (length-tabulate k 0 f) at u in getD-tabulate k 0 i f d v ∙ ap f (zero-add i) ∙ h i v)
 
-two-lists : {A : Type 0} (xs : Lists.List A) (d : A) → length xs ≡ 2 → getD xs 0 d ∷ getD xs 1 d ∷ [] ≡ xs
+pub two-lists : {A : Type 0} (xs : Lists.List A) (d : A) → length xs ≡ 2 → getD xs 0 d ∷ getD xs 1 d ∷ [] ≡ xs
 two-lists xs d e = ext-getD d _ _ (sym e) each
   where
     each : (i : ℕ) → i < 2 → getD (getD xs 0 d ∷ getD xs 1 d ∷ []) i d ≡ getD xs i d
@@ -51,7 +51,7 @@ two-lists xs d e = ext-getD d _ _ (sym e) each
     each (suc zero) h = refl
     each (suc (suc i)) h = absurd (omega arith)
 
-one-list : {A : Type 0} (xs : Lists.List A) (d : A) → length xs ≡ 1 → getD xs 0 d ∷ [] ≡ xs
+pub one-list : {A : Type 0} (xs : Lists.List A) (d : A) → length xs ≡ 1 → getD xs 0 d ∷ [] ≡ xs
 one-list xs d e = ext-getD d _ _ (sym e) each
   where
     each : (i : ℕ) → i < 1 → getD (getD xs 0 d ∷ []) i d ≡ getD xs i d
@@ -68,7 +68,7 @@ phase-back Update = refl
 phase-back (End Label) = refl
 phase-back (End Scan) = refl
 
-phase-low : (p : Phase) → phaseNumber p ≤ 5
+pub phase-low : (p : Phase) → phaseNumber p ≤ 5
 phase-low Idle = omega arith
 phase-low (Snap Label) = omega arith
 phase-low (Snap Scan) = omega arith

@@ -1,7 +1,6 @@
 // The lines of the command file.
 use columns::Column;
-ghost use mathlib.Core.Path.{_≡_};
-ghost use Prim.Native.Nat.{_≤_};
+ghost use Prim.Native.Nat.{_+_, _≤_};
 ghost use lib.ListN.{length};
 
 // A command: its letter, and its numbers. The letter of a bad line is 0, and that of a title #.
@@ -32,14 +31,16 @@ fn fits(n: Command) -> bool {
         b'e' => below(n, 32, 32, 256, 4294967296),
         b'j' | b'w' => below(n, 32, 1, 1, 4294967296),
         b'c' => below(n, 32, 32, 1, 1),
+        b't' => below(n, 1, 1, 1, 1),
+        b'x' => below(n, 4294967296, 1, 1, 1),
         _ => false,
     }
 }
 
 // The number in the column that starts at a place.
 fn column_at(line: &[u8], at: usize) -> u64
-    requires { ⌜ length (now line) ≡ 49 ⌝ }
     requires { ⌜ at ≤ 37 ⌝ }
+    requires { ⌜ at + 12 ≤ length (now line) ⌝ }
 {
     let Column::Value(v) = columns::read_column(&line[at..at + 12]) else {
         return BAD;
@@ -79,10 +80,30 @@ fn read_columns(letter: u8, line: &[u8]) -> Command {
     if fits(n) { n } else { plain(0) }
 }
 
+// Reads the room for a line of a schedule file, which stands behind it.
+fn read_room(letter: u8, line: &[u8]) -> Command {
+    if line.len() < 13 {
+        return plain(0);
+    }
+    let room = column_at(line, 1);
+    if 929 < room {
+        return plain(0);
+    }
+    Command {
+        letter,
+        a: 0,
+        b: 0,
+        c: 0,
+        d: room,
+    }
+}
+
 // Reads a line that starts with this byte, 10 if it is empty.
 pub fn read(letter: u8, line: &[u8]) -> Command {
     match letter {
         b'#' | 10 => title(line),
+        b'o' => plain(letter),
+        b'v' => read_room(letter, line),
         _ => read_columns(letter, line),
     }
 }

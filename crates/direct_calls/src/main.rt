@@ -1,9 +1,9 @@
 // Direct calls of the steps, as the command file on standard input asks for them. The file is run twice: step calls get their tables by value, and then
-// from an owner that lends them; calls by name get them by value both times. A call shows the buffer that it lent, its refusal number and its bytes of
-// report. The file `stdout` beside this folder has what document 01 asks.
+// from an owner that lends them; calls by name and sessions get them by value both times. A call shows the buffer that it lent, its refusal number and its
+// bytes of report. The file `stdout` beside this folder has what document 01 asks.
 //
 // A line that starts with # or is empty is shown as it is. Any other is a command: a letter and four columns of 12 bytes, with 0 in those that it
-// does not use. Places and positions count from 0. A bad line ends the run.
+// does not use; or one of `o` and `v`, which end with a line of a schedule file. Places and positions count from 0. A bad line ends the run.
 //
 //     f n                        makes a fresh table of n stations
 //     s code station job room    makes a step call that lends so many bytes, each a dot
@@ -15,14 +15,19 @@
 //     j place 0 0 job            changes the job
 //     w place 0 0 job            changes the pending job
 //     c place other              changes the record to the one at another place
+//     o, a line                  opens a session with this header, and shows the number of its refusal
+//     v room, a line             serves the line, and lends so many bytes, each a dot
+//     t                          puts the table into the session
+//     x lines                    makes it so many lines that the session has counted, the header among them
 mod commands;
 mod edits;
+mod sessions;
 
 use commands::Command;
+use engine::Reply;
 use libc::STDIN_FILENO;
 use libc::STDOUT_FILENO;
 use step::Outcome;
-use step::Reply;
 use table::Table;
 ghost use Prim.Native.Nat.{_≤_};
 ghost use lib.ListN.{length};
@@ -48,13 +53,13 @@ fn stepped(t: Table, form: u64, c: Command, report: &mut [u8]) -> Outcome {
         3 => step::snap(t, c.b),
         4 => step::update(t, c.b),
         5 => step::end(t, c.b, report),
-        LENT => board::step_owned(t, c.a, c.b, c.c, report),
+        LENT => lent_table::step_owned(t, c.a, c.b, c.c, report),
         _ => step::step(t, c.a, c.b, c.c, report),
     }
 }
 
 // Shows the buffer that a call has lent, and its reply.
-fn show(report: &[u8], r: Reply) {
+pub fn show(report: &[u8], r: Reply) {
     let refusal = r.refusal;
     text(report);
     number(b' ', refusal.number());
@@ -76,11 +81,11 @@ fn call(t: Table, form: u64, c: Command) -> Table {
     shown(t, form, c, &mut buffer[..n])
 }
 
-// Obeys a command.
+// Obeys a command on the table.
 fn obey(t: Table, form: u64, c: Command) -> Table {
     let letter = c.letter;
     match letter {
-        b'#' => t,
+        b'#' | b'o' | b'v' | b't' | b'x' => t,
         b'f' => Table::fresh(c.a as usize),
         b's' => call(t, form, c),
         b'n' => call(t, c.a, c),
@@ -88,19 +93,27 @@ fn obey(t: Table, form: u64, c: Command) -> Table {
     }
 }
 
+fn bad() {
+    text(b"\nbad command\n");
+}
+
 // Obeys the lines of a file, up to a bad one.
 fn run(form: u64, file: &[u8])
     requires { ⌜ length (now file) ≤ 65536 ⌝ }
 {
     let mut t = Table::fresh(2);
+    let mut s = session::open(&file[..0]);
     let mut at = 0;
     while at < file.len() {
         let end = bytes::scan::find(file, at, file.len(), 10);
+        if end == file.len() {
+            return bad();
+        }
         let c = commands::read(file[at], &file[at..end]);
         if c.letter == 0 {
-            text(b"\nbad command\n");
-            return;
+            return bad();
         }
+        s = sessions::obey(s, t, c, &file[at..end + 1]);
         t = obey(t, form, c);
         at = end + 1;
     }

@@ -1,13 +1,12 @@
 -- What a move makes of each array is what the machine makes of the state that they hold, written down.
 use Prim.Native.Nat.{ℕ, suc, _-_, _≤_, _<_}
-use native.Mathlib.Nat.{zero-add}
 use native.Mathlib.Omega.{arith}
 use native.Mathlib.Decide.{decLt}
 use mathlib.Core.Path.{_≡_, refl, sym, ap, ap₂, _∙_}
 use mathlib.Core.Logic.{_≢_, by-cases}
 use mathlib.Core.Bool.{Bool, true, false, cond}
 use mathlib.Core.List as Lists
-use mathlib.Core.List.{[], _∷_, _++_, map}
+use mathlib.Core.List.{[], _∷_, map}
 use lib.ListN.{length, getD, set, replicate, length-map, List·getD-map, List·getD-eq-default, List·getD-append}
 use lib.Seq.{set-getD}
 use lib.Dec.{eqb, ltb}
@@ -18,15 +17,15 @@ use Rattle.label.specs.Labels as Labels
 use Rattle.label.specs.Labels.{newLabel}
 use Rattle.label.specs.Rows.{digit, row}
 use Rattle.label.proofs.RowLaws.{row-digit}
-use Rattle.rows.specs.Held.{held, standsIn, pendingIn}
+use Rattle.rows.specs.Held.{pendingIn}
 use Rattle.simulation.specs.Calls as Calls
-use Rattle.simulation.specs.Calls.{Label, Scan, Phase, Idle, Update, Snap, End, Entry, entry, Process, Rest, Move, reportLines}
+use Rattle.simulation.specs.Calls.{Label, Scan, Idle, Update, Snap, End, Entry, entry, Process, Rest, Move, reportLines}
 use Rattle.simulation.specs.Machine.{Labelling, digits, stands, pendingAfter, LabelStep, stay, snap, update, labelStep, relabelled, inPhase, begun, updated}
-use Rattle.simulation.specs.Machine.{changed, scanOf, carryOut, State, moved}
+use Rattle.simulation.specs.Machine.{changed, scanOf, carryOut, moved}
 use Rattle.simulation.proofs.Labellings.{here-yes}
 use Rattle.simulation.proofs.Judged.{Inside}
 use Rattle.moves.specs.Moves.{numberOf}
-use Rattle.arrays.specs.Arrays.{Rows, Planes, Arrays, arrays, cell, planes, phaseNumber, resultRows, resultOf, rowsAt, labelRow, restOf, stateOf, jobsOf}
+use Rattle.arrays.specs.Arrays.{Rows, Arrays, arrays, cell, planes, phaseNumber, resultRows, resultOf, restOf, stateOf, jobsOf}
 use Rattle.arrays.specs.Arrays.{arraysOf}
 use Rattle.arrays.specs.WellFormed.{wellFormed}
 use Rattle.arrays.specs.Sizes.{Shaped}

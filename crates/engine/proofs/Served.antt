@@ -2,19 +2,18 @@
 use Prim.Native.Nat.{ℕ, _-_, _*_, _≤_, _<_}
 use native.Mathlib.Omega.{arith}
 use mathlib.Core.Path.{_≡_, refl, sym, ap, subst, _∙_}
-use mathlib.Core.Bool.{Bool, true, false, cond, true≢false}
+use mathlib.Core.Bool.{Bool, true, false, true≢false}
 use mathlib.Core.List as Lists
 use mathlib.Core.List.{[]}
 use lib.ListN.{length, getD}
 use borrow.Author.Tests.{leb-true}
 use Rattle.basics.specs.Tests.{within, newest}
-use Rattle.basics.proofs.Facts.{within-true}
 use Rattle.rows.specs.Held.{standsIn, Orderly}
 use Rattle.rows.proofs.OrderLaws.{listed-below, order-front}
 use Rattle.simulation.specs.Calls as Calls
 use Rattle.simulation.specs.Calls.{Call, place, judgeIn, judge, reportLines}
 use Rattle.simulation.specs.Machine as Machine
-use Rattle.simulation.specs.Machine.{original, digits, labelStep, moved, step}
+use Rattle.simulation.specs.Machine.{digits, labelStep, moved, step}
 use Rattle.simulation.proofs.Judged.{Verdict, turned, begins, updates, snaps, ends, judge-stranger, verdict, Inside}
 use Rattle.transition.specs.Forms.{Answer, refuse, over, answered, stepOf}
 use Rattle.transition.specs.Sequences.{Steps}
@@ -109,7 +108,7 @@ module _ (a : Arrays) (ok : wellFormed a ≡ true) (q : Request) (room top : ℕ
   }
 
   -- the move is the one that the machine judges
-  judged : moveOf (x .place) (x .job) (x .action) ≡ judge (a .count) (restOf a) c
+  pub judged : moveOf (x .place) (x .job) (x .action) ≡ judge (a .count) (restOf a) c
   judged = ap (λ v. moveOf (x .place) v (x .action)) (j .job) ∙ j .action ∙ go (within 1 (a .count) (q .station)) refl
     where
       go : (b : Bool) → within 1 (a .count) (q .station) ≡ b → judgeIn (a .count) ph c ≡ judge (a .count) (restOf a) c

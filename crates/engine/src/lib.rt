@@ -12,7 +12,7 @@ ghost use Rattle.transition.specs.Forms.{over};
 ghost use Rattle.transition.specs.Sequences.{Steps};
 ghost use Rattle.moves.specs.Moves.{refusalNumber, phaseOf, moveOf, kindOf};
 ghost use Rattle.moves.specs.declared.Move.the-variants.{BeginLabel, SnapLabel, SnapScan, EndScan};
-ghost use Rattle.arrays.specs.Arrays.{arrays, phaseFor, phaseNumber, resultOf};
+ghost use Rattle.arrays.specs.Arrays.{arrays, phaseFor, resultOf};
 ghost use Rattle.arrays.specs.WellFormed.{wellFormed};
 ghost use Rattle.arrays.specs.Form.{lent};
 ghost use Rattle.engine.specs.Stores.{orderOf, scanRows, labelsAfter, jobsAfter, resultsAfter, phaseAfter};

@@ -1,4 +1,4 @@
 pub mod LineLaws
 pub mod ChunkLaws
-pub mod Cuts
-pub mod FileTheorem
+pub mod FileLaws
+pub mod Demand

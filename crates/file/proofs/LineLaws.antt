@@ -1,117 +1,191 @@
--- A step line served on the parts of a table that is reached from a fresh one.
-use Prim.Native.Nat.{ℕ, _≤_, _<_}
+-- A step line, served on a table that calls leave of the fresh one: carrying out its task is the step call, the table left is such a table again, and its
+-- labels in order are told from those before.
+use Prim.Native.Nat.{ℕ, _-_, _≤_, _<_}
 use native.Mathlib.Omega.{arith}
 use mathlib.Core.Path.{_≡_, refl, sym, ap, subst, _∙_}
 use mathlib.Core.Logic.{_≢_}
 use mathlib.Core.Bool.{true, false}
 use mathlib.Core.List as Lists
-use mathlib.Core.List.{[]}
-use lib.ListN.{length, replicate, getD-replicate}
+use mathlib.Core.List.{[], _∷_, _++_}
+use lib.ListN.{length, getD, replicate}
+use types.Run.{OneOf, miss}
+use denote.Enum.Declared.{tagOf}
 use borrow.Author.Tests.{eq-eqb, ne-eqb}
-use Rattle.label.specs.Rows.{digit}
-use Rattle.rows.specs.Held.{Orderly, OrderedBefore}
-use Rattle.simulation.specs.Calls as Calls
-use Rattle.simulation.specs.Calls.{Call, reportLines}
-use Rattle.table.specs.Tables.{freshTable}
-use Rattle.table.specs.WellFormed.{wellFormed}
-use Rattle.transition.specs.Steps.{stepOf}
-use Rattle.transition.specs.Records.{hands}
-use Rattle.transition.proofs.Stores.{is-refused}
-use Rattle.transition.proofs.ReachedTables.{ReachedTable, table-passes, table-shaped, table-step, table-fresh}
-use Rattle.table.proofs.Shapes.{Shaped}
-use Rattle.moves.specs.Moves.{refusalNumber, moveOf, kindOf, called}
-use Rattle.step.specs.Contracts.{over, Steps}
-use Rattle.parts.specs.Parts.{Parts, parts, freshRow, freshParts, assembled, orderOf, isUpdate, Ready, Carries}
-use Rattle.parts.proofs.PartLaws.{update-kind, Judged, counted, parts-orderly, inside, asked, served}
-use Rattle.parts.proofs.Fresh.{fresh-parts, fresh-sized}
-use Rattle.file.specs.Files.{printed}
-use Rattle.file.specs.Contracts.{Runnable, Prints}
-use Rattle.step.specs.declared.Reply.{Reply}
+use Rattle.basics.specs.Tests.{newest, ordered}
+use Rattle.label.specs.Labels as Labels
+use Rattle.label.specs.Labels.{labelBefore}
+use Rattle.rows.specs.Held.{standsIn, Orderly, OrderedBefore}
+use Rattle.rows.proofs.OrderLaws.{order-front, orderly-total, last-newest}
+use Rattle.simulation.specs.Calls.{Call, Rest, reportLines}
+use Rattle.simulation.specs.Machine.{original, digits, Labelling, labelStep, relabelled, carryOut, State, step, moved}
+use Rattle.simulation.proofs.Touched.{touched, labels-kept}
+use Rattle.transition.specs.Forms.{Form, over, freshTable, stepOf, after}
+use Rattle.transition.specs.Sequences.{Steps}
+use Rattle.transition.proofs.Reached.{Reached}
+use Rattle.transition.proofs.Theorem.{reached-held, reached-next, ReachedTable, table-fresh, table-count, table-passes, table-step, table-after}
+use Rattle.moves.specs.Moves.{refusalNumber, moveOf}
+use Rattle.moves.proofs.Move.{the-type}
 use Rattle.moves.specs.declared.Move.{Move}
+use Rattle.moves.specs.declared.Move.the-variants.{Update}
+use Rattle.arrays.specs.Arrays.{Arrays, stateOf, arraysOf}
+use Rattle.arrays.specs.WellFormed.{wellFormed}
+use Rattle.arrays.specs.Form.{lent}
+use Rattle.arrays.proofs.States.{lent-lawful}
+use Rattle.engine.specs.Stores.{orderOf}
+use Rattle.engine.specs.Contracts.{callOf, actionOf, Ready, doneOf, Carries, Judges}
+use Rattle.engine.proofs.Stays.{by-move}
+use Rattle.engine.proofs.Served as Served
+use Rattle.engine.proofs.Served.{orderly, ready, judged, served}
+use Rattle.engine.specs.declared.Reply.{Reply}
+use Rattle.engine.specs.declared.Request.{Request}
+use Rattle.engine.specs.declared.Task.{Task}
+use Rattle.schedule.specs.Files.{printed}
+use Rattle.file.specs.Contracts.{Runnable, Prints}
 
-module _ {p : Parts} {order : Lists.List ℕ} (f : Runnable p order) where
-  pub run-counted : (2 ≤ p .count) × (p .count ≤ 32)
-  run-counted = counted p (table-passes (assembled p) (f .reached))
+-- one call more
+after-more : (F : Form) (cs : Lists.List Call) (c : Call) (t : F .Table) → after F t (cs ++ (c ∷ [])) ≡ stepOf F (after F t cs) c .table
+unfolding after
+after-more F [] c t = refl
+after-more F (d ∷ cs) c t = after-more F cs c (stepOf F t d .table)
 
-  module _ (line code station job k : ℕ) (m : Move) (J : Judged p code station job 928 k m) where
-    abbrev w : Calls.Move
-    w = moveOf k job m
+-- the order of n stations by their labels
+abbrev orderBy : ℕ → (ℕ → Labels.Label) → Lists.List ℕ
+orderBy n l = ordered n (λ i j. labelBefore (n - 1) (l i) i (l j) j) ++ replicate (32 - n) 0
 
-    ok : wellFormed (assembled p) ≡ true
-    ok = table-passes (assembled p) (f .reached)
+-- a move with one of these tags is no update
+abbrev Other : Move → Type 0
+Other m = OneOf (0 ∷ 1 ∷ 2 ∷ 3 ∷ 4 ∷ 6 ∷ 7 ∷ []) (tagOf the-type m)
 
-    g₀ : Shaped (assembled p)
-    g₀ = table-shaped (assembled p) (f .reached)
+pub no-update : (m : Move) → Other m → m ≢ Update
+no-update m h e = miss (0 ∷ 1 ∷ 2 ∷ 3 ∷ 4 ∷ 6 ∷ 7 ∷ []) 5 tt (subst Other e h)
 
-    pub line-place : k < p .count
-    line-place = inside p (f .sized) ok g₀ line code station job 928 k m J
+-- what a move does not touch, and what a refused one reports
+untouched : (k job i : ℕ) → i ≢ k → (m : Move) → touched (moveOf k job m) i ≡ false
+untouched k job i d = let e = ne-eqb i k d in by-move (λ m. touched (moveOf k job m) i ≡ false) (λ x. refl) e e e e e e e
 
-    pub line-ready : (room : ℕ) → room ≡ 928 → Ready p k job m order room
-    line-ready room x = let a = asked p (f .sized) ok g₀ line code station job 928 k m J in record {
-      inside = line-place;
-      sized = f .sized;
-      passed = ok;
-      jobFits = a .0;
-      isOrder = λ _. f .isOrder;
-      hasRoom = λ y. rw x (a .1 y);
-    }
+labels-same : (n k job : ℕ) (l : Labelling Labels.Label) (m : Move) → m ≢ Update → relabelled n (digits n) l (labelStep (moveOf k job m)) false ≡ l false
+unfolding relabelled
+labels-same n k job l = by-move (λ m. m ≢ Update → relabelled n (digits n) l (labelStep (moveOf k job m)) false ≡ l false)
+    (λ x d. refl) (λ d. refl) (λ d. refl) (λ d. refl) (λ d. refl) (λ d. absurd (d refl)) (λ d. refl) (λ d. refl)
 
-    module _ {buffer : Lists.List ℕ} {p′ : Parts} {r : Reply} {buffer′ : Lists.List ℕ} (n : p′ .count ≡ p .count) (g : Carries p k w line buffer p′ r buffer′) where
-      abbrev c : Call
-      c = called line code station job 928
+nothing-told : (order : Lists.List ℕ) (o : Rest) (line k job : ℕ) (m : Move) → carryOut order o (moveOf k job m) .refusal ≢ 0
+    → reportLines line 1 (carryOut order o (moveOf k job m) .handed) ≡ []
+unfolding carryOut reportLines
+nothing-told order o line k job =
+    by-move (λ m. carryOut order o (moveOf k job m) .refusal ≢ 0 → reportLines line 1 (carryOut order o (moveOf k job m) .handed) ≡ [])
+    (λ x d. refl) no no no no no no no
+  where
+    no : {l : Lists.List ℕ} → _≢_ {A = ℕ} 0 0 → l ≡ []
+    no d = absurd (d refl)
 
-      steps : Steps (assembled p) c buffer (assembled p′) r buffer′
-      steps = served p (f .sized) ok g₀ line code station job 928 k m J g
+module _ {a : Arrays} {order : Lists.List ℕ} (f : Runnable a order) where
+  abbrev n : ℕ
+  n = a .count
 
-      -- the table is reached again, so its labels are in order; that order is the same unless the move is an update
-      line-reached : ReachedTable (assembled p′)
-      line-reached = subst ReachedTable (sym (steps .table)) (table-step (assembled p) (f .reached) c)
+  pub run-reached : ReachedTable lent n a
+  run-reached = subst (ReachedTable lent n) (sym (f .reached))
+      (table-after lent lent-lawful n (f .low) (f .high) (f .calls) (freshTable lent n) (table-fresh lent lent-lawful n (f .low) (f .high)))
 
-      pub line-orderly : Orderly (p′ .count) (p′ .labels)
-      line-orderly = parts-orderly p′ (g .sized) (table-passes (assembled p′) line-reached)
+  pub run-passes : wellFormed a ≡ true
+  run-passes = table-passes lent lent-lawful n (f .low) (f .high) a run-reached
 
-      -- all labels but one are those before
-      pub line-before : OrderedBefore (p′ .count) (p′ .labels) k order
-      line-before = rw n (record {
-        old = p .labels;
-        orderly = parts-orderly p (f .sized) ok;
-        others = λ i _ d. ap digit (sym (g .others i d));
+  holds : Reached n (stateOf a)
+  holds = let r = run-reached in
+      subst (Reached n) (sym (ap stateOf (r .holds) ∙ reached-held lent lent-lawful n (f .low) (f .high) (r .reached))) (r .reached)
+
+  pub run-orderly : Orderly n (getD (a .labels) 0 [])
+  run-orderly = orderly a run-passes
+
+  -- the order lists the newest station last
+  pub run-newest : getD order (n - 1) 0 ≡ newest n (standsIn n (getD (a .labels) 0 []))
+  run-newest = last-newest n _ order (orderly-total n _ run-orderly) (omega (arith, f .low)) (order-front 32 _ n order (f .isOrder))
+
+  module _ {q : Request} {x : Task} (j : Judges n (a .control) q 928 (getD order (n - 1) 0) x) where
+    abbrev c : Call
+    c = callOf q 928
+
+    pub line-place : x .place < n
+    line-place = Served.inside a run-passes q 928 _ x j
+
+    pub line-ready : {room : ℕ} → room ≡ 928 → Ready a x order room
+    line-ready e = subst (Ready a x order) (sym e) (ready a run-passes q 928 _ x j order refl refl refl (λ _. j .newest ∙ run-newest) (λ _. f .isOrder))
+
+    module _ {buffer : Lists.List ℕ} {a′ : Arrays} {r : Reply} {buffer′ : Lists.List ℕ} (g : Carries a x buffer a′ r buffer′) where
+      steps : Steps lent a c buffer a′ (refusalNumber (r .refusal)) (r .written) buffer′
+      steps = served a run-passes q 928 _ x j refl refl refl refl g
+
+      line-reached : ReachedTable lent n a′
+      line-reached = subst (ReachedTable lent n) (sym (steps .table)) (table-step lent lent-lawful n (f .low) (f .high) a run-reached c)
+
+      same-count : a′ .count ≡ n
+      same-count = table-count lent lent-lawful n (f .low) (f .high) a′ line-reached
+
+      -- the labels left are those that the machine leaves
+      done : doneOf a x .state ≡ step original n (digits n) (stateOf a) c .state
+      unfolding step
+      done = ap (λ w. moved n (digits n) (stateOf a) (x .line) w .state) (judged a run-passes q 928 _ x j)
+
+      line-labels : stateOf a′ .labels false ≡ relabelled n (digits n) (stateOf a .labels) (labelStep (actionOf x)) false
+      line-labels =
+          let e : stateOf (arraysOf n (doneOf a x .state)) ≡ doneOf a x .state = subst (λ (s : State Labels.Label). stateOf (arraysOf n s) ≡ s) (sym done)
+          (reached-held lent lent-lawful n (f .low) (f .high) (reached-next lent lent-lawful n (f .low) (f .high) holds c)) in
+          ap (λ (s : State Labels.Label). s .labels false) (ap stateOf (g .table) ∙ e)
+
+      pub line-orderly : Orderly (a′ .count) (getD (a′ .labels) 0 [])
+      line-orderly = orderly a′ (table-passes lent lent-lawful n (f .low) (f .high) a′ line-reached)
+
+      pub line-before : OrderedBefore (a′ .count) (getD (a′ .labels) 0 []) (x .place) order
+      line-before = rw same-count (record {
+        old = getD (a .labels) 0 [];
+        orderly = run-orderly;
+        others = λ i _ d. sym (ap (λ l. l i) line-labels
+            ∙ labels-kept n (digits n) (stateOf a .labels) (actionOf x) i (untouched (x .place) (x .job) i d (x .action)) false);
         listed = f .isOrder;
       })
 
-      pub line-kept : isUpdate (kindOf m) ≡ false → order ≡ orderOf (p′ .count) (p′ .labels)
-      line-kept x = f .isOrder ∙ rw (n, g .labels (update-kind k job m ∙ x)) refl
+      pub line-kept : x .action ≢ Update → order ≡ orderOf (a′ .count) (getD (a′ .labels) 0 [])
+      line-kept d = rw same-count
+          (f .isOrder ∙ ap (orderBy n) (sym (line-labels ∙ labels-same n (x .place) (x .job) (stateOf a .labels) (x .action) d)))
 
-      pub line-reordered : {order′ : Lists.List ℕ} → order′ ≡ orderOf (p′ .count) (p′ .labels) → Runnable p′ order′
-      line-reordered x = record { sized = g .sized; phased = g .phased (f .phased); reached = line-reached; isOrder = x }
+      pub line-runnable : {order′ : Lists.List ℕ} → order′ ≡ orderOf (a′ .count) (getD (a′ .labels) 0 []) → Runnable a′ order′
+      line-runnable e = record {
+        low = omega (arith, same-count, f .low);
+        high = omega (arith, same-count, f .high);
+        calls = f .calls ++ (c ∷ []);
+        reached = steps .table ∙ ap (λ t. stepOf lent t c .table) (f .reached) ∙ sym (after-more lent (f .calls) c (freshTable lent n))
+            ∙ ap (λ k. after lent (freshTable lent k) (f .calls ++ (c ∷ []))) (sym same-count);
+        isOrder = e;
+      }
 
       -- what an accepted line prints, and a refused one
-      pub line-accepted : refusalNumber (r .refusal) ≡ 0 → Prints p c buffer p′ (r .written) buffer′
-      line-accepted x = let y : stepOf (assembled p) c .refusal ≡ 0 = sym (steps .refusal) ∙ x in
-          record { table = steps .table; written = rw (eq-eqb _ 0 y) (steps .written); report = rw (eq-eqb _ 0 y) (steps .report) }
+      pub line-accepted : refusalNumber (r .refusal) ≡ 0 → Prints a c buffer a′ (r .written) buffer′
+      line-accepted z = let y : stepOf lent a c .refusal ≡ 0 = sym (steps .number) ∙ z in
+          record { table = steps .table; count = rw (eq-eqb _ 0 y) (steps .count); report = rw (eq-eqb _ 0 y) (steps .report) }
 
-      pub line-refused : refusalNumber (r .refusal) ≢ 0 → {m : ℕ} {buffer″ : Lists.List ℕ} → m ≡ length (printed line (refusalNumber (r .refusal)) [])
-          → buffer″ ≡ over (printed line (refusalNumber (r .refusal)) []) buffer′ → Prints p c buffer p′ m buffer″
-      line-refused x a b =
-          let y : stepOf (assembled p) c .refusal ≢ 0 = λ z. x (steps .refusal ∙ z) in
-          let none : hands w ≡ false = ap hands (is-refused w (λ z. x (g .refusal ∙ z))) in
-          let same : buffer′ ≡ buffer = g .report ∙ rw none (unfold reportLines in refl) in
-          let short : printed line (refusalNumber (r .refusal)) [] ≡ printed line (stepOf (assembled p) c .refusal) (stepOf (assembled p) c .bytes) =
-          ap (λ (z : ℕ). printed line z []) (steps .refusal) ∙ rw (ne-eqb _ 0 y) refl in
-          record { table = steps .table; written = a ∙ ap length short; report = b ∙ (λ i. over (short i) (same i)) }
+      pub line-refused : refusalNumber (r .refusal) ≢ 0 → {m : ℕ} {buffer″ : Lists.List ℕ} → m ≡ length (printed (q .line) (refusalNumber (r .refusal)) [])
+          → buffer″ ≡ over (printed (q .line) (refusalNumber (r .refusal)) []) buffer′ → Prints a c buffer a′ m buffer″
+      line-refused z e b =
+          let y : stepOf lent a c .refusal ≢ 0 = λ w. z (steps .number ∙ w) in
+          let none : doneOf a x .bytes ≡ [] = nothing-told _ _ (x .line) (x .place) (x .job) (x .action) (λ w. z (g .number ∙ w)) in
+          let same : buffer′ ≡ buffer = g .report ∙ ap (λ l. over l buffer) none in
+          let short : printed (q .line) (refusalNumber (r .refusal)) [] ≡ printed (q .line) (stepOf lent a c .refusal) (stepOf lent a c .bytes)
+          = ap (λ (w : ℕ). printed (q .line) w []) (steps .number) ∙ rw (ne-eqb _ 0 y) refl in
+          record { table = steps .table; count = e ∙ ap length short; report = b ∙ (λ i. over (short i) (same i)) }
 
--- the parts of the fresh table are such parts
-module _ (n : ℕ) (low : 2 ≤ n) (high : n ≤ 32) where
-  fresh-reached : ReachedTable (assembled (freshParts n))
-  fresh-reached = subst ReachedTable (sym (fresh-parts n)) (table-fresh n low high)
+-- the fresh table is one
+module _ (n : ℕ) (low : 2 ≤ n) (high : n ≤ 32) {a : Arrays} (e : a ≡ freshTable lent n) where
+  fresh-count : a .count ≡ n
+  fresh-count = ap (λ (t : Arrays). t .count) e ∙ lent-lawful .counted n _
 
-  pub fresh-orderly : Orderly n (freshParts n .labels)
-  fresh-orderly = parts-orderly (freshParts n) (fresh-sized n) (table-passes (assembled (freshParts n)) fresh-reached)
+  pub fresh-orderly : Orderly (a .count) (getD (a .labels) 0 [])
+  fresh-orderly = orderly a (ap wellFormed e ∙ table-passes lent lent-lawful n low high (freshTable lent n) (table-fresh lent lent-lawful n low high))
 
-  pub fresh-runnable : {row order : Lists.List ℕ} → row ≡ freshRow n → order ≡ orderOf n (freshParts n .labels)
-      → Runnable (parts n (freshParts n .labels) (freshParts n .jobs) (freshParts n .pendingLabels) (freshParts n .pendingJobs) (replicate 32 row) (freshParts n .resultJobs) (freshParts n .phases)) order
-  fresh-runnable e o = rw e (record { sized = fresh-sized n; phased = λ i l. omega (arith, getD-replicate {A = ℕ} 32 i 0 0 l); reached = fresh-reached; isOrder = o })
-
-  pub fresh-assembled : {row : Lists.List ℕ} → row ≡ freshRow n
-      → assembled (parts n (freshParts n .labels) (freshParts n .jobs) (freshParts n .pendingLabels) (freshParts n .pendingJobs) (replicate 32 row) (freshParts n .resultJobs) (freshParts n .phases)) ≡ freshTable n
-  fresh-assembled e = rw e (fresh-parts n)
+  pub fresh-runnable : {order : Lists.List ℕ} → order ≡ orderOf (a .count) (getD (a .labels) 0 []) → Runnable a order
+  unfolding after
+  fresh-runnable o = record {
+    low = omega (arith, fresh-count, low);
+    high = omega (arith, fresh-count, high);
+    calls = [];
+    reached = e ∙ ap (freshTable lent) (sym fresh-count);
+    isOrder = o;
+  }

@@ -1,23 +1,35 @@
-// A schedule file, served a part at a time on a table that is taken apart, and what its lines print.
+// Schedule files on the engine: the lines of a part of a file, and a whole file with its report.
 ghost use mathlib.Core.Path.{_≡_};
-ghost use mathlib.Core.Bool.{false};
+ghost use mathlib.Core.Logic.{_≢_};
 ghost use mathlib.Core.List.{[]};
-ghost use Prim.Native.Nat.{_+_, _*_, _≤_, _<_};
+ghost use Prim.Native.Nat.{_+_, _≤_, _<_};
 ghost use lib.ListN.{length, take, drop};
-ghost use Rattle.moves.specs.Moves.{refusalNumber, kindOf, called};
-ghost use Rattle.moves.specs.declared.Refusal.the-variants.{Accepted};
-ghost use Rattle.step.specs.Contracts.{over};
+ghost use borrow.Rule.Slice.PartMut.{putMid};
 ghost use Rattle.rows.specs.Held.{Orderly, OrderedBefore};
-ghost use Rattle.table.specs.Tables.{freshTable};
-ghost use Rattle.parts.specs.Parts.{parts, assembled, orderOf, isUpdate};
+ghost use Rattle.transition.specs.Forms.{over, freshTable};
+ghost use Rattle.moves.specs.Moves.{refusalNumber};
+ghost use Rattle.moves.specs.declared.Refusal.the-variants.{Accepted};
+ghost use Rattle.moves.specs.declared.Move.the-variants.{Update};
+ghost use Rattle.arrays.specs.Arrays.{arrays};
+ghost use Rattle.arrays.specs.Form.{lent};
+ghost use Rattle.engine.specs.Stores.{orderOf};
+ghost use Rattle.engine.specs.Contracts.{callOf};
 ghost use Rattle.schedule.specs.Sessions.{session};
-ghost use Rattle.file.specs.Files.{cut, pieces, printed, headerPrinted, runLines, fileReport};
-ghost use Rattle.file.specs.Contracts.{Runnable, Prints, Reports};
+ghost use Rattle.schedule.specs.Files.{cut, pieces, printed, runLines};
+ghost use Rattle.file.specs.Contracts.{Runnable, Prints, Reports, ReportsAll, ReportsFile};
+use arrays::Control;
+use arrays::Jobs;
+use arrays::Labels;
+use arrays::Results;
+use engine::Reply;
+use engine::Request;
 use moves::Move;
 use moves::Refusal;
+use schedule::Header;
 use schedule::Line;
-use schedule::Session;
-use schedule::next_line;
+
+// The most bytes that a line prints: 32 report lines of 29.
+const ROOM: usize = 928;
 
 // What the lines of a part of the file leave beside the table and the output buffer: how many lines are counted, the final refusal if there is one, the
 // bytes of the part that were read, and the bytes that were printed.
@@ -28,17 +40,17 @@ pub struct Progress {
     pub written: usize,
 }
 
-// Writes the refusal line of the line that follows `lines` others to the front of `out`, and nothing for no refusal; hands back its bytes.
-fn print_refusal(lines: u32, refusal: Refusal, out: &mut [u8]) -> usize
+// Writes the refusal line that bears the number `line` to the front of `out`, and nothing for no refusal; hands back its bytes.
+pub fn print_refusal(line: u64, refusal: Refusal, out: &mut [u8]) -> usize
     requires { ⌜ 29 ≤ length (now out) ⌝ }
-    ensures { λ r. ⌜ r ≡ length (printed (lines + 1) (refusalNumber refusal) []) ⌝ }
-    ensures { λ _. ⌜ now (out .exit) ≡ over (printed (lines + 1) (refusalNumber refusal) []) (now (out .entry)) ⌝ }
+    ensures { λ r. ⌜ r ≡ length (printed line (refusalNumber refusal) []) ⌝ }
+    ensures { λ _. ⌜ now (out .exit) ≡ over (printed line (refusalNumber refusal) []) (now (out .entry)) ⌝ }
 {
     let k = refusal.number();
     if k == 0 {
         return 0;
     }
-    columns::write_report_line(&mut out[0..29], lines as u64 + 1, k, 0, 0, 0);
+    columns::write_report_line(&mut out[0..29], line, k, 0, 0, 0);
     29
 }
 
@@ -62,92 +74,49 @@ fn from(file: &[u8], at: usize) -> &[u8]
     &file[at..]
 }
 
-// Writes what the header prints, and hands back its bytes.
-pub fn report_header(s: Session, out: &mut [u8]) -> usize
-    requires { ⌜ 29 ≤ length (now out) ⌝ }
-    ensures { λ r. ⌜ r ≡ length (headerPrinted s) ⌝ }
-    ensures { λ _. ⌜ now (out .exit) ≡ over (headerPrinted s) (now (out .entry)) ⌝ }
-{
-    let refusal = s.refusal;
-    print_refusal(0, refusal, out)
-}
-
-// Whether a move is an update, which gives a station another label.
-fn is_update(m: Move) -> bool
-    ensures { λ r. ⌜ r ≡ isUpdate (kindOf m) ⌝ }
+// Brings the scan order up to date after a move of the station at a place. Only an update can change it.
+fn refresh_order(m: Move, place: usize, rows: &[[u8; 31]; 32], n: usize, order: &mut [usize; 32])
+    requires { ⌜ Orderly n (now rows) ⌝ }
+    requires { ⌜ place < n ⌝ }
+    requires { ⌜ OrderedBefore n (now rows) place (now order) ⌝ }
+    requires { ⌜ (m ≢ Update → now order ≡ orderOf n (now rows)) ⌝ }
+    ensures { λ _. ⌜ now (order .exit) ≡ orderOf n (now (rows .entry)) ⌝ }
 {
     match m {
-        Move::Refused(_) => false,
-        Move::BeginLabel => false,
-        Move::BeginScan => false,
-        Move::SnapLabel => false,
-        Move::SnapScan => false,
-        Move::Update => true,
-        Move::EndLabel => false,
-        Move::EndScan => false,
+        Move::Update => {
+            rows::order::reorder(rows, n, order, place);
+        }
+        _ => {}
     }
 }
 
-// Brings the scan order up to date after a move of the station at a place. Only an update can change it.
-fn refresh(updated: bool, labels: &[[u8; 31]; 32], n: usize, order: &mut [usize; 32], place: usize)
-    requires { ⌜ Orderly n (now labels) ⌝ }
-    requires { ⌜ place < n ⌝ }
-    requires { ⌜ OrderedBefore n (now labels) place (now order) ⌝ }
-    requires { ⌜ (updated ≡ false → now order ≡ orderOf n (now labels)) ⌝ }
-    ensures { λ _. ⌜ now (order .exit) ≡ orderOf n (now (labels .entry)) ⌝ }
-{
-    if updated {
-        rows::order::reorder(labels, n, order, place);
-    }
-}
-
-// Serves the step line that follows `lines` others: prints its report or its refusal to the front of `out`, and hands back its bytes.
+// Serves a step line: prints its report or its refusal to the front of `out`, and hands back its bytes.
 fn serve_line(
-    lines: u32,
-    station: u64,
-    code: u64,
-    job: u64,
     n: usize,
+    request: Request,
     order: &mut [usize; 32],
-    labels: &mut [[u8; 31]; 32],
-    jobs: &mut [u32; 32],
-    pending_labels: &mut [[u8; 31]; 32],
-    pending_jobs: &mut [u32; 32],
-    result_stations: &mut [[u8; 32]; 32],
-    result_jobs: &mut [[u32; 32]; 32],
-    phases: &mut [u8; 32],
+    labels: &mut Labels,
+    jobs: &mut Jobs,
+    control: &mut Control,
+    results: &mut Results,
     out: &mut [u8],
 ) -> usize
-    requires { ⌜ Runnable (parts n (now labels) (now jobs) (now «pending_labels») (now «pending_jobs») (now «result_stations») (now «result_jobs») (now phases)) (now order) ⌝ }
+    requires { ⌜ Runnable (arrays n (now labels) (now jobs) (now control) (now results)) (now order) ⌝ }
     requires { ⌜ length (now out) ≡ 928 ⌝ }
-    ensures { λ r. ⌜ Prints (parts n (now (labels .entry)) (now (jobs .entry)) (now («pending_labels» .entry)) (now («pending_jobs» .entry)) (now («result_stations» .entry)) (now («result_jobs» .entry)) (now (phases .entry))) (called (lines + 1) code station job 928) (now (out .entry)) (parts n (now (labels .exit)) (now (jobs .exit)) (now («pending_labels» .exit)) (now («pending_jobs» .exit)) (now («result_stations» .exit)) (now («result_jobs» .exit)) (now (phases .exit))) r (now (out .exit)) ⌝ }
-    ensures { λ _. ⌜ Runnable (parts n (now (labels .exit)) (now (jobs .exit)) (now («pending_labels» .exit)) (now («pending_jobs» .exit)) (now («result_stations» .exit)) (now («result_jobs» .exit)) (now (phases .exit))) (now (order .exit)) ⌝ }
+    ensures { λ r. ⌜ Prints (arrays n (now (labels .entry)) (now (jobs .entry)) (now (control .entry)) (now (results .entry)))
+        (callOf request 928) (now (out .entry))
+        (arrays n (now (labels .exit)) (now (jobs .exit)) (now (control .exit)) (now (results .exit))) r (now (out .exit)) ⌝ }
+    ensures { λ _. ⌜ Runnable (arrays n (now (labels .exit)) (now (jobs .exit)) (now (control .exit)) (now (results .exit))) (now (order .exit)) ⌝ }
 {
-    let place = moves::place_of(station, n);
-    let p = parts::phase_of(phases[place]);
-    let m = moves::judge(n, p, code, station, job, 928);
-    let reply = parts::carry_out(
-        m,
-        place,
-        job,
-        lines as u64 + 1,
-        n,
-        order,
-        labels,
-        jobs,
-        pending_labels,
-        pending_jobs,
-        result_stations,
-        result_jobs,
-        phases,
-        out,
-    );
-    refresh(is_update(m), labels, n, order, place);
+    let task = engine::judge(n, request, control, ROOM, order[n - 1]);
+    let reply = engine::carry_out(n, task, order, labels, jobs, control, results, out);
+    let m = task.action;
+    refresh_order(m, task.place, &labels[0], n, order);
     let refusal = reply.refusal;
     if refusal.number() == 0 {
         return reply.written;
     }
-    print_refusal(lines, refusal, out)
+    print_refusal(request.line, refusal, out)
 }
 
 // Serves the lines of a part of the file after `lines` others, and writes what they print: up to a final refusal, or until there is no room for the report
@@ -156,25 +125,24 @@ pub fn report_lines(
     lines: u32,
     n: usize,
     order: &mut [usize; 32],
-    labels: &mut [[u8; 31]; 32],
-    jobs: &mut [u32; 32],
-    pending_labels: &mut [[u8; 31]; 32],
-    pending_jobs: &mut [u32; 32],
-    result_stations: &mut [[u8; 32]; 32],
-    result_jobs: &mut [[u32; 32]; 32],
-    phases: &mut [u8; 32],
+    labels: &mut Labels,
+    jobs: &mut Jobs,
+    control: &mut Control,
+    results: &mut Results,
     chunk: &[u8],
     out: &mut [u8],
 ) -> Progress
-    requires { ⌜ Runnable (parts n (now labels) (now jobs) (now «pending_labels») (now «pending_jobs») (now «result_stations») (now «result_jobs») (now phases)) (now order) ⌝ }
-    ensures { λ r. ⌜ Reports (session lines Accepted (assembled (parts n (now (labels .entry)) (now (jobs .entry)) (now («pending_labels» .entry)) (now («pending_jobs» .entry)) (now («result_stations» .entry)) (now («result_jobs» .entry)) (now (phases .entry))))) (now (chunk .entry)) (assembled (parts n (now (labels .exit)) (now (jobs .exit)) (now («pending_labels» .exit)) (now («pending_jobs» .exit)) (now («result_stations» .exit)) (now («result_jobs» .exit)) (now (phases .exit)))) r (now (out .entry)) (now (out .exit)) ⌝ }
-    ensures { λ _. ⌜ Runnable (parts n (now (labels .exit)) (now (jobs .exit)) (now («pending_labels» .exit)) (now («pending_jobs» .exit)) (now («result_stations» .exit)) (now («result_jobs» .exit)) (now (phases .exit))) (now (order .exit)) ⌝ }
+    requires { ⌜ Runnable (arrays n (now labels) (now jobs) (now control) (now results)) (now order) ⌝ }
+    ensures { λ r. ⌜ Reports
+        (session lines Accepted (arrays n (now (labels .entry)) (now (jobs .entry)) (now (control .entry)) (now (results .entry)))) (now (chunk .entry))
+        (arrays n (now (labels .exit)) (now (jobs .exit)) (now (control .exit)) (now (results .exit))) r (now (out .entry)) (now (out .exit)) ⌝ }
+    ensures { λ _. ⌜ Runnable (arrays n (now (labels .exit)) (now (jobs .exit)) (now (control .exit)) (now (results .exit))) (now (order .exit)) ⌝ }
 {
     let mut count = lines;
     let mut written = 0;
     let mut at = 0;
     while at < chunk.len() {
-        if out.len() - written < 928 {
+        if out.len() - written < ROOM {
             return Progress {
                 lines: count,
                 refusal: Refusal::Accepted,
@@ -183,9 +151,10 @@ pub fn report_lines(
             };
         }
         let line = line_at(chunk, at);
-        match next_line(count, line) {
+        let number = count as u64 + 1;
+        match schedule::next_line(count, line) {
             Line::Refused(refusal) => {
-                let k = print_refusal(count, refusal, &mut out[written..written + 928]);
+                let k = print_refusal(number, refusal, &mut out[written..written + ROOM]);
                 return Progress {
                     lines: count,
                     refusal,
@@ -194,21 +163,21 @@ pub fn report_lines(
                 };
             }
             Line::Step { station, code, job } => {
-                let k = serve_line(
-                    count,
-                    station,
+                let request = Request {
                     code,
+                    station,
                     job,
+                    line: number,
+                };
+                let k = serve_line(
                     n,
+                    request,
                     order,
                     labels,
                     jobs,
-                    pending_labels,
-                    pending_jobs,
-                    result_stations,
-                    result_jobs,
-                    phases,
-                    &mut out[written..written + 928],
+                    control,
+                    results,
+                    &mut out[written..written + ROOM],
                 );
                 count += 1;
                 written += k;
@@ -224,50 +193,171 @@ pub fn report_lines(
     }
 }
 
-// Serves the lines of a file after an accepted header, from the fresh table of n stations; hands back the bytes that they print.
-fn report_rest(n: usize, rest: &[u8], out: &mut [u8]) -> usize
-    requires { ⌜ (2 ≤ n) × (n ≤ 32) ⌝ }
-    requires { ⌜ 928 * pieces (now rest) ≤ length (now out) ⌝ }
-    ensures { λ r. ⌜ r ≡ length (runLines (session 1 Accepted (freshTable n)) (cut (pieces (now (rest .entry))) (now (rest .entry))) .bytes) ⌝ }
-    ensures { λ _. ⌜ now (out .exit) ≡ over (runLines (session 1 Accepted (freshTable n)) (cut (pieces (now (rest .entry))) (now (rest .entry))) .bytes) (now (out .entry)) ⌝ }
+// Copies bytes to as many others.
+fn copy(bytes: &[u8], out: &mut [u8])
+    requires { ⌜ length (now out) ≡ length (now bytes) ⌝ }
+    ensures { λ _. ⌜ now (out .exit) ≡ now (bytes .entry) ⌝ }
 {
-    let mut labels = [[1u8; 31]; 32];
-    let mut order = rows::order::order(&labels, n);
-    let mut jobs = [0u32; 32];
-    let mut pending_labels = [[1u8; 31]; 32];
-    let mut pending_jobs = [0u32; 32];
-    let mut result_stations = [parts::fresh_row(n); 32];
-    let mut result_jobs = [[0u32; 32]; 32];
-    let mut phases = [0u8; 32];
+    let mut i = 0;
+    while i < bytes.len() {
+        out[i] = bytes[i];
+        i += 1;
+    }
+}
+
+// Writes bytes to `out` from a place on, if they fit.
+fn put(bytes: &[u8], out: &mut [u8], at: usize)
+    ensures { λ _. ⌜ (at + length (now (bytes .entry)) ≤ length (now (out .entry))
+        → now (out .exit) ≡ putMid at (length (now (bytes .entry))) (now (out .entry)) (now (bytes .entry))) ⌝ }
+{
+    if out.len() < at {
+        return;
+    }
+    if out.len() - at < bytes.len() {
+        return;
+    }
+    copy(bytes, &mut out[at..at + bytes.len()]);
+}
+
+// Serves all lines of the rest of a file after `lines` others, whatever the room: hands back the final refusal, and how many bytes they print.
+fn report_rest(
+    lines: u32,
+    n: usize,
+    order: &mut [usize; 32],
+    labels: &mut Labels,
+    jobs: &mut Jobs,
+    control: &mut Control,
+    results: &mut Results,
+    rest: &[u8],
+    out: &mut [u8],
+) -> Reply
+    requires { ⌜ Runnable (arrays n (now labels) (now jobs) (now control) (now results)) (now order) ⌝ }
+    requires { ⌜ lines ≤ 1000001 ⌝ }
+    ensures { λ r. ⌜ ReportsAll (runLines lent
+        (session lines Accepted (arrays n (now (labels .entry)) (now (jobs .entry)) (now (control .entry)) (now (results .entry))))
+        (cut (pieces (now (rest .entry))) (now (rest .entry)))) (now (rest .entry)) r (now (out .entry)) (now (out .exit)) ⌝ }
+    ensures { λ r. ⌜ r .written ≤ 1000000000 ⌝ }
+{
+    let mut scratch = [0u8; 4096];
+    let mut count = lines;
+    let mut written = 0;
+    let mut at = 0;
+    while at < rest.len() {
+        let r = report_lines(
+            count,
+            n,
+            order,
+            labels,
+            jobs,
+            control,
+            results,
+            from(rest, at),
+            &mut scratch,
+        );
+        let k = r.written;
+        put(&scratch[..k], out, written);
+        written += k;
+        let refusal = r.refusal;
+        if refusal.number() != 0 {
+            return Reply { refusal, written };
+        }
+        count = r.lines;
+        at += r.read;
+    }
+    Reply {
+        refusal: Refusal::Accepted,
+        written,
+    }
+}
+
+// Serves all lines after an accepted header, from the fresh table of n stations: straight into `out` while it has room for another line's report.
+fn report_steps(n: usize, rest: &[u8], out: &mut [u8]) -> Reply
+    requires { ⌜ (2 ≤ n) × (n ≤ 32) ⌝ }
+    ensures { λ r. ⌜ ReportsAll (runLines lent (session 1 Accepted (freshTable lent n)) (cut (pieces (now (rest .entry))) (now (rest .entry))))
+        (now (rest .entry)) r (now (out .entry)) (now (out .exit)) ⌝ }
+{
+    let mut labels = [[[0u8; 31]; 32]; 2];
+    let mut jobs = [[0u32; 32]; 2];
+    let mut control = [[0u8; 32]; 1];
+    let mut results = [[[0u32; 32]; 2]; 32];
+    arrays::refresh(n, &mut labels, &mut jobs, &mut control, &mut results);
+    let mut order = rows::order::order(&labels[0], n);
     let r = report_lines(
         1,
         n,
         &mut order,
         &mut labels,
         &mut jobs,
-        &mut pending_labels,
-        &mut pending_jobs,
-        &mut result_stations,
-        &mut result_jobs,
-        &mut phases,
+        &mut control,
+        &mut results,
         rest,
         out,
     );
+    let refusal = r.refusal;
+    let written = r.written;
+    if refusal.number() != 0 {
+        return Reply { refusal, written };
+    }
+    if r.read == rest.len() {
+        return Reply { refusal, written };
+    }
+    let end = report_rest(
+        r.lines,
+        n,
+        &mut order,
+        &mut labels,
+        &mut jobs,
+        &mut control,
+        &mut results,
+        from(rest, r.read),
+        &mut out[written..],
+    );
+    let refusal = end.refusal;
+    Reply {
+        refusal,
+        written: written + end.written,
+    }
+}
+
+// How many bytes the lines after an accepted header print.
+fn report_size(n: usize, rest: &[u8]) -> usize
+    requires { ⌜ (2 ≤ n) × (n ≤ 32) ⌝ }
+    ensures { λ r. ⌜ r ≡ length (runLines lent (session 1 Accepted (freshTable lent n)) (cut (pieces (now (rest .entry))) (now (rest .entry))) .bytes) ⌝ }
+{
+    let mut scratch = [0u8; 29];
+    let r = report_steps(n, rest, &mut scratch);
     r.written
 }
 
-// Writes the report of a whole file, and hands back its bytes.
-pub fn report(file: &[u8], out: &mut [u8]) -> usize
-    requires { ⌜ 928 * pieces (now file) + 928 ≤ length (now out) ⌝ }
-    ensures { λ r. ⌜ r ≡ length (fileReport (now (file .entry))) ⌝ }
-    ensures { λ _. ⌜ now (out .exit) ≡ over (fileReport (now (file .entry))) (now (out .entry)) ⌝ }
+// Writes the report of a whole file, and answers its final refusal; 7, and nothing is written, if the report does not fit. Where room for 928 bytes for
+// each line is not there, a first run tells how long the report is.
+pub fn report(file: &[u8], out: &mut [u8]) -> Reply
+    ensures { λ r. ⌜ ReportsFile (now (file .entry)) (now (out .entry)) r (now (out .exit)) ⌝ }
 {
     let header = line_at(file, 0);
-    let s = schedule::open(header);
-    let k = report_header(s, out);
-    if k != 0 {
-        return k;
+    match schedule::read_header(header) {
+        Header::Refused(refusal) => {
+            if out.len() < 29 {
+                return Reply {
+                    refusal: Refusal::BufferTooShort,
+                    written: 0,
+                };
+            }
+            let written = print_refusal(1, refusal, out);
+            Reply { refusal, written }
+        }
+        Header::Stations(n) => {
+            let rest = from(file, header.len());
+            if file.len() / 18 <= out.len() / ROOM {
+                return report_steps(n, rest, out);
+            }
+            if out.len() < report_size(n, rest) {
+                return Reply {
+                    refusal: Refusal::BufferTooShort,
+                    written: 0,
+                };
+            }
+            report_steps(n, rest, out)
+        }
     }
-    let t = s.table;
-    report_rest(t.count, from(file, header.len()), out)
 }

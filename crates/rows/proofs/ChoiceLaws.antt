@@ -1,20 +1,20 @@
 -- Laws of the choice of a new label: counts taken in one pass, the search for the level, and what both read of the labels.
 use Prim.Native.Nat.{ℕ, zero, suc, _+_, _-_, _≤_, _<_}
-use native.Mathlib.Decide.{ℕ-discrete, decLt}
+use native.Mathlib.Decide.{decLt}
 use native.Mathlib.Numerals.{add-one}
 use native.Mathlib.Omega.{arith}
 use mathlib.Core.Path.{_≡_, refl, sym, ap, ap₂, _∙_}
 use mathlib.Core.Logic.{_≢_, by-cases}
 use mathlib.Core.Bool.{Bool, true, false, not, _&&_, cond}
 use mathlib.Core.List.{List}
-use lib.ListN.{length, getD, set}
+use lib.ListN.{getD}
 use lib.Dec.{eqb, leb, ltb}
 use borrow.Author.Tests.{eq-eqb, ne-eqb, le-leb, lt-leb, lt-ltb, le-ltb}
 use Rattle.basics.specs.Tests.{count, firstFrom, newest}
 use Rattle.label.specs.Labels.{Label, agrees, firstDifference, nextLabel, others, level, newLabel}
 use Rattle.label.specs.Rows.{row}
 use Rattle.rows.specs.Held.{held, standsIn, pendingIn}
-use Rattle.basics.proofs.Facts.{right-no, first-is, firstFrom-same, count-bound, set-each}
+use Rattle.basics.proofs.Facts.{right-no, first-is, firstFrom-same, count-bound}
 use Rattle.label.proofs.Digits.{Tri, lt, eq, gt, compare}
 use Rattle.label.proofs.Order.{agrees-upto, difference-first}
 use Rattle.label.proofs.Choice.{level-spec}

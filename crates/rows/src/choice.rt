@@ -9,7 +9,6 @@ ghost use Rattle.basics.specs.Tests.{count, firstFrom, newest, tabulate};
 ghost use Rattle.label.specs.Labels.{firstDifference, newLabel};
 ghost use Rattle.label.specs.Rows.{digit, row};
 ghost use Rattle.rows.specs.Held.{held, Orderly, pendingIn, standsIn};
-use super::order::newest;
 
 // How many leading digits each of the n stations shares with the label `top`.
 fn shared_prefixes(rows: &[[u8; 31]; 32], n: usize, top: [u8; 31]) -> [usize; 32]
@@ -88,13 +87,4 @@ pub fn pending_by(rows: &[[u8; 31]; 32], n: usize, z: usize, k: usize, own: [u8;
         return own;
     }
     new_label(rows, n, z, k)
-}
-
-// The same, where the newest station is to be found.
-pub fn pending(rows: &[[u8; 31]; 32], n: usize, k: usize, own: [u8; 31]) -> [u8; 31]
-    requires { ⌜ Orderly n (now rows) ⌝ }
-    requires { ⌜ k < n ⌝ }
-    ensures { λ r. ⌜ r ≡ pendingIn n (now (rows .entry)) k own ⌝ }
-{
-    pending_by(rows, n, newest(rows, n), k, own)
 }

@@ -1,158 +1,240 @@
--- The decision on a call makes the answer of `stepOf`.
-use Prim.Native.Nat.{ℕ, _*_, _≤_, _<_}
+-- A step call on the declared table is one on its arrays: of a refused call the table is the one that came in, of an accepted one the record of the calling
+-- station is put back, since all others stay as they are.
+use Prim.Native.Nat.{ℕ, suc, _-_, _≤_, _<_}
+use native.Mathlib.Nat.{zero-add}
 use native.Mathlib.Omega.{arith}
-use mathlib.Core.Path.{_≡_, refl, sym, ap, ap₂, subst, _∙_}
-use mathlib.Core.Logic.{_≢_}
+use native.Mathlib.Decide.{decLt}
+use mathlib.Core.Path.{_≡_, refl, sym, ap, subst, _∙_}
+use mathlib.Core.Logic.{_≢_, by-cases}
 use mathlib.Core.Bool.{Bool, true, false, cond}
 use mathlib.Core.List as Lists
 use mathlib.Core.List.{[], _∷_}
-use lib.ListN.{length, getD}
-use mir.Val.{Val}
-use denote.Shadow.{shadow}
-use borrow.Author.Tests.{ne-eqb}
-use Rattle.basics.proofs.Facts.{getD-any}
+use lib.ListN.{length, getD, set, length-set, List·getD-eq-default}
+use Rattle.basics.specs.Tests.{within, ordered, All}
+use Rattle.basics.proofs.Facts.{tf, within-of, all-at, each-all, all-map, ordered-all, length-tabulate, getD-tabulate, getD-any, set-each}
+use Rattle.label.specs.Labels as Labels
+use Rattle.label.specs.Rows.{row}
 use Rattle.simulation.specs.Calls as Calls
-use Rattle.simulation.specs.Calls.{Call, judgeIn, judge, place, reportLines}
+use Rattle.simulation.specs.Calls.{Call, place, Move, judge}
+use Rattle.simulation.specs.Machine.{original, digits, stands, scanOf, freshRest, State, step}
 use Rattle.simulation.proofs.Judged.{verdict}
-use Rattle.table.specs.Tables.{at}
-use Rattle.table.specs.WellFormed.{wellFormed}
-use Rattle.table.proofs.Orders.{passed}
-use Rattle.table.proofs.Owned.{stations-long}
-use Rattle.table.proofs.Shapes.{Shaped}
-use Rattle.table.proofs.Table.{the-row}
-use Rattle.transition.specs.States.{phaseOf, restOf, resultOf}
-use Rattle.transition.specs.Steps.{stepOf}
-use Rattle.transition.specs.Records.{store, recordMade, recordAfter, numberOf, hands, reportSize, handed, refuse, answerAfter}
-use Rattle.transition.proofs.Stores.{hands-room, step-at, step-number, step-kept}
-use Rattle.moves.specs.Moves.{refusalNumber, moveOf, kindOf, called, placeOf}
-use Rattle.moves.proofs.MoveLaws.{same-kind, place-below}
-use Rattle.step.specs.Contracts.{due, over, Decides, Steps}
-use Rattle.step.proofs.ReportLaws.{length-report-lines, length-result}
-use Rattle.step.specs.declared.Decision.{Decision}
-use Rattle.moves.specs.declared.Move.{Move}
-use Rattle.step.specs.declared.Reply.{Reply}
-use Rattle.table.specs.declared.Phase.{Phase}
+use Rattle.simulation.proofs.Touched.{labels-kept, rest-kept, results-all}
+use Rattle.simulation.proofs.Touched as Touched
+use Rattle.transition.specs.Forms.{Form, Answer, refuse, over, stepOf}
+use Rattle.transition.specs.Sequences.{Steps}
+use Rattle.transition.proofs.Theorem.{step-written, step-kept}
+use Rattle.moves.specs.Moves.{placeOf}
+use Rattle.moves.proofs.MoveLaws.{place-below}
+use Rattle.arrays.specs.Arrays.{Arrays, cell, phaseNumber, phaseFor, resultRows, resultOf, rowsAt, jobsOf, stateOf, arraysOf}
+use Rattle.arrays.specs.WellFormed.{wellFormed}
+use Rattle.arrays.specs.Form.{lent}
+use Rattle.arrays.proofs.Passed.{passed}
+use Rattle.arrays.proofs.States.{tabulate-is, written-held}
+use Rattle.table.specs.Tables.{declaredPhase, entriesOf, Bytes, at, apart, stationOf, together, declared}
+use Rattle.table.proofs.Apart.{element, Whole, station-apart, apart-shaped, apart-bytes, declared-written}
+use Rattle.table.proofs.Fresh.{fresh-bytes}
 use Rattle.table.specs.declared.Station.{Station}
 use Rattle.table.specs.declared.Table.{Table}
 
--- the record that the code reads at a station's place
-pub station-at : (t : Table) (vs : Lists.List Val) → shadow (the-row .own t vs) → wellFormed t ≡ true → (k : ℕ) → k < t .count → (d : Station) → getD (t .stations) k d ≡ at t k
-station-at t vs s ok k h d = getD-any (t .stations) k d _ (omega (arith, passed t ok .high, stations-long t vs s))
+-- the table with this record at place k
+abbrev store : Table → ℕ → Station → Table
+store t k s = record { count = t .count; stations = set (t .stations) k s }
 
--- the record v that f makes of the one at place k is that of the move m, which is w
-pub record-moved : (f : Station → Station) (w : Move) (t : Table) (k job : ℕ) (s : Station) {v : Station} {m : Move} → v ≡ f s → s ≡ at t k
-    → f (at t k) ≡ recordAfter t k (moveOf k job w) → m ≡ w → v ≡ recordAfter t k (moveOf k job m)
-record-moved f w t k job s made stands law told = made ∙ ap f stands ∙ law ∙ sym (ap (λ (m : Move). recordAfter t k (moveOf k job m)) told)
-
--- WHAT A MOVE REPORTS: nothing, or the result in the record that it leaves, which is the one that it found
-reported : (t : Table) (k line : ℕ) → 2 ≤ t .count → (w : Calls.Move)
-    → reportLines line 1 (handed t k w) ≡ due (reportSize (t .count) w) line (resultOf (t .count) (recordAfter t k w .«scan_result»))
-unfolding recordMade reportLines
-reported t k line low (Calls.Move.refused x) = refl
-reported t k line low (Calls.Move.begins j job o) = refl
-reported t k line low (Calls.Move.updates j) = refl
-reported t k line low (Calls.Move.snaps j o) = refl
-reported t k line low (Calls.Move.ends j Calls.Label) = refl
-reported t k line low (Calls.Move.ends j Calls.Scan) = rw (ne-eqb (t .count * 29) 0 (λ z. omega arith)) refl
-
-pub report-long : (t : Table) (k line : ℕ) → t .count ≤ length (at t k .«scan_result») → (w : Calls.Move)
-    → reportSize (t .count) w ≡ length (reportLines line 1 (handed t k w))
-unfolding reportLines
-report-long t k line l w = go (hands w)
-  where
-    r : Lists.List Calls.Entry
-    r = resultOf (t .count) (at t k .«scan_result»)
-
-    go : (b : Bool) → cond b (t .count * 29) 0 ≡ length (reportLines line 1 (cond b r []))
-    go true = sym (length-report-lines line 1 r ∙ ap (λ n. n * 29) (length-result (t .count) (at t k .«scan_result») l))
-    go false = refl
-
--- THE ANSWER TO A CALL that amounts to w, by the record that w leaves at the place of the station
-module _ (t : Table) (c : Call) where
-  abbrev here : ℕ
-  here = placeOf (t .count) (c .station)
-
-  pub record Made (w : Calls.Move) : Type 0 where
-    pub inside : here < t .count
-    pub answer : stepOf t c ≡ answerAfter t here c w
-    pub fits : hands w ≡ true → t .count * 29 ≤ c .room
-
-  made : Shaped t → wellFormed t ≡ true → Made (judgeIn (t .count) (phaseOf (at t here .phase)) c)
-  made g ok = record {
-    inside = place-below (t .count) (c .station) (passed t ok .low);
-    answer = step-at t g ok c here (λ q. rw q refl);
-    fits = hands-room (verdict (t .count) c (phaseOf (at t here .phase)));
+-- THE RECORD AT A PLACE OF THE ARRAYS OF A STATE, and what it needs to stay as it is
+module _ (n : ℕ) (s : State Labels.Label) where
+  abbrev recordOf : ℕ → Station
+  recordOf i = record {
+    label = row 31 (s .labels false i);
+    job = s .rest .process i .job;
+    «pending_label» = row 31 (s .labels true i);
+    «pending_job» = s .rest .process i .pendingJob;
+    «scan_result» = entriesOf (resultRows (s .rest .result i));
+    phase = declaredPhase (phaseFor (phaseNumber (s .rest .process i .phase)));
   }
 
--- the code judges a call by the record at the place of its station
-pub judged : (t : Table) → Shaped t → wellFormed t ≡ true → (code station job room k : ℕ) (p : Phase) (m : Move) → k ≡ placeOf (t .count) station → p ≡ at t k .phase
-    → ((line : ℕ) → moveOf (placeOf (t .count) station) job m ≡ judgeIn (t .count) (phaseOf p) (called line code station job room))
-    → (line : ℕ) → Made t (called line code station job room) (moveOf k job m)
-judged t g ok code station job room k p m e ph h line = subst (Made t c) (sym same) (made t c g ok)
+  station-written : (i : ℕ) → i < 32 → stationOf (arraysOf n s) i ≡ recordOf i
+  unfolding arraysOf
+  station-written i h y = record {
+    label = element (λ j. row 31 (s .labels false j)) [] i h y;
+    job = element (jobsOf s false) 0 i h y;
+    «pending_label» = element (λ j. row 31 (s .labels true j)) [] i h y;
+    «pending_job» = element (jobsOf s true) 0 i h y;
+    «scan_result» = entriesOf (element (λ j. resultRows (s .rest .result j)) [] i h y);
+    phase = declaredPhase (phaseFor (element (λ j. phaseNumber (s .rest .process j .phase)) 0 i h y));
+  }
+
+-- a place that is not the caller's
+other-place : (n station i : ℕ) → i ≢ placeOf n station → i < n → i ≢ station - 1
+other-place n station i = go (within 1 n station) refl
   where
-    c : Call
-    c = called line code station job room
+    go : (b : Bool) → within 1 n station ≡ b → i ≢ cond b (station - 1) 0 → i < n → i ≢ station - 1
+    go true e d h = d
+    go false e d h = λ q. by-cases (decLt station 1) (λ l. d (omega arith)) (λ l. tf (within-of 1 n station (omega arith) (omega arith)) e)
 
-    same : moveOf k job m ≡ judgeIn (t .count) (phaseOf (at t (here t c) .phase)) c
-    same = ap (λ (i : ℕ). moveOf i job m) e ∙ h line ∙ ap (λ (q : Phase). judgeIn (t .count) (phaseOf q) c) (ph ∙ ap (λ (i : ℕ). at t i .phase) e)
+module _ (n : ℕ) (s : State Labels.Label) (c : Call) where
+  abbrev s′ : State Labels.Label
+  s′ = step original n (digits n) s c .state
 
--- the code's decision: the record that the move leaves, and the bytes that it reports
-pub decide-law : (t : Table) → wellFormed t ≡ true → (code station job room : ℕ) (d : Decision) (m : Move) → d .place ≡ placeOf (t .count) station
-    → t .count ≤ length (at t (d .place) .«scan_result») → refusalNumber (d .refusal) ≡ numberOf (kindOf m) → d .«record» ≡ recordAfter t (d .place) (moveOf (d .place) job m)
-    → d .written ≡ reportSize (t .count) (kindOf m) → ((line : ℕ) → Made t (called line code station job room) (moveOf (d .place) job m))
-    → (line : ℕ) → Decides t (called line code station job room) d
-decide-law t ok code station job room d m′ k long number s size make line =
-    let m = make line in
-    let c = called line code station job room in
-    let r = number ∙ same-kind (d .place) job m′ .0 in
-    let n = size ∙ ap (λ b. cond b (t .count * 29) 0) (same-kind (d .place) job m′ .1) in
-    let a : stepOf t c ≡ answerAfter t (d .place) c w = m .answer ∙ ap (λ (i : ℕ). answerAfter t i c w) (sym k) in
-    record {
-      refusal = r ∙ sym (ap (λ x. x .refusal) a);
-      inside = omega (arith, k, m .inside, passed t ok .high);
-      table = ap (store t (d .place)) s ∙ sym (ap (λ x. x .table) a);
-      written = n ∙ report-long t (d .place) line long w ∙ ap (λ x. length (x .bytes)) (sym a);
-      bytes = ap (λ x. x .bytes) a ∙ reported t (d .place) line (passed t ok .low) w
-          ∙ ap₂ (λ (i : ℕ) (x : Station). due i line (resultOf (t .count) (x .«scan_result»))) (sym n) (sym s);
-      fits = λ z. m .fits (handing (hands w) refl (λ y. z (n ∙ y)));
+  other-kept : (i : ℕ) → i ≢ placeOf n (c .station) → recordOf n s′ i ≡ recordOf n s i
+  unfolding step
+  other-kept i d = λ y. record {
+    label = row 31 (labels-kept n (digits n) (s .labels) m i e false y);
+    job = k .0 y .job;
+    «pending_label» = row 31 (labels-kept n (digits n) (s .labels) m i e true y);
+    «pending_job» = k .0 y .pendingJob;
+    «scan_result» = entriesOf (resultRows (k .1 y));
+    phase = declaredPhase (phaseFor (phaseNumber (k .0 y .phase)));
+  }
+    where
+      m : Move
+      m = judge n (s .rest) c
+
+      e : Touched.touched m i ≡ false
+      e = Touched.apart (verdict n c (s .rest .process (place c) .phase)) i (other-place n (c .station) i d)
+
+      k : (s′ .rest .process i ≡ s .rest .process i) × (s′ .rest .result i ≡ s .rest .result i)
+      k = rest-kept (ordered n (stands (digits n) (s .labels))) (s .rest) m i e
+
+-- THE STATIONS IN A RESULT are bytes after a call if they were before it
+abbrev Small : Lists.List Calls.Entry → Type 0
+Small = All (λ (e : Calls.Entry). e .station ≤ 255)
+
+small-rows : (l : Lists.List Calls.Entry) → Small l → Bytes (resultRows l)
+small-rows l a p h = rw (element (λ q. getD l q (Calls.entry 0 0) .station) 0 p h) (by-cases (decLt p (length l))
+    (λ u. all-at (λ (e : Calls.Entry). e .station ≤ 255) l (Calls.entry 0 0) a p u)
+    (λ u. let z : getD l p (Calls.entry 0 0) ≡ Calls.entry 0 0 = List·getD-eq-default l (Calls.entry 0 0) (omega arith) in rw z (omega arith)))
+
+-- A CALL ON A WHOLE TABLE
+
+ill-formed : (F : Form) (t : F .Table) (c : Call) → F .wellFormed t ≡ false → stepOf F t c ≡ refuse t 13
+unfolding stepOf
+ill-formed F t c e = rw (e, stepOf) refl
+
+module _ (t : Table) (w : Whole t) (c : Call) where
+  -- both forms give the same number and the same bytes
+  record Alike : Type 0 where
+    number : stepOf declared t c .refusal ≡ stepOf lent (apart t) c .refusal
+    bytes : stepOf declared t c .bytes ≡ stepOf lent (apart t) c .bytes
+
+  alike-by : (b : Bool) → wellFormed (apart t) ≡ b → Alike
+  unfolding apart
+  alike-by true e =
+      let p = step-written declared t c e in
+      let q = step-written lent (apart t) c e in
+      record { number = ap (λ x. x .refusal) p ∙ sym (ap (λ x. x .refusal) q); bytes = ap (λ x. x .bytes) p ∙ sym (ap (λ x. x .bytes) q) }
+  alike-by false e =
+      let p = ill-formed declared t c e in
+      let q = ill-formed lent (apart t) c e in
+      record { number = ap (λ x. x .refusal) p ∙ sym (ap (λ x. x .refusal) q); bytes = ap (λ x. x .bytes) p ∙ sym (ap (λ x. x .bytes) q) }
+
+  alike : Alike
+  alike = alike-by (wellFormed (apart t)) refl
+
+  module _ {buffer buffer′ : Lists.List ℕ} {a a′ : Arrays} {number written : ℕ} (e : a ≡ apart t) (made : Steps lent a c buffer a′ number written buffer′) where
+    L : Steps lent (apart t) c buffer a′ number written buffer′
+    L = subst (λ (u : Arrays). Steps lent u c buffer a′ number written buffer′) e made
+
+    steps-with : {t′ : Table} → t′ ≡ stepOf declared t c .table → Steps declared t c buffer t′ number written buffer′
+    steps-with q = record {
+      table = q;
+      number = L .number ∙ sym (alike .number);
+      count = L .count ∙ ap length (sym (alike .bytes));
+      report = L .report ∙ ap (λ b. over b buffer) (sym (alike .bytes));
     }
-  where
-    w : Calls.Move
-    w = moveOf (d .place) job m′
 
-    handing : (b : Bool) → hands w ≡ b → cond b (t .count * 29) 0 ≢ 0 → hands w ≡ true
-    handing true e z = e
-    handing false e z = absurd (z refl)
+    pub refused-call : number ≢ 0 → Steps declared t c buffer t number written buffer′
+    refused-call d = steps-with (sym (ap (λ (x : Answer Table). x .table)
+        (step-kept declared t (declared-written t w) c (λ z. d (L .number ∙ sym (alike .number) ∙ z)))))
 
--- the outcome of a call: refused by 13, or as decided
-pub ill-formed : (t : Table) (c : Call) (buffer : Lists.List ℕ) (r : Reply) → wellFormed t ≡ false → refusalNumber (r .refusal) ≡ 13 → r .written ≡ 0 → Steps t c buffer t r buffer
-ill-formed t c buffer r e n w = record {
-  table = ap (λ x. x .table) (sym s);
-  refusal = n ∙ ap (λ x. x .refusal) (sym s);
-  written = w ∙ ap (λ x. length (x .bytes)) (sym s);
-  report = ap (λ x. over (x .bytes) buffer) (sym s);
-}
-  where
-    s : stepOf t c ≡ refuse t 13
-    s = unfold stepOf in rw (e, stepOf) refl
+    module _ (z : number ≡ 0) where
+      accepted-passes : (b : Bool) → wellFormed (apart t) ≡ b → wellFormed (apart t) ≡ true
+      accepted-passes true e = e
+      accepted-passes false e = let x : number ≡ 13 = L .number ∙ ap (λ (x : Answer Arrays). x .refusal) (ill-formed lent (apart t) c e) in absurd (omega arith)
 
-pub carried-out : (t : Table) (c : Call) (buffer : Lists.List ℕ) (d : Decision) (r : Reply) (buffer′ : Lists.List ℕ) → Decides t c d → r .refusal ≡ d .refusal → r .written ≡ d .written
-    → buffer′ ≡ over (due (d .written) (c .line) (resultOf (t .count) (d .«record» .«scan_result»))) buffer → Steps t c buffer (store t (d .place) (d .«record»)) r buffer′
-carried-out t c buffer d r buffer′ D e w b =
-    record { table = D .table; refusal = ap refusalNumber e ∙ D .refusal; written = w ∙ D .written; report = b ∙ ap (λ x. over x buffer) (sym (D .bytes)) }
+      ok : wellFormed (apart t) ≡ true
+      ok = accepted-passes (wellFormed (apart t)) refl
+
+      abbrev n : ℕ
+      n = t .count
+
+      abbrev held : State Labels.Label
+      held = stateOf (apart t)
+
+      abbrev next : State Labels.Label
+      next = step original (t .count) (digits (t .count)) (stateOf (apart t)) c .state
+
+      sized : (2 ≤ n) × (n ≤ 32)
+      unfolding apart
+      sized = (passed (apart t) ok .low, passed (apart t) ok .high)
+
+      pub accepted-low : 2 ≤ n
+      accepted-low = sized .0
+
+      left : a′ ≡ arraysOf n next
+      unfolding apart
+      left = L .table ∙ ap (λ (x : Answer Arrays). x .table) (step-written lent (apart t) c ok)
+
+      -- the stations in every result stay bytes
+      held-bytes : (i : ℕ) → Bytes (rowsAt (apart t) i)
+      unfolding apart
+      held-bytes i = by-cases (decLt i 32)
+          (λ l. subst Bytes (getD-any (apart t .results) i [] _ (omega (arith, apart-shaped t w .results .long))) (apart-bytes t w i l))
+          (λ l. fresh-bytes n (past i (omega arith)))
+        where
+          past : (i : ℕ) → 32 ≤ i → rowsAt (apart t) i ≡ resultRows (freshRest n .result 0)
+          past i l = List·getD-eq-default (apart t .results) (resultRows (freshRest n .result i)) (omega (arith, apart-shaped t w .results .long))
+
+      held-small : (i : ℕ) → Small (held .rest .result i)
+      unfolding apart
+      held-small i = each-all (λ (e : Calls.Entry). e .station ≤ 255) (resultOf n (rowsAt (apart t) i)) (Calls.entry 0 0) (λ p l.
+          let u : p < n = rw (length-tabulate n 0 f) at l in rw (getD-tabulate n 0 p f (Calls.entry 0 0) u, zero-add p) (held-bytes i p (omega (arith, sized))))
+        where
+          f : ℕ → Calls.Entry
+          f p = Calls.entry (cell (rowsAt (apart t) i) 0 p 0) (cell (rowsAt (apart t) i) 1 p 0)
+
+      next-small : (i : ℕ) → Small (next .rest .result i)
+      unfolding step scanOf
+      next-small = results-all Small order (held .rest)
+          (all-map (λ i. i < n) (λ (e : Calls.Entry). e .station ≤ 255) (λ i. Calls.entry (suc i) (held .rest .process i .job)) (λ i l. omega (arith, sized))
+          order (ordered-all (λ i. i < n) (stands (digits n) (held .labels)) n (λ i l. l))) held-small (judge n (held .rest) c)
+        where
+          order : Lists.List ℕ
+          order = ordered n (stands (digits n) (held .labels))
+
+      -- the place of the calling station
+      module _ {k : ℕ} (is : k ≡ placeOf (t .count) (c .station)) where
+        pub place-inside : k < 32
+        place-inside = omega (arith, is, place-below n (c .station) (sized .0), sized)
+
+        -- every other place holds what it held
+        other-same : (i : ℕ) → i < 32 → i ≢ k → at t i ≡ stationOf (arraysOf n next) i
+        unfolding apart
+        other-same i l d = sym (station-apart t w i l) ∙ ap (λ (u : Arrays). stationOf u i) (sym (written-held (apart t) (apart-shaped t w) ok))
+            ∙ station-written n held i l ∙ sym (other-kept n held c i (λ q. d (q ∙ sym is))) ∙ sym (station-written n next i l)
+
+        pub place-bytes : Bytes (getD (a′ .results) k [])
+        unfolding arraysOf
+        place-bytes = subst Bytes (sym rows) (small-rows (next .rest .result k) small)
+          where
+            rows : getD (a′ .results) k [] ≡ resultRows (next .rest .result k)
+            rows = ap (λ (u : Arrays). getD (u .results) k []) left ∙ element (λ j. resultRows (next .rest .result j)) [] k place-inside
+
+            small : Small (next .rest .result k)
+            small = next-small k
+
+        put-back : {s : Station} → s ≡ stationOf a′ k → store t k s ≡ stepOf declared t c .table
+        unfolding together arraysOf
+        put-back {s} e = ap (λ (l : Lists.List Station). record { count = n; stations = l })
+            (sym (tabulate-is 32 (set (t .stations) k s) _ (stationOf (arraysOf n next)) (length-set (t .stations) k s ∙ w .places) (λ i l. sym
+            (set-each 32 (t .stations) k s _ (at t) (stationOf (arraysOf n next)) (omega (arith, place-inside, w .places)) (λ j u. refl)
+            (e ∙ ap (λ (u : Arrays). stationOf u k) left) other-same i l))))
+            ∙ sym (ap (λ (x : Answer Table). x .table) (step-written declared t c ok))
+
+        pub accepted-call : {s : Station} → s ≡ stationOf a′ k → Steps declared t c buffer (store t k s) number written buffer′
+        accepted-call e = steps-with (put-back e)
 
 -- an empty buffer stays empty
-pub empty-buffer : (t : Table) (c : Call) (t′ : Table) (r : Reply) (buffer : Lists.List ℕ) → Steps t c [] t′ r buffer → length buffer ≡ 0 → Steps t c [] t′ r []
-empty-buffer t c t′ r [] s e = s
-empty-buffer t c t′ r (x ∷ l) s e = absurd (omega arith)
-
--- A REFUSED CALL CHANGES NOTHING, AN ALLOWED ONE IS ACCEPTED (01, "When a step is turned down"): a call that keeps its contract has the number 13, or that
--- of what it amounts to; if that is not 0, table and buffer stay as they are and nothing is written
-module _ {t : Table} {c : Call} {buffer : Lists.List ℕ} {t′ : Table} {r : Reply} {buffer′ : Lists.List ℕ} (s : Steps t c buffer t′ r buffer′) where
-  pub call-number : refusalNumber (r .refusal) ≡ cond (wellFormed t) (numberOf (judge (t .count) (restOf t) c)) 13
-  call-number = s .refusal ∙ step-number t c
-
-  pub refused-unchanged : Shaped t → refusalNumber (r .refusal) ≢ 0 → (t′ ≡ t) × ((r .written ≡ 0) × (buffer′ ≡ buffer))
-  refused-unchanged g h =
-      let e = step-kept t c g (λ z. h (s .refusal ∙ z)) in
-      (s .table ∙ ap (λ x. x .table) e, (s .written ∙ ap (λ x. length (x .bytes)) e, s .report ∙ ap (λ x. over (x .bytes) buffer) e))
+pub empty-buffer : {t t′ : Table} {c : Call} {number written : ℕ} (buffer : Lists.List ℕ) → Steps declared t c [] t′ number written buffer → length buffer ≡ 0
+    → Steps declared t c [] t′ number written []
+empty-buffer [] s e = s
+empty-buffer (x ∷ l) s e = absurd (omega arith)

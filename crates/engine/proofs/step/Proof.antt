@@ -1,5 +1,3 @@
-use mathlib.Core.Path.{_∙_, sym}
-use borrow.Author.Tests.{not-true, not-false}
 use Rattle.basics.proofs.Loops.{was-true, was-false}
 use Rattle.engine.proofs.Served.{ill-formed}
 use borrow.Author.Needs.{needs}

@@ -1,4 +1,4 @@
-use mathlib.Core.Path.{_∙_, sym}
+use mathlib.Core.Path.{_∙_}
 use Rattle.exports.proofs.Laws.{kept}
 use borrow.Author.Needs.{needs}
 use Rattle.exports.proofs.tickets_step.Statement.{statement}

@@ -1,5 +1,5 @@
 use mathlib.Core.Path.{sym, _∙_}
-use Rattle.file.proofs.ChunkLaws.{printed-accepted, printed-refused}
+use Rattle.schedule.proofs.Runs.{printed-accepted, printed-refused}
 use borrow.Author.Needs.{needs}
 use Rattle.file.proofs.print_refusal.Statement.{statement}
 use Rattle.file.proofs.print_refusal.Tie as tie
@@ -19,9 +19,6 @@ part-write-report-line-start c = search needs
 part-write-report-line-end : tie.Need-part-write-report-line-end
 part-write-report-line-end c = search needs
 
-add-write-report-line : tie.Need-add-write-report-line
-add-write-report-line c = search needs
-
 write-report-line-requires : tie.Need-write-report-line-requires
 write-report-line-requires c κs = search needs
 
@@ -29,7 +26,9 @@ same-length : tie.Need-same-length
 same-length c = search needs
 
 returns-2 : tie.Need-returns-2
-returns-2 c = printed-refused _ _ _ _ _ (c .before .before .before .before .before .number .ensures) (c .before .before .before .before .if1 .left) (c .before .before .write-report-line .ensures)
+returns-2 c =
+    let test = c .before .before .before .before in
+    printed-refused _ _ _ _ _ (test .before .number .ensures) (test .if1 .left) (c .before .before .write-report-line .ensures)
 
 pub print-refusal-spec : {M : Type 1} → statement M
 print-refusal-spec =
@@ -40,7 +39,6 @@ print-refusal-spec =
     sub-write-report-line
     part-write-report-line-start
     part-write-report-line-end
-    add-write-report-line
     write-report-line-requires
     same-length
     returns-2)

@@ -1,8 +1,8 @@
+-- The header is read, and then the lines after it are served; `h` is what is known when the header has been read.
+use mathlib.Core.Path.{refl, sym, _∙_}
 use native.Mathlib.Omega.{arith}
-use mathlib.Core.Path.{sym, ap, _∙_}
-use lib.ListN.{length}
-use Rattle.schedule.specs.Sessions.{headerOf}
-use Rattle.file.proofs.ChunkLaws.{header-accepted, header-within, rest-room, file-refused, file-served}
+use Rattle.schedule.proofs.Runs.{header-within}
+use Rattle.file.proofs.FileLaws.{refused-short, refused-told, stations, steps-told, steps-short, enough}
 use borrow.Author.Needs.{needs}
 use Rattle.file.proofs.report.Statement.{statement}
 use Rattle.file.proofs.report.Tie as tie
@@ -10,42 +10,116 @@ use Rattle.file.proofs.report.Tie as tie
 line-at-requires : tie.Need-line-at-requires
 line-at-requires c κs = search needs
 
-open-requires : tie.Need-open-requires
-open-requires c κs = search needs
+read-header-requires : tie.Need-read-header-requires
+read-header-requires c κs = search needs
 
-report-header-requires : tie.Need-report-header-requires
-report-header-requires c κs = search needs
+enum-known-refusal : tie.Need-enum-known-refusal
+enum-known-refusal c = search needs
+
+returns : tie.Need-returns
+returns c =
+    let h = c .before .before .before .before in
+    let said = sym (h .read-header .ensures) ∙ c .before .before .refusal .given .1 in
+    let a = h .before .before .before .before .args in
+    refused-short (a .file .now) (h .before .line-at .ensures) said (a .out .now) _ (c .if1 .taken) refl refl
+
+print-refusal-requires : tie.Need-print-refusal-requires
+print-refusal-requires c κs = search needs
+
+enum-known-n : tie.Need-enum-known-n
+enum-known-n c = search needs
+
+from-requires : tie.Need-from-requires
+from-requires c κs =
+    let h = c .before .before .before in
+    header-within (h .before .before .before .before .args .file .now) _ (h .before .line-at .ensures)
+
+report-steps-requires : tie.Need-report-steps-requires
+report-steps-requires c κs =
+    let h = c .before .before .before .before .before .before in
+    let said = sym (h .read-header .ensures) ∙ c .before .before .before .before .n .given .1 in
+    let a = h .before .before .before .before .args in
+    stations (a .file .now) (h .before .line-at .ensures) said
 
 same-length : tie.Need-same-length
 same-length c = search needs
 
-returns : tie.Need-returns
-returns c = file-refused (c .before .before .before .before .before .before .before .before .before .args .file .now) _ _ _ _ (c .before .before .before .before .before .«open» .ensures ∙ ap headerOf (c .before .before .before .before .before .before .line-at .ensures)) (c .if1 .taken) (c .before .before .before .report-header .ensures)
+returns-2 : tie.Need-returns-2
+returns-2 c =
+    let h = c .before .before .before .before .before .before .before .before .before in
+    let said = sym (h .read-header .ensures) ∙ c .before .before .before .before .before .before .before .n .given .1 in
+    let a = h .before .before .before .before .args in
+    let f = c .before .before .before .before .before .from .ensures in
+    let g = c .before .before .report-steps .ensures in
+    let fit = enough (a .file .now) (h .before .line-at .ensures) said f (a .out .now) g (c .before .before .before .before .if2 .taken) in
+    steps-told (a .file .now) (h .before .line-at .ensures) said f (a .out .now) g fit
 
-from-requires : tie.Need-from-requires
-from-requires c κs = header-within (c .before .before .before .before .before .before .before .before .before .before .args .file .now) _ (c .before .before .before .before .before .before .before .line-at .ensures)
+report-size-requires : tie.Need-report-size-requires
+report-size-requires c κs =
+    let h = c .before .before .before .before .before in
+    let said = sym (h .read-header .ensures) ∙ c .before .before .before .n .given .1 in
+    let a = h .before .before .before .before .args in
+    stations (a .file .now) (h .before .line-at .ensures) said
 
-report-rest-requires : tie.Need-report-rest-requires
-report-rest-requires c κs =
-    let o = header-accepted _ _ (c .before .before .before .before .before .before .before .before .«open» .ensures) (sym (c .before .before .before .before .before .before .report-header .ensures .0) ∙ c .before .before .before .if1 .left) in
-    ((o .low, o .high), rest-room (c .before .before .before .before .before .before .before .before .before .before .before .before .args .file .now) (length (c .before .before .before .before .before .before .before .before .before .line-at .result .now)) _ (c .before .from .ensures) (omega (arith, c .before .before .before .before .before .before .before .before .before .before .before .before .pre, c .before .before .before .before .before .before .report-header .kept .1 .0)))
+returns-3 : tie.Need-returns-3
+returns-3 c =
+    let h = c .before .before .before .before .before .before .before in
+    let said = sym (h .read-header .ensures) ∙ c .before .before .before .before .before .n .given .1 in
+    let a = h .before .before .before .before .args in
+    let f = c .before .before .before .from .ensures in
+    let size = c .before .report-size .ensures in
+    steps-short (a .file .now) (h .before .line-at .ensures) said f (a .out .now) _ (omega (arith, c .if3 .taken, size)) refl refl
+
+report-steps-requires-2 : tie.Need-report-steps-requires-2
+report-steps-requires-2 c κs =
+    let h = c .before .before .before .before .before .before .before .before in
+    let said = sym (h .read-header .ensures) ∙ c .before .before .before .before .before .before .n .given .1 in
+    let a = h .before .before .before .before .args in
+    stations (a .file .now) (h .before .line-at .ensures) said
 
 same-length-2 : tie.Need-same-length-2
 same-length-2 c = search needs
 
-returns-2 : tie.Need-returns-2
-returns-2 c = file-served (c .before .before .before .before .before .before .before .before .before .before .before .before .before .before .before .args .file .now) _ _ _ _ _ _ _ _ (c .before .before .before .before .before .before .before .before .before .before .before .before .line-at .ensures) (c .before .before .before .before .from .ensures) (c .before .before .before .before .before .before .before .before .before .before .before .«open» .ensures) (c .before .before .before .before .before .before .if1 .left) (c .before .before .before .before .before .before .before .before .before .report-header .ensures) (c .before .before .report-rest .ensures)
+returns-4 : tie.Need-returns-4
+returns-4 c =
+    let h = c .before .before .before .before .before .before .before .before in
+    let said = sym (h .read-header .ensures) ∙ c .before .before .before .before .before .before .refusal .given .1 in
+    let a = h .before .before .before .before .args in
+    let told = c .before .before .print-refusal .ensures in
+    refused-told (a .file .now) (h .before .line-at .ensures) said (a .out .now) _ (c .before .before .before .before .if1 .left) refl (told .0) (told .1)
+
+same-length-3 : tie.Need-same-length-3
+same-length-3 c = search needs
+
+returns-5 : tie.Need-returns-5
+returns-5 c =
+    let h = c .before .before .before .before .before .before .before .before .before .before .before in
+    let said = sym (h .read-header .ensures) ∙ c .before .before .before .before .before .before .before .before .before .n .given .1 in
+    let a = h .before .before .before .before .args in
+    let g = c .before .before .report-steps2 .ensures in
+    let size = c .before .before .before .before .before in
+    let f = size .before .before .from .ensures in
+    let test = c .before .before .before .before .if3 .left in
+    steps-told (a .file .now) (h .before .line-at .ensures) said f (a .out .now) g (omega (arith, g .count, size .report-size .ensures, test))
 
 pub report-spec : {M : Type 1} → statement M
 report-spec =
     tie.close
     (tie.spec
     line-at-requires
-    open-requires
-    report-header-requires
-    same-length
+    read-header-requires
+    enum-known-refusal
     returns
+    print-refusal-requires
+    enum-known-n
     from-requires
-    report-rest-requires
+    report-steps-requires
+    same-length
+    returns-2
+    report-size-requires
+    returns-3
+    report-steps-requires-2
     same-length-2
-    returns-2)
+    returns-4
+    same-length-3
+    returns-5)

@@ -1,28 +1,31 @@
-use borrow.Author.Needs.{needs}
-use borrow.Rule.Slice.PartMut.{same-len-mid}
+-- The invariant is `Sofar` of ChunkLaws: what the lines before `at` left and printed. At a line, `x` is what is known when it has been found.
 use mathlib.Core.Path.{refl, sym, _∙_}
 use mathlib.Core.Logic.{inl, inr}
 use Prim.Native.Nat.{_+_, _-_}
 use native.Mathlib.Omega.{arith}
+use borrow.Author.Needs.{needs}
+use borrow.Rule.Slice.PartMut.{same-len-mid}
 use lib.ListN.{length, drop, length-take, length-drop}
 use lib.Seq.{length-take-le}
 use Rattle.moves.specs.Moves.{refusalNumber}
 use Rattle.moves.specs.declared.Refusal.the-variants.{Accepted}
-use Rattle.parts.specs.Parts.{parts, assembled}
+use Rattle.arrays.specs.Arrays.{arrays}
 use Rattle.schedule.specs.Sessions.{session}
 use Rattle.schedule.proofs.SessionLaws.{next-within}
+use Rattle.schedule.proofs.Runs.{printed-refusal}
 use Rattle.file.specs.Contracts.{Runnable}
-use Rattle.file.proofs.ChunkLaws.{Sofar, sofar-start, sofar-end, sofar-more, sofar-stop, as-long, inside, place-within, room-here, at-next, printed-refusal, prints-short}
+use Rattle.file.proofs.LineLaws.{run-passes}
+use Rattle.file.proofs.ChunkLaws.{Sofar, sofar-start, sofar-end, sofar-more, sofar-stop, as-long, inside, place-within, room-here, at-next, prints-short}
 use Rattle.file.proofs.report_lines.Statement.{statement}
 use Rattle.file.proofs.report_lines.Tie as tie
 
 abbrev Inv-loop : tie.InvT-loop
-Inv-loop lines n order₀ labels₀ jobs₀ pending-labels₀ pending-jobs₀ result-stations₀ result-jobs₀ phases₀ chunk out₀ count₀ written₀ at₀ order labels jobs pending-labels pending-jobs result-stations result-jobs phases out count written at =
-    Sofar (session lines Accepted (assembled (parts n labels₀ jobs₀ pending-labels₀ pending-jobs₀ result-stations₀ result-jobs₀ phases₀))) chunk out₀ (assembled (parts n labels jobs pending-labels pending-jobs result-stations result-jobs phases)) count written at out
-    × Runnable (parts n labels jobs pending-labels pending-jobs result-stations result-jobs phases) order
+Inv-loop lines n order₀ labels₀ jobs₀ control₀ results₀ chunk out₀ count₀ written₀ at₀ order labels jobs control results out count written at =
+    Sofar (session lines Accepted (arrays n labels₀ jobs₀ control₀ results₀)) chunk out₀ (arrays n labels jobs control results) count written at out
+    × Runnable (arrays n labels jobs control results) order
 
 abbrev μ-loop : tie.MeasureT-loop
-μ-loop lines n order₀ labels₀ jobs₀ pending-labels₀ pending-jobs₀ result-stations₀ result-jobs₀ phases₀ chunk out₀ count₀ written₀ at₀ order labels jobs pending-labels pending-jobs result-stations result-jobs phases out count written at =
+μ-loop lines n order₀ labels₀ jobs₀ control₀ results₀ chunk out₀ count₀ written₀ at₀ order labels jobs control results out count written at =
     length chunk - at
 
 loop-holds : tie.Need-loop-holds Inv-loop μ-loop
@@ -42,6 +45,12 @@ returns c =
 line-at-requires : tie.Need-line-at-requires Inv-loop μ-loop
 line-at-requires c κs = place-within (c .before .before .loop .inv .0)
 
+cast-number : tie.Need-cast-number Inv-loop μ-loop
+cast-number c = search needs
+
+add-number : tie.Need-add-number Inv-loop μ-loop
+add-number c = omega arith
+
 next-line-requires : tie.Need-next-line-requires Inv-loop μ-loop
 next-line-requires c κs = search needs
 
@@ -50,10 +59,12 @@ enum-known-refusal c = search needs
 
 add-print-refusal : tie.Need-add-print-refusal Inv-loop μ-loop
 add-print-refusal c =
-    let l = c .before .before .before .before .before .before .before .loop in
-    let test = c .before .before .before .before .before .before .loop-test .taken in
-    let free = c .before .before .before .before .before .if1 .left in
-    omega (arith, room-here (l .inv .0) test free)
+    let x = c .before .before .before .before in
+    let l = x .before .before .before .loop in
+    let test = x .before .before .loop-test .taken in
+    let free = x .before .if1 .left in
+    let outFits = x .before .before .before .before .before .before .good .1 .1 .1 .1 .1 .1 .1 .1 .0 .0 in
+    omega (arith, room-here (l .inv .0) test free, as-long (l .inv .0), outFits)
 
 sub-print-refusal : tie.Need-sub-print-refusal Inv-loop μ-loop
 sub-print-refusal c = omega arith
@@ -63,44 +74,60 @@ part-print-refusal-start c = omega arith
 
 part-print-refusal-end : tie.Need-part-print-refusal-end Inv-loop μ-loop
 part-print-refusal-end c =
-    let l = c .before .before .before .before .before .before .before .loop in
-    let test = c .before .before .before .before .before .before .loop-test .taken in
-    let free = c .before .before .before .before .before .if1 .left in
+    let x = c .before .before .before .before in
+    let l = x .before .before .before .loop in
+    let test = x .before .before .loop-test .taken in
+    let free = x .before .if1 .left in
     omega (arith, room-here (l .inv .0) test free)
 
 print-refusal-requires : tie.Need-print-refusal-requires Inv-loop μ-loop
 print-refusal-requires c κs =
-    let l = c .before .before .before .before .before .before .before .before .loop in
-    let test = c .before .before .before .before .before .before .before .loop-test .taken in
-    let free = c .before .before .before .before .before .before .if1 .left in
+    let x = c .before .before .before .before .before in
+    let l = x .before .before .before .loop in
+    let test = x .before .before .loop-test .taken in
+    let free = x .before .if1 .left in
     simp (length-take, length-drop) (omega (arith, room-here (l .inv .0) test free))
 
 add-t30 : tie.Need-add-t30 Inv-loop μ-loop
 add-t30 c =
-    let l = c .before .before .before .before .before .before .before .before .before .before .before .loop in
-    let test = c .before .before .before .before .before .before .before .before .before .before .loop-test .taken in
-    let free = c .before .before .before .before .before .before .before .before .before .if1 .left in
-    omega (arith, at-next (l .inv .0) test free (c .before .before .before .before .before .before .before .before .line-at .result .now) (c .before .before .before .before .before .before .before .before .line-at .ensures), c .before .before .before .before .before .before .before .before .before .before .before .before .before .before .good .1 .1 .1 .1 .1 .1 .1 .1 .1 .1 .0 .0)
+    let x = c .before .before .before .before .before .before .before .before in
+    let l = x .before .before .before .loop in
+    let test = x .before .before .loop-test .taken in
+    let free = x .before .if1 .left in
+    let chunkFits = x .before .before .before .before .before .before .good .1 .1 .1 .1 .1 .1 .1 .0 .0 in
+    omega (arith, at-next (l .inv .0) test free (x .line-at .result .now) (x .line-at .ensures), chunkFits)
 
 add-t33 : tie.Need-add-t33 Inv-loop μ-loop
 add-t33 c =
-    let l = c .before .before .before .before .before .before .before .before .before .before .before .loop in
-    let test = c .before .before .before .before .before .before .before .before .before .before .loop-test .taken in
-    let free = c .before .before .before .before .before .before .before .before .before .if1 .left in
-    omega (arith, room-here (l .inv .0) test free, c .before .before .print-refusal .ensures .0, printed-refusal (l .count + 1) (refusalNumber (c .before .before .before .before .before .refusal .given .0 .0)), c .before .before .before .before .before .before .before .before .before .before .before .before .before .before .good .1 .1 .1 .1 .1 .1 .1 .1 .1 .1 .1 .0 .0, as-long (l .inv .0))
+    let x = c .before .before .before .before .before .before .before .before in
+    let l = x .before .before .before .loop in
+    let test = x .before .before .loop-test .taken in
+    let free = x .before .if1 .left in
+    let told = c .before .before .print-refusal .ensures .0 in
+    let outFits = x .before .before .before .before .before .before .good .1 .1 .1 .1 .1 .1 .1 .1 .0 .0 in
+    let few = printed-refusal (l .count + 1) (refusalNumber (c .before .before .before .before .before .refusal .given .0 .0)) in
+    omega (arith, room-here (l .inv .0) test free, told, few, as-long (l .inv .0), outFits)
 
 same-length-2 : tie.Need-same-length-2 Inv-loop μ-loop
 same-length-2 c =
-    let l = c .before .before .before .before .before .before .before .before .before .before .before .loop in
-    same-len-mid (l .written) (l .written + 928 - l .written) (l .out) (c .before .before .print-refusal .last .1 .1 .0) (c .before .before .print-refusal .kept .1 .1 .0) ∙ as-long (l .inv .0)
+    let x = c .before .before .before .before .before .before .before .before in
+    let l = x .before .before .before .loop in
+    let test = x .before .before .loop-test .taken in
+    let free = x .before .if1 .left in
+    let told = c .before .before .print-refusal in
+    same-len-mid (l .written) (l .written + 928 - l .written) (l .out) (told .last .1 .1 .0) (told .kept .1 .1 .0) ∙ as-long (l .inv .0)
 
 returns-2 : tie.Need-returns-2 Inv-loop μ-loop
 returns-2 c =
-    let l = c .before .before .before .before .before .before .before .before .before .before .before .loop in
-    let test = c .before .before .before .before .before .before .before .before .before .before .loop-test .taken in
-    let free = c .before .before .before .before .before .before .before .before .before .if1 .left in
-    let told = c .before .before .print-refusal in (
-      sofar-stop (l .inv .0) test free (l .inv .1 .reached) _ (c .before .before .before .before .before .before .before .before .line-at .ensures) (l .written + 928 - l .written) (omega arith) _ _ _ _ (sym (c .before .before .before .before .before .before .before .next-line .ensures) ∙ c .before .before .before .before .before .refusal .given .1) (told .ensures .0) (told .ensures .1) refl refl refl refl,
+    let x = c .before .before .before .before .before .before .before .before in
+    let l = x .before .before .before .loop in
+    let test = x .before .before .loop-test .taken in
+    let free = x .before .if1 .left in
+    let told = c .before .before .print-refusal .ensures in
+    let read = c .before .before .before .before .before in
+    let said = sym (read .before .before .next-line .ensures) ∙ read .refusal .given .1 in (
+      sofar-stop (l .inv .0) test free (run-passes (l .inv .1)) _ (x .line-at .ensures) (l .written + 928 - l .written) (omega arith) _ _ _ _ said
+          (told .0) (told .1) refl refl refl refl,
       l .inv .1,
     )
 
@@ -109,10 +136,12 @@ enum-known-station c = search needs
 
 add-serve-line : tie.Need-add-serve-line Inv-loop μ-loop
 add-serve-line c =
-    let l = c .before .before .before .before .before .before .before .before .before .before .before .before .before .before .before .loop in
-    let test = c .before .before .before .before .before .before .before .before .before .before .before .before .before .before .loop-test .taken in
-    let free = c .before .before .before .before .before .before .before .before .before .before .before .before .before .if1 .left in
-    omega (arith, room-here (l .inv .0) test free, as-long (l .inv .0), c .before .before .before .before .before .before .before .before .before .before .before .before .before .before .before .before .before .before .good .1 .1 .1 .1 .1 .1 .1 .1 .1 .1 .1 .0 .0)
+    let x = c .before .before .before .before .before .before .before .before .before in
+    let l = x .before .before .before .loop in
+    let test = x .before .before .loop-test .taken in
+    let free = x .before .if1 .left in
+    let outFits = x .before .before .before .before .before .before .good .1 .1 .1 .1 .1 .1 .1 .1 .0 .0 in
+    omega (arith, room-here (l .inv .0) test free, as-long (l .inv .0), outFits)
 
 sub-serve-line : tie.Need-sub-serve-line Inv-loop μ-loop
 sub-serve-line c = omega arith
@@ -122,53 +151,69 @@ part-serve-line-start c = omega arith
 
 part-serve-line-end : tie.Need-part-serve-line-end Inv-loop μ-loop
 part-serve-line-end c =
-    let l = c .before .before .before .before .before .before .before .before .before .before .before .before .before .before .before .loop in
-    let test = c .before .before .before .before .before .before .before .before .before .before .before .before .before .before .loop-test .taken in
-    let free = c .before .before .before .before .before .before .before .before .before .before .before .before .before .if1 .left in
+    let x = c .before .before .before .before .before .before .before .before .before in
+    let l = x .before .before .before .loop in
+    let test = x .before .before .loop-test .taken in
+    let free = x .before .if1 .left in
     omega (arith, room-here (l .inv .0) test free)
 
 serve-line-requires : tie.Need-serve-line-requires Inv-loop μ-loop
 serve-line-requires c κs =
-    let l = c .before .before .before .before .before .before .before .before .before .before .before .before .before .before .before .before .loop in
-    let test = c .before .before .before .before .before .before .before .before .before .before .before .before .before .before .before .loop-test .taken in
-    let free = c .before .before .before .before .before .before .before .before .before .before .before .before .before .before .if1 .left in
-    (l .inv .1, length-take-le (l .written + 928 - l .written) (drop (l .written) (l .out)) (rw length-drop (omega (arith, room-here (l .inv .0) test free))) ∙ omega arith)
+    let x = c .before .before .before .before .before .before .before .before .before .before in
+    let l = x .before .before .before .loop in
+    let test = x .before .before .loop-test .taken in
+    let free = x .before .if1 .left in
+    let mid = length-take-le (l .written + 928 - l .written) (drop (l .written) (l .out)) (rw length-drop (omega (arith, room-here (l .inv .0) test free))) in
+    (l .inv .1, mid ∙ omega arith)
 
 add-count : tie.Need-add-count Inv-loop μ-loop
-add-count c = omega (arith, next-within (c .before .before .before .before .before .before .before .before .before .before .before .before .before .before .before .before .before .before .before .loop .count) _ _ _ _ (sym (c .before .before .before .before .before .before .before .before .before .before .before .before .before .before .before .next-line .ensures) ∙ c .before .before .before .before .before .before .before .before .before .before .before .before .before .station .given .1))
+add-count c =
+    let x = c .before .before .before .before .before .before .before .before .before .before .before .before .before in
+    let read = c .before .before .before .before .before .before .before .before .before .before in
+    let said = sym (read .before .before .next-line .ensures) ∙ read .station .given .1 in
+    omega (arith, next-within (x .before .before .before .loop .count) _ _ _ _ said)
 
 add-written : tie.Need-add-written Inv-loop μ-loop
 add-written c =
-    let l = c .before .before .before .before .before .before .before .before .before .before .before .before .before .before .before .before .before .before .before .loop in
-    let test = c .before .before .before .before .before .before .before .before .before .before .before .before .before .before .before .before .before .before .loop-test .taken in
-    let free = c .before .before .before .before .before .before .before .before .before .before .before .before .before .before .before .before .before .if1 .left in
+    let x = c .before .before .before .before .before .before .before .before .before .before .before .before .before in
+    let l = x .before .before .before .loop in
+    let test = x .before .before .loop-test .taken in
+    let free = x .before .if1 .left in
     let served = c .before .before .serve-line in
     let mid = length-take-le (l .written + 928 - l .written) (drop (l .written) (l .out)) (rw length-drop (omega (arith, room-here (l .inv .0) test free))) in
-    omega (arith, room-here (l .inv .0) test free, prints-short (served .ensures .0) (served .kept .1 .1 .1 .1 .1 .1 .1 .1 .1 .1 .1 .1 .1 .0), mid, c .before .before .before .before .before .before .before .before .before .before .before .before .before .before .before .before .before .before .before .before .before .before .good .1 .1 .1 .1 .1 .1 .1 .1 .1 .1 .1 .0 .0, as-long (l .inv .0))
+    let outFits = x .before .before .before .before .before .before .good .1 .1 .1 .1 .1 .1 .1 .1 .0 .0 in
+    let few = prints-short (served .ensures .0) (served .kept .1 .1 .1 .1 .1 .1 .1 .0) in
+    omega (arith, room-here (l .inv .0) test free, few, mid, as-long (l .inv .0), outFits)
 
 add-at : tie.Need-add-at Inv-loop μ-loop
 add-at c =
-    let l = c .before .before .before .before .before .before .before .before .before .before .before .before .before .before .before .before .before .before .before .loop in
-    let test = c .before .before .before .before .before .before .before .before .before .before .before .before .before .before .before .before .before .before .loop-test .taken in
-    let free = c .before .before .before .before .before .before .before .before .before .before .before .before .before .before .before .before .before .if1 .left in
-    omega (arith, at-next (l .inv .0) test free (c .before .before .before .before .before .before .before .before .before .before .before .before .before .before .before .before .line-at .result .now) (c .before .before .before .before .before .before .before .before .before .before .before .before .before .before .before .before .line-at .ensures), c .before .before .before .before .before .before .before .before .before .before .before .before .before .before .before .before .before .before .before .before .before .before .good .1 .1 .1 .1 .1 .1 .1 .1 .1 .1 .0 .0)
+    let x = c .before .before .before .before .before .before .before .before .before .before .before .before .before in
+    let l = x .before .before .before .loop in
+    let test = x .before .before .loop-test .taken in
+    let free = x .before .if1 .left in
+    let chunkFits = x .before .before .before .before .before .before .good .1 .1 .1 .1 .1 .1 .1 .0 .0 in
+    omega (arith, at-next (l .inv .0) test free (x .line-at .result .now) (x .line-at .ensures), chunkFits)
 
 loop-less : tie.Need-loop-less Inv-loop μ-loop
 loop-less c =
-    let l = c .before .before .before .before .before .before .before .before .before .before .before .before .before .before .before .before .before .before .before .loop in
-    let test = c .before .before .before .before .before .before .before .before .before .before .before .before .before .before .before .before .before .before .loop-test .taken in
-    let free = c .before .before .before .before .before .before .before .before .before .before .before .before .before .before .before .before .before .if1 .left in
-    omega (arith, at-next (l .inv .0) test free (c .before .before .before .before .before .before .before .before .before .before .before .before .before .before .before .before .line-at .result .now) (c .before .before .before .before .before .before .before .before .before .before .before .before .before .before .before .before .line-at .ensures))
+    let x = c .before .before .before .before .before .before .before .before .before .before .before .before .before in
+    let l = x .before .before .before .loop in
+    let test = x .before .before .loop-test .taken in
+    let free = x .before .if1 .left in
+    omega (arith, at-next (l .inv .0) test free (x .line-at .result .now) (x .line-at .ensures))
 
 loop-again : tie.Need-loop-again Inv-loop μ-loop
 loop-again c =
-    let l = c .before .before .before .before .before .before .before .before .before .before .before .before .before .before .before .before .before .before .before .loop in
-    let test = c .before .before .before .before .before .before .before .before .before .before .before .before .before .before .before .before .before .before .loop-test .taken in
-    let free = c .before .before .before .before .before .before .before .before .before .before .before .before .before .before .before .before .before .if1 .left in
-    let said = c .before .before .before .before .before .before .before .before .before .before .before .before .before .station .given in
+    let x = c .before .before .before .before .before .before .before .before .before .before .before .before .before in
+    let l = x .before .before .before .loop in
+    let test = x .before .before .loop-test .taken in
+    let free = x .before .if1 .left in
+    let read = c .before .before .before .before .before .before .before .before .before .before in
+    let given = read .station .given in
+    let said = sym (read .before .before .next-line .ensures) ∙ given .1 in
     let served = c .before .before .serve-line in (
-      sofar-more (l .inv .0) test free (l .inv .1 .reached) _ (c .before .before .before .before .before .before .before .before .before .before .before .before .before .before .before .before .line-at .ensures) (l .written + 928 - l .written) (omega arith) (said .0 .0) (said .0 .1 .0) (said .0 .1 .1 .0) (sym (c .before .before .before .before .before .before .before .before .before .before .before .before .before .before .before .next-line .ensures) ∙ said .1) _ _ _
-          (served .ensures .0 .table) (served .ensures .0 .written) (served .ensures .0 .report) (served .kept .1 .1 .1 .1 .1 .1 .1 .1 .1 .1 .1 .1 .1 .0),
+      sofar-more (l .inv .0) test free (run-passes (l .inv .1)) _ (x .line-at .ensures) (l .written + 928 - l .written) (omega arith)
+          (given .0 .0) (given .0 .1 .0) (given .0 .1 .1 .0) said (served .ensures .0) (served .kept .1 .1 .1 .1 .1 .1 .1 .0),
       served .ensures .1,
     )
 
@@ -189,6 +234,8 @@ report-lines-spec =
     same-length
     returns
     line-at-requires
+    cast-number
+    add-number
     next-line-requires
     enum-known-refusal
     add-print-refusal

@@ -1,0 +1,71 @@
+// The commands on the session. Those that open it or serve a line end with a line of a schedule file, its byte 10 too.
+use crate::commands::Command;
+use session::Session;
+use table::Table;
+ghost use Prim.Native.Nat.{_≤_};
+ghost use lib.ListN.{length};
+
+// Where the rest of a line behind so many bytes starts; the end of one that is shorter.
+fn behind(line: &[u8], front: usize) -> usize
+    ensures { λ r. ⌜ r ≤ length (now (line .entry)) ⌝ }
+{
+    if front <= line.len() {
+        front
+    } else {
+        line.len()
+    }
+}
+
+// Opens a session, and shows the number of its refusal.
+fn opened(header: &[u8]) -> Session {
+    let s = session::open(header);
+    let refusal = s.refusal;
+    crate::number(b' ', refusal.number());
+    s
+}
+
+// Serves a line, and shows its buffer and its reply.
+fn shown(s: Session, line: &[u8], report: &mut [u8]) -> Session {
+    let o = session::serve(s, line, report);
+    let r = o.reply;
+    crate::show(report, r);
+    o.session
+}
+
+// Lends a buffer for a line. A command has room for 929 bytes at most.
+fn served(s: Session, line: &[u8], room: u64) -> Session {
+    let mut buffer = [b'.'; 929];
+    let n = (room % 930) as usize;
+    shown(s, line, &mut buffer[..n])
+}
+
+// The session with this table, and so many lines counted.
+fn with(s: Session, t: Table, lines: u32) -> Session {
+    let refusal = s.refusal;
+    Session {
+        lines,
+        refusal,
+        table: t,
+    }
+}
+
+// Obeys a command on the session.
+pub fn obey(s: Session, t: Table, c: Command, line: &[u8]) -> Session {
+    let letter = c.letter;
+    match letter {
+        b'o' => {
+            let from = behind(line, 1);
+            opened(&line[from..])
+        }
+        b'v' => {
+            let from = behind(line, 13);
+            served(s, &line[from..], c.d)
+        }
+        b't' => with(s, t, s.lines),
+        b'x' => {
+            let own = s.table;
+            with(s, own, (c.a % 4294967296) as u32)
+        }
+        _ => s,
+    }
+}

@@ -1,0 +1,14 @@
+-- Demand 3 of schedule files on the tables that are lent: for every list of bytes whose header is accepted.
+use Prim.Native.Nat.{ℕ}
+use mathlib.Core.Path.{_≡_}
+use mathlib.Core.List.{List}
+use lib.ListN.{take}
+use Rattle.arrays.specs.Form.{lent}
+use Rattle.arrays.proofs.States.{lent-lawful}
+use Rattle.schedule.specs.Lines.{headerRead}
+use Rattle.schedule.specs.Demand.{FileDemand}
+use Rattle.schedule.proofs.FileTheorem.{file-demand}
+use Rattle.schedule.specs.declared.Header.the-variants.{Stations}
+
+pub demand : (bs : List ℕ) (n : ℕ) → headerRead (take 18 bs) ≡ Stations n → FileDemand lent bs n
+demand = file-demand lent lent-lawful

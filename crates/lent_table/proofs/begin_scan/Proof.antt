@@ -1,0 +1,28 @@
+-- `lent_table::begin_scan` meets its contract: `Lent.antt`'s walk, at `step::begin_scan`, of which it knows only that it meets its contract.
+use mathlib.Core.Bool.{false}
+use lib.ListN.{length}
+use contract.Running.{givenOf, tables, tablesOf}
+use denote.Triple.Spec.{tripleOf}
+use denote.Triple.Table.{entered, cited}
+use Rattle.transition.specs.Sequences.{Steps}
+use Rattle.moves.specs.Moves.{refusalNumber, called}
+use Rattle.table.specs.Tables.{declared}
+use Rattle.step.proofs.begin_scan.Symbol as step-def
+use Rattle.step.proofs.begin_scan.Symbol.{name as #step·begin-scan}
+use Rattle.step.proofs.begin_scan.Met as step-thm
+use Rattle.lent_table.proofs.Lent.{Says, Step, lent-meets}
+use Rattle.lent_table.proofs.begin_scan.Key.{name as #lent-table·begin-scan}
+use Rattle.lent_table.proofs.begin_scan as lent
+use Rattle.lent_table.proofs.begin_scan.Statement as stated
+use Rattle.lent_table.proofs.begin_scan.Code as code
+
+abbrev says : Says 1
+says t ns ys t′ r zs = Steps declared t (called 0 2 (ns .0) 0 (length ys)) ys t′ (refusalNumber (r .refusal)) (r .written) zs
+
+pub begin-scan-spec : {M : Type 1} → stated.statement M
+unfolding code.routine tablesOf
+begin-scan-spec 𝓤 H 𝓜 𝓖 𝓡 =
+    entered 𝓤 H (tripleOf 𝓤 H (𝓖 .A) lent.signature (lent.spec 𝓤 H (𝓖 .A) (𝓜 .mem) (𝓡 .run)))
+    (tables 𝓤 H 𝓜 𝓡 code.env .C) (tables 𝓤 H 𝓜 𝓡 code.env .Λ) #lent-table·begin-scan code.function (code.unfolded 𝓤 H 𝓜 𝓡)
+    (lent-meets false 1 says #step·begin-scan 𝓤 H (𝓖 .A) (givenOf 𝓤 H 𝓜 𝓖) (tablesOf 𝓤 H 𝓜 (tables 𝓤 H 𝓜 𝓡 code.env))
+    (cited 𝓤 H (Step false 1 says 𝓤 H (𝓖 .A)) 𝓜 𝓡 code.env #step·begin-scan step-def.routine code.calls-step·begin-scan (step-thm.met 𝓤 H 𝓜 𝓖 𝓡)))

@@ -1,2 +1,0 @@
-pub mod Contracts
-pub mod Routines

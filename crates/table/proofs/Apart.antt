@@ -1,0 +1,231 @@
+-- Taking a table apart and putting it together are inverse: on tables whose arrays have the lengths of their types, and on arrays of these lengths with
+-- numbers of phases. So the struct is a lawful form, since the arrays are one.
+use Prim.Native.Nat.{ℕ, zero, suc, _≤_, _<_}
+use native.Mathlib.Nat.{zero-add}
+use native.Mathlib.Omega.{arith}
+use mathlib.Core.Path.{_≡_, refl, sym, ap, ap₂, subst, _∙_}
+use mathlib.Core.Bool.{true}
+use mathlib.Core.List as Lists
+use mathlib.Core.List.{[], _∷_}
+use lib.ListN.{length, getD}
+use borrow.Author.Tests.{lt-ltb}
+use Rattle.basics.specs.Tests.{tabulate}
+use Rattle.basics.proofs.Facts.{length-tabulate, getD-tabulate, tabulate-same}
+use Rattle.basics.proofs.Filled.{filled}
+use Rattle.label.specs.Labels as Labels
+use Rattle.label.specs.Rows.{row}
+use Rattle.simulation.specs.Calls as Calls
+use Rattle.simulation.specs.Machine.{State}
+use Rattle.transition.proofs.Theorem.{Lawful}
+use Rattle.moves.specs.Moves.{operationOf, phaseOf}
+use Rattle.moves.specs.declared.Operation.{Operation}
+use Rattle.moves.specs.declared.Operation.the-variants.{Label, Scan}
+use Rattle.moves.specs.declared.Phase.{Phase}
+use Rattle.moves.specs.declared.Phase.the-variants.{Idle, Snap, Update, End}
+use Rattle.arrays.specs.Arrays.{Rows, Arrays, arrays, cell, phaseNumber, phaseFor, resultRows, stateOf, arraysOf}
+use Rattle.arrays.specs.WellFormed.{wellFormed}
+use Rattle.arrays.specs.Sizes.{Sized, Shaped}
+use Rattle.arrays.proofs.States.{tabulate-is, two-lists, one-list, phase-back, phase-low, number-back, lent-lawful, written-held}
+use Rattle.table.specs.Tables.{declaredOperation, declaredPhase, entry, blank, rowsOf, entriesOf, Bytes, at, apart, stationOf, together, declared}
+use Rattle.table.specs.declared.Entry.{Entry}
+use Rattle.table.specs.declared.Station.{Station}
+use Rattle.table.specs.declared.Table.{Table}
+
+-- LISTS OF 32
+
+pub element : {A : Type 0} (f : ℕ → A) (d : A) (i : ℕ) → i < 32 → getD (tabulate 32 0 f) i d ≡ f i
+element f d i h = getD-tabulate 32 0 i f d h ∙ ap f (zero-add i)
+
+-- an array that a loop filled to its end
+pub filled-end : {A : Type 0} (f : ℕ → A) (z : A) (k : ℕ) → k ≡ 32 → filled 32 k f z ≡ tabulate 32 0 f
+filled-end f z k e = tabulate-same 32 0 _ _ (λ i l. rw (lt-ltb i k (omega arith)) refl)
+
+planes-sized : {A : Type 0} (f g : ℕ → A) → Sized 2 32 (tabulate 32 0 f ∷ tabulate 32 0 g ∷ [])
+planes-sized f g = record { long = refl; each = each }
+  where
+    each : (i : ℕ) → i < 2 → length (getD (tabulate 32 0 f ∷ tabulate 32 0 g ∷ []) i []) ≡ 32
+    each zero h = length-tabulate 32 0 f
+    each (suc zero) h = length-tabulate 32 0 g
+    each (suc (suc i)) h = absurd (omega arith)
+
+-- 32 rows of a width
+rows-sized : (w : ℕ) (f : ℕ → Lists.List ℕ) → ((i : ℕ) → i < 32 → length (f i) ≡ w) → Sized 32 w (tabulate 32 0 f)
+rows-sized w f e = record { long = length-tabulate 32 0 f; each = λ i l. ap length (element f [] i l) ∙ e i l }
+
+-- PHASES
+
+operation-back : (o : Operation) → declaredOperation (operationOf o) ≡ o
+operation-back Label = refl
+operation-back Scan = refl
+
+pub declared-back : (p : Phase) → declaredPhase (phaseOf p) ≡ p
+declared-back Idle = refl
+declared-back (Snap o) = ap Snap (operation-back o)
+declared-back Update = refl
+declared-back (End o) = ap End (operation-back o)
+
+machine-operation : (o : Calls.Operation) → operationOf (declaredOperation o) ≡ o
+machine-operation Calls.Label = refl
+machine-operation Calls.Scan = refl
+
+machine-back : (p : Calls.Phase) → phaseOf (declaredPhase p) ≡ p
+machine-back Calls.Idle = refl
+machine-back (Calls.Snap o) = ap Calls.Snap (machine-operation o)
+machine-back Calls.Update = refl
+machine-back (Calls.End o) = ap Calls.End (machine-operation o)
+
+-- SCAN RESULTS
+
+rows-back : (rows : Rows) → Sized 2 32 rows → rowsOf (entriesOf rows) ≡ rows
+rows-back rows z = ap₂ (λ a b. a ∷ b ∷ [])
+    (tabulate-is 32 (getD rows 0 []) 0 _ (z .each 0 (omega arith)) (λ p u. ap (λ (e : Entry). e .station) (element f blank p u)))
+    (tabulate-is 32 (getD rows 1 []) 0 _ (z .each 1 (omega arith)) (λ p u. ap (λ (e : Entry). e .job) (element f blank p u)))
+    ∙ two-lists rows [] (z .long)
+  where
+    f : ℕ → Entry
+    f p = entry (cell rows 0 p 0) (cell rows 1 p 0)
+
+entries-back : (l : Lists.List Entry) → length l ≡ 32 → entriesOf (rowsOf l) ≡ l
+entries-back l e = tabulate-is 32 l blank _ e (λ p u. ap₂ entry (element (λ k. getD l k blank .station) 0 p u) (element (λ k. getD l k blank .job) 0 p u))
+
+-- ARRAYS, PUT TOGETHER
+
+module _ (a : Arrays) (g : Shaped a) (known : (i : ℕ) → i < 32 → cell (a .control) 0 i 0 ≤ 5) where
+  put-at : (i : ℕ) → i < 32 → at (together a) i ≡ stationOf a i
+  unfolding together
+  put-at i h = element (stationOf a) _ i h
+
+  -- a plane of what f takes of each record
+  plane-back : {A : Type 0} (xs : Lists.List (Lists.List A)) (k : ℕ) (d : A) (f : Station → A) → length (getD xs k []) ≡ 32
+      → ((i : ℕ) → i < 32 → f (stationOf a i) ≡ cell xs k i d) → tabulate 32 0 (λ i. f (at (together a) i)) ≡ getD xs k []
+  plane-back xs k d f e h = tabulate-is 32 (getD xs k []) d _ e (λ i l. ap f (put-at i l) ∙ h i l)
+
+  pub apart-together : apart (together a) ≡ a
+  unfolding apart together
+  apart-together = λ y. arrays (a .count) (labels y) (jobs y) (control y) (results y)
+    where
+      labels : apart (together a) .labels ≡ a .labels
+      labels = ap₂ (λ b c. b ∷ c ∷ [])
+          (plane-back (a .labels) 0 [] (λ s. s .label) (g .labels .each 0 (omega arith)) (λ i l. refl))
+          (plane-back (a .labels) 1 [] (λ s. s .«pending_label») (g .labels .each 1 (omega arith)) (λ i l. refl))
+          ∙ two-lists (a .labels) [] (g .labels .long)
+
+      jobs : apart (together a) .jobs ≡ a .jobs
+      jobs = ap₂ (λ b c. b ∷ c ∷ [])
+          (plane-back (a .jobs) 0 0 (λ s. s .job) (g .jobs .each 0 (omega arith)) (λ i l. refl))
+          (plane-back (a .jobs) 1 0 (λ s. s .«pending_job») (g .jobs .each 1 (omega arith)) (λ i l. refl))
+          ∙ two-lists (a .jobs) [] (g .jobs .long)
+
+      control : apart (together a) .control ≡ a .control
+      control = ap (λ b. b ∷ []) (plane-back (a .control) 0 0 (λ s. phaseNumber (phaseOf (s .phase))) (g .control .each 0 (omega arith))
+          (λ i l. ap phaseNumber (machine-back (phaseFor (cell (a .control) 0 i 0))) ∙ number-back _ (known i l)))
+          ∙ one-list (a .control) [] (g .control .long)
+
+      results : apart (together a) .results ≡ a .results
+      results = tabulate-is 32 (a .results) [] _ (g .results .long)
+          (λ i l. ap (λ (s : Station). rowsOf (s .«scan_result»)) (put-at i l) ∙ rows-back (getD (a .results) i []) (g .result i l))
+
+-- in particular those of a state
+module _ (n : ℕ) (s : State Labels.Label) where
+  written-shaped : Shaped (arraysOf n s)
+  unfolding arraysOf row
+  written-shaped = record {
+    labels = planes-sized _ _;
+    label = each;
+    jobs = planes-sized _ _;
+    control = record { long = refl; each = one };
+    results = record { long = length-tabulate 32 0 _; each = λ i l. ap length (element rows [] i l) };
+    result = λ i l. subst (Sized 2 32) (sym (element rows [] i l)) (planes-sized _ _);
+  }
+    where
+      rows : ℕ → Rows
+      rows i = resultRows (s .rest .result i)
+
+      each : (f : ℕ) → f < 2 → Sized 32 31 (getD (arraysOf n s .labels) f [])
+      each zero h = rows-sized 31 _ (λ i l. length-tabulate 31 0 _)
+      each (suc zero) h = rows-sized 31 _ (λ i l. length-tabulate 31 0 _)
+      each (suc (suc i)) h = absurd (omega arith)
+
+      one : (i : ℕ) → i < 1 → length (getD (arraysOf n s .control) i []) ≡ 32
+      one zero h = length-tabulate 32 0 _
+      one (suc i) h = absurd (omega arith)
+
+  written-known : (i : ℕ) → i < 32 → cell (arraysOf n s .control) 0 i 0 ≤ 5
+  unfolding arraysOf
+  written-known i l = rw (element (λ j. phaseNumber (s .rest .process j .phase)) 0 i l) (phase-low (s .rest .process i .phase))
+
+  pub written-apart : apart (together (arraysOf n s)) ≡ arraysOf n s
+  written-apart = apart-together (arraysOf n s) written-shaped written-known
+
+pub declared-lawful : Lawful declared
+unfolding together arraysOf
+declared-lawful = record {
+  counted = λ n s. refl;
+  held = λ n h s w. ap stateOf (written-apart n s) ∙ lent-lawful .held n h s w;
+  passes = λ n l h s r. ap wellFormed (written-apart n s) ∙ lent-lawful .passes n l h s r;
+}
+
+-- A TABLE, TAKEN APART
+
+-- what the types of a record and of a table fix
+pub record Long (s : Station) : Type 0 where
+  pub label : length (s .label) ≡ 31
+  pub pending : length (s .«pending_label») ≡ 31
+  pub result : length (s .«scan_result») ≡ 32
+  pub stations : (p : ℕ) → p < 32 → getD (s .«scan_result») p blank .station ≤ 255
+
+pub record Whole (t : Table) : Type 0 where
+  pub places : length (t .stations) ≡ 32
+  pub each : (i : ℕ) → i < 32 → Long (at t i)
+
+module _ (t : Table) (w : Whole t) where
+  -- the record at a place is the one that the arrays have there
+  pub station-apart : (i : ℕ) → i < 32 → stationOf (apart t) i ≡ at t i
+  unfolding apart
+  station-apart i h y = record {
+    label = element (λ k. at t k .label) [] i h y;
+    job = element (λ k. at t k .job) 0 i h y;
+    «pending_label» = element (λ k. at t k .«pending_label») [] i h y;
+    «pending_job» = element (λ k. at t k .«pending_job») 0 i h y;
+    «scan_result» = (ap entriesOf (element (λ k. rowsOf (at t k .«scan_result»)) [] i h) ∙ entries-back (at t i .«scan_result») (w .each i h .result)) y;
+    phase = (ap (λ b. declaredPhase (phaseFor b)) (element (λ k. phaseNumber (phaseOf (at t k .phase))) 0 i h)
+        ∙ ap declaredPhase (phase-back (phaseOf (at t i .phase))) ∙ declared-back (at t i .phase)) y;
+  }
+
+  pub together-apart : together (apart t) ≡ t
+  unfolding together apart
+  together-apart = ap (λ (l : Lists.List Station). record { count = t .count; stations = l })
+      (tabulate-is 32 (t .stations) _ (stationOf (apart t)) (w .places) station-apart)
+
+  pub apart-shaped : Shaped (apart t)
+  unfolding apart
+  apart-shaped = record {
+    labels = planes-sized _ _;
+    label = each;
+    jobs = planes-sized _ _;
+    control = record { long = refl; each = one };
+    results = record { long = length-tabulate 32 0 _; each = λ i l. ap length (element rows [] i l) };
+    result = λ i l. subst (Sized 2 32) (sym (element rows [] i l)) (planes-sized _ _);
+  }
+    where
+      rows : ℕ → Rows
+      rows i = rowsOf (at t i .«scan_result»)
+
+      each : (f : ℕ) → f < 2 → Sized 32 31 (getD (apart t .labels) f [])
+      each zero h = rows-sized 31 _ (λ i l. w .each i l .label)
+      each (suc zero) h = rows-sized 31 _ (λ i l. w .each i l .pending)
+      each (suc (suc i)) h = absurd (omega arith)
+
+      one : (i : ℕ) → i < 1 → length (getD (apart t .control) i []) ≡ 32
+      one zero h = length-tabulate 32 0 _
+      one (suc i) h = absurd (omega arith)
+
+  -- so a well-formed table is that of the state that it holds
+  pub declared-written : wellFormed (apart t) ≡ true → together (arraysOf (t .count) (stateOf (apart t))) ≡ t
+  unfolding apart
+  declared-written e = ap together (written-held (apart t) apart-shaped e) ∙ together-apart
+
+  pub apart-bytes : (i : ℕ) → i < 32 → Bytes (getD (apart t .results) i [])
+  unfolding apart
+  apart-bytes i h p l = rw (element (λ k. rowsOf (at t k .«scan_result»)) [] i h)
+      (rw (element (λ q. getD (at t i .«scan_result») q blank .station) 0 p l) (w .each i h .stations p l))

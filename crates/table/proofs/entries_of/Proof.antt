@@ -1,0 +1,79 @@
+use Prim.Native.Nat.{_-_, _≤_}
+use native.Mathlib.Omega.{arith}
+use mathlib.Core.Path.{_≡_, refl, _∙_}
+use Rattle.arrays.specs.Arrays.{cell}
+use Rattle.basics.proofs.Filled.{filled, filled-none, filled-more}
+use Rattle.table.specs.Tables.{entry, blank}
+use Rattle.table.proofs.Apart.{filled-end}
+use borrow.Author.Needs.{needs}
+use Rattle.table.proofs.entries_of.Statement.{statement}
+use Rattle.table.proofs.entries_of.Tie as tie
+
+abbrev Inv-loop : tie.InvT-loop
+Inv-loop rows r₀ p₀ r p = (p ≤ 32) × (r ≡ filled 32 p (λ k. entry (cell rows 0 k 0) (cell rows 1 k 0)) blank)
+
+abbrev μ-loop : tie.MeasureT-loop
+μ-loop rows r₀ p₀ r p = 32 - p
+
+loop-holds : tie.Need-loop-holds Inv-loop μ-loop
+loop-holds c = (search needs, filled-none 32 _ blank)
+
+mul-t8 : tie.Need-mul-t8 Inv-loop μ-loop
+mul-t8 c = search needs
+
+index-1-t11 : tie.Need-index-1-t11 Inv-loop μ-loop
+index-1-t11 c = search needs
+
+index-2-t11 : tie.Need-index-2-t11 Inv-loop μ-loop
+index-2-t11 c = search needs
+
+cast-t12 : tie.Need-cast-t12 Inv-loop μ-loop
+cast-t12 c = let b = c .before .before in omega (arith, b .before .pre (b .loop .p) (omega arith))
+
+mul-t15 : tie.Need-mul-t15 Inv-loop μ-loop
+mul-t15 c = search needs
+
+index-1-t18 : tie.Need-index-1-t18 Inv-loop μ-loop
+index-1-t18 c = search needs
+
+index-2-t18 : tie.Need-index-2-t18 Inv-loop μ-loop
+index-2-t18 c = search needs
+
+mul-r : tie.Need-mul-r Inv-loop μ-loop
+mul-r c = search needs
+
+array-set-from-r : tie.Need-array-set-from-r Inv-loop μ-loop
+array-set-from-r c = search needs
+
+add-p : tie.Need-add-p Inv-loop μ-loop
+add-p c = search needs
+
+loop-less : tie.Need-loop-less Inv-loop μ-loop
+loop-less c = search needs
+
+loop-again : tie.Need-loop-again Inv-loop μ-loop
+loop-again c = let l = c .before .before .before .loop in (search needs, rw (l .inv .1) (filled-more 32 _ blank (l .p) _ (search needs) refl))
+
+returns : tie.Need-returns Inv-loop μ-loop
+returns c = let l = c .before .loop in l .inv .1 ∙ filled-end _ blank (l .p) (omega arith)
+
+pub entries-of-spec : {M : Type 1} → statement M
+entries-of-spec =
+    tie.close
+    (tie.spec
+    Inv-loop
+    μ-loop
+    loop-holds
+    mul-t8
+    index-1-t11
+    index-2-t11
+    cast-t12
+    mul-t15
+    index-1-t18
+    index-2-t18
+    mul-r
+    array-set-from-r
+    add-p
+    loop-less
+    loop-again
+    returns)

@@ -1,0 +1,136 @@
+use Prim.Native.Nat.{_-_, _≤_}
+use native.Mathlib.Omega.{arith}
+use mathlib.Core.Path.{_≡_, refl, _∙_}
+use mathlib.Core.List.{[], _∷_}
+use lib.ListN.{replicate}
+use Rattle.basics.proofs.Filled.{filled, filled-none, filled-more}
+use Rattle.moves.specs.Moves.{phaseOf}
+use Rattle.arrays.specs.Arrays.{arrays, phaseNumber}
+use Rattle.table.specs.Tables.{rowsOf, at, apart}
+use Rattle.table.proofs.Apart.{filled-end}
+use borrow.Author.Needs.{needs}
+use Rattle.table.proofs.take_apart.Statement.{statement}
+use Rattle.table.proofs.take_apart.Tie as tie
+
+abbrev Inv-loop : tie.InvT-loop
+Inv-loop labels jobs control results t current₀ pending₀ current-jobs₀ pending-jobs₀ phases₀ rows₀ i₀ current pending current-jobs pending-jobs phases rows i =
+    (i ≤ 32) × (current ≡ filled 32 i (λ k. at t k .label) (replicate 31 0)) × (pending ≡ filled 32 i (λ k. at t k .«pending_label») (replicate 31 0))
+    × (current-jobs ≡ filled 32 i (λ k. at t k .job) 0) × (pending-jobs ≡ filled 32 i (λ k. at t k .«pending_job») 0)
+    × (phases ≡ filled 32 i (λ k. phaseNumber (phaseOf (at t k .phase))) 0)
+    × (rows ≡ filled 32 i (λ k. rowsOf (at t k .«scan_result»)) (replicate 2 (replicate 32 0)))
+
+abbrev μ-loop : tie.MeasureT-loop
+μ-loop labels jobs control results t current₀ pending₀ current-jobs₀ pending-jobs₀ phases₀ rows₀ i₀ current pending current-jobs pending-jobs phases rows i =
+    32 - i
+
+loop-holds : tie.Need-loop-holds Inv-loop μ-loop
+loop-holds c = (
+  search needs,
+  filled-none 32 _ (replicate 31 0),
+  filled-none 32 _ (replicate 31 0),
+  filled-none 32 _ 0,
+  filled-none 32 _ 0,
+  filled-none 32 _ 0,
+  filled-none 32 _ (replicate 2 (replicate 32 0)),
+)
+
+mul-s : tie.Need-mul-s Inv-loop μ-loop
+mul-s c = search needs
+
+element-copy-out-s : tie.Need-element-copy-out-s Inv-loop μ-loop
+element-copy-out-s c = search needs
+
+mul-current : tie.Need-mul-current Inv-loop μ-loop
+mul-current c = search needs
+
+array-set-from-current : tie.Need-array-set-from-current Inv-loop μ-loop
+array-set-from-current c = search needs
+
+mul-pending : tie.Need-mul-pending Inv-loop μ-loop
+mul-pending c = search needs
+
+array-set-from-pending : tie.Need-array-set-from-pending Inv-loop μ-loop
+array-set-from-pending c = search needs
+
+mul-current-jobs : tie.Need-mul-current-jobs Inv-loop μ-loop
+mul-current-jobs c = search needs
+
+array-write-current-jobs : tie.Need-array-write-current-jobs Inv-loop μ-loop
+array-write-current-jobs c = search needs
+
+mul-pending-jobs : tie.Need-mul-pending-jobs Inv-loop μ-loop
+mul-pending-jobs c = search needs
+
+array-write-pending-jobs : tie.Need-array-write-pending-jobs Inv-loop μ-loop
+array-write-pending-jobs c = search needs
+
+phase-number-requires : tie.Need-phase-number-requires Inv-loop μ-loop
+phase-number-requires c κs = search needs
+
+array-write-phases : tie.Need-array-write-phases Inv-loop μ-loop
+array-write-phases c = search needs
+
+rows-of-requires : tie.Need-rows-of-requires Inv-loop μ-loop
+rows-of-requires c κs = search needs
+
+mul-rows : tie.Need-mul-rows Inv-loop μ-loop
+mul-rows c = search needs
+
+array-set-from-rows : tie.Need-array-set-from-rows Inv-loop μ-loop
+array-set-from-rows c = search needs
+
+add-i : tie.Need-add-i Inv-loop μ-loop
+add-i c = search needs
+
+loop-less : tie.Need-loop-less Inv-loop μ-loop
+loop-less c = search needs
+
+loop-again : tie.Need-loop-again Inv-loop μ-loop
+loop-again c =
+    let l = c .before .before .before .before .before .before .before .loop in (
+      search needs,
+      rw (l .inv .1) (filled-more 32 _ (replicate 31 0) (l .i) _ (search needs) refl),
+      rw (l .inv .2) (filled-more 32 _ (replicate 31 0) (l .i) _ (search needs) refl),
+      rw (l .inv .3) (filled-more 32 _ 0 (l .i) _ (search needs) refl),
+      rw (l .inv .4) (filled-more 32 _ 0 (l .i) _ (search needs) refl),
+      rw (l .inv .5) (filled-more 32 _ 0 (l .i) _ (search needs) (c .before .phase-number .ensures)),
+      rw (l .inv .6) (filled-more 32 _ (replicate 2 (replicate 32 0)) (l .i) _ (search needs) (c .rows-of .ensures)),
+    )
+
+returns : tie.Need-returns Inv-loop μ-loop
+unfolding apart
+returns c =
+    let l = c .before .loop in
+    let e : l .i ≡ 32 = omega arith in
+    λ x. arrays (c .before .before .args .t1 .count)
+    ((l .inv .1 ∙ filled-end _ (replicate 31 0) _ e) x ∷ (l .inv .2 ∙ filled-end _ (replicate 31 0) _ e) x ∷ [])
+    ((l .inv .3 ∙ filled-end _ 0 _ e) x ∷ (l .inv .4 ∙ filled-end _ 0 _ e) x ∷ [])
+    ((l .inv .5 ∙ filled-end _ 0 _ e) x ∷ [])
+    ((l .inv .6 ∙ filled-end _ (replicate 2 (replicate 32 0)) _ e) x)
+
+pub take-apart-spec : {M : Type 1} → statement M
+take-apart-spec =
+    tie.close
+    (tie.spec
+    Inv-loop
+    μ-loop
+    loop-holds
+    mul-s
+    element-copy-out-s
+    mul-current
+    array-set-from-current
+    mul-pending
+    array-set-from-pending
+    mul-current-jobs
+    array-write-current-jobs
+    mul-pending-jobs
+    array-write-pending-jobs
+    phase-number-requires
+    array-write-phases
+    rows-of-requires
+    mul-rows
+    array-set-from-rows
+    add-i
+    loop-less
+    loop-again
+    returns)

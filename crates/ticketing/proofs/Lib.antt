@@ -1,4 +1,0 @@
-pub mod Sound
-pub mod ApartLaws
-pub mod TurnLaws
-pub mod Exported
