@@ -219,22 +219,20 @@ module _ {s : Session Arrays} {rest out₀ : Lists.List ℕ} {a : Arrays} {r : P
 -- THE WHOLE FILE
 
 -- a report that fits, and one that does not
-module _ (bs buffer : Lists.List ℕ) (r : Reply) (buffer′ : Lists.List ℕ) where
-  abbrev Told : Served Arrays → Type 0
-  Told o = let fit = leb (length (o .bytes)) (length buffer) in
-      (refusalNumber (r .refusal) ≡ cond fit (o .refusal) 7) × (r .written ≡ cond fit (length (o .bytes)) 0)
-      × (buffer′ ≡ cond fit (over (o .bytes) buffer) buffer)
+module _ (bs buffer : Lists.List ℕ) {o : Served Arrays} (e : fileRun lent bs ≡ o) where
+  abbrev Told : ℕ → ℕ → Lists.List ℕ → Served Arrays → Type 0
+  Told refusal written buffer′ o = let fit = leb (length (o .bytes)) (length buffer) in
+      (refusal ≡ cond fit (o .refusal) 7) × (written ≡ cond fit (length (o .bytes)) 0) × (buffer′ ≡ cond fit (over (o .bytes) buffer) buffer)
 
-  file-told : {o : Served Arrays} → fileRun lent bs ≡ o → Told o → ReportsFile bs buffer (refusalNumber (r .refusal)) (r .written) buffer′
-  file-told e h = let x = subst Told (sym e) h in record { number = x .0; count = x .1; report = x .2 }
+  told : {refusal written : ℕ} {buffer′ : Lists.List ℕ} → Told refusal written buffer′ o → ReportsFile bs buffer refusal written buffer′
+  told {refusal} {written} {buffer′} h = let x = subst (Told refusal written buffer′) (sym e) h in record { number = x .0; count = x .1; report = x .2 }
 
-  pub file-fits : {o : Served Arrays} → fileRun lent bs ≡ o → refusalNumber (r .refusal) ≡ o .refusal → r .written ≡ length (o .bytes)
-      → length (o .bytes) ≤ length buffer → buffer′ ≡ over (o .bytes) buffer → ReportsFile bs buffer (refusalNumber (r .refusal)) (r .written) buffer′
-  file-fits e n w h p = file-told e (rw (le-leb _ _ h) (n, w, p))
+  pub file-fits : {refusal written : ℕ} {buffer′ : Lists.List ℕ} → refusal ≡ o .refusal → written ≡ length (o .bytes)
+      → length (o .bytes) ≤ length buffer → buffer′ ≡ over (o .bytes) buffer → ReportsFile bs buffer refusal written buffer′
+  file-fits n w h p = told (rw (le-leb _ _ h) (n, w, p))
 
-  pub file-short : {o : Served Arrays} → fileRun lent bs ≡ o → length buffer < length (o .bytes) → refusalNumber (r .refusal) ≡ 7 → r .written ≡ 0
-      → buffer′ ≡ buffer → ReportsFile bs buffer (refusalNumber (r .refusal)) (r .written) buffer′
-  file-short e h n w p = file-told e (rw (lt-leb _ _ h) (n, w, p))
+  pub file-short : length buffer < length (o .bytes) → ReportsFile bs buffer 7 0 buffer
+  file-short h = told (rw (lt-leb _ _ h) (refl, refl, refl))
 
 -- a header that is refused: its line is the report
 module _ (bs : Lists.List ℕ) {l : Lists.List ℕ} (e : l ≡ take 18 bs) {x : Refusal} (h : headerRead l ≡ Headers.Refused x) where
@@ -244,15 +242,15 @@ module _ (bs : Lists.List ℕ) {l : Lists.List ℕ} (e : l ≡ take 18 bs) {x : 
   long : length (refusalLine 1 (refusalNumber x)) ≡ 29
   long = length-report-line 1 (refusalNumber x) 0 0 0
 
-  pub refused-short : (buffer : Lists.List ℕ) (r : Reply) → length buffer < 29 → refusalNumber (r .refusal) ≡ 7 → r .written ≡ 0
-      → ReportsFile bs buffer (refusalNumber (r .refusal)) (r .written) buffer
-  refused-short buffer r s n w = file-short bs buffer r buffer only (omega (arith, long)) n w refl
+  pub refused-short : (buffer : Lists.List ℕ) → length buffer < 29 → ReportsFile bs buffer 7 0 buffer
+  refused-short buffer s = file-short bs buffer only (omega (arith, long))
 
   pub refused-told : (buffer : Lists.List ℕ) (r : Reply) {buffer′ : Lists.List ℕ} → 29 ≤ length buffer → r .refusal ≡ x
-      → let line = printed 1 (refusalNumber x) [] in r .written ≡ length line → buffer′ ≡ over line buffer → ReportsFile bs buffer (refusalNumber (r .refusal)) (r .written) buffer′
-  refused-told buffer r {buffer′} s n w p =
+      → let line = printed 1 (refusalNumber x) [] in r .written ≡ length line → buffer′ ≡ over line buffer
+      → ReportsFile bs buffer (refusalNumber (r .refusal)) (r .written) buffer′
+  refused-told buffer r s n w p =
       let q : printed 1 (refusalNumber x) [] ≡ refusalLine 1 (refusalNumber x) = rw (ne-eqb _ _ (header-refused l x h)) refl in
-      file-fits bs buffer r buffer′ only (ap refusalNumber n) (w ∙ ap length q) (omega (arith, long)) (p ∙ ap (λ b. over b buffer) q)
+      file-fits bs buffer only (ap refusalNumber n) (w ∙ ap length q) (omega (arith, long)) (p ∙ ap (λ b. over b buffer) q)
 
 -- an accepted header: the lines after it give the report
 module _ (bs : Lists.List ℕ) {l : Lists.List ℕ} (e : l ≡ take 18 bs) {n : ℕ} (h : headerRead l ≡ Stations n) where
@@ -271,11 +269,10 @@ module _ (bs : Lists.List ℕ) {l : Lists.List ℕ} (e : l ≡ take 18 bs) {n : 
 
     pub steps-told : {r : Reply} {buffer′ : Lists.List ℕ} → ReportsAll (runOf opened rest) rest r buffer buffer′ → r .written ≤ length buffer
         → ReportsFile bs buffer (refusalNumber (r .refusal)) (r .written) buffer′
-    steps-told {r} {buffer′} g s = file-fits bs buffer r buffer′ whole (g .number) (g .count) (omega (arith, g .count)) (g .report s)
+    steps-told g s = file-fits bs buffer whole (g .number) (g .count) (omega (arith, g .count)) (g .report s)
 
-    pub steps-short : (r : Reply) → length buffer < length (runOf opened rest .bytes) → refusalNumber (r .refusal) ≡ 7 → r .written ≡ 0
-        → ReportsFile bs buffer (refusalNumber (r .refusal)) (r .written) buffer
-    steps-short r s n w = file-short bs buffer r buffer whole s n w refl
+    pub steps-short : length buffer < length (runOf opened rest .bytes) → ReportsFile bs buffer 7 0 buffer
+    steps-short s = file-short bs buffer whole s
 
     -- room for 928 bytes for each line is enough
     pub enough : {r : Reply} {buffer′ : Lists.List ℕ} → ReportsAll (runOf opened rest) rest r buffer buffer′

@@ -21,7 +21,7 @@ returns c =
     let h = c .before .before .before .before in
     let said = sym (h .read-header .ensures) ∙ c .before .before .refusal .given .1 in
     let a = h .before .before .before .before .args in
-    refused-short (a .file .now) (h .before .line-at .ensures) said (a .out .now) _ (c .if1 .taken) refl refl
+    refused-short (a .file .now) (h .before .line-at .ensures) said (a .out .now) (c .if1 .taken)
 
 print-refusal-requires : tie.Need-print-refusal-requires
 print-refusal-requires c κs = search needs
@@ -68,7 +68,7 @@ returns-3 c =
     let a = h .before .before .before .before .args in
     let f = c .before .before .before .from .ensures in
     let size = c .before .report-size .ensures in
-    steps-short (a .file .now) (h .before .line-at .ensures) said f (a .out .now) _ (omega (arith, c .if3 .taken, size)) refl refl
+    steps-short (a .file .now) (h .before .line-at .ensures) said f (a .out .now) (omega (arith, c .if3 .taken, size))
 
 report-steps-requires-2 : tie.Need-report-steps-requires-2
 report-steps-requires-2 c κs =
