@@ -10,7 +10,6 @@ ghost use Rattle.transition.specs.Forms.{freshTable};
 ghost use Rattle.arrays.specs.Arrays.{arrays, phaseFor, resultRows};
 ghost use Rattle.arrays.specs.Form.{lent};
 ghost use Rattle.arrays.specs.Sizes.{Shaped};
-
 use moves::Operation;
 use moves::Phase;
 

@@ -83,10 +83,10 @@ pub extern "C" fn tickets_step(
 pub extern "C" fn tickets_report(schedule: &[u8], report: &mut [u8]) -> Answer
     ensures { λ r. ⌜ ReportsFile (now (schedule .entry)) (now (report .entry)) (r .refusal) (r .written) (now (report .exit)) ⌝ }
 {
-    let reply = file::report(schedule, report);
-    let refusal = reply.refusal;
+    let whole = file::report(schedule, report);
+    let refusal = whole.refusal;
     Answer {
         refusal: refusal.number(),
-        written: reply.written as u64,
+        written: whole.written as u64,
     }
 }
