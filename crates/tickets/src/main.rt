@@ -1,14 +1,27 @@
-// Reads a schedule file from standard input and writes its report to standard output.
+// Reads a schedule file from standard input and writes its report to standard output. If either cannot be done, it says so on standard error and stops.
 ghost use mathlib.Core.Path.{_≡_};
 ghost use mathlib.Core.Logic.{_≢_};
 ghost use mathlib.Core.Bool.{true};
 ghost use Prim.Native.Nat.{_+_, _≤_, _<_};
 ghost use lib.ListN.{length};
-ghost use Rattle.parts.specs.Parts.{parts};
-ghost use Rattle.file.specs.Files.{pieces};
+ghost use Rattle.io.specs.Counts.{Counts};
+ghost use Rattle.arrays.specs.Arrays.{arrays};
+ghost use Rattle.schedule.specs.Files.{pieces};
 ghost use Rattle.file.specs.Contracts.{Runnable};
+use arrays::Control;
+use arrays::Jobs;
+use arrays::Labels;
+use arrays::Results;
+use libc::STDERR_FILENO;
 use libc::STDIN_FILENO;
 use libc::STDOUT_FILENO;
+use schedule::Header;
+
+// How many bytes were read, and whether that failed; then there are none.
+struct Input {
+    count: usize,
+    failed: bool,
+}
 
 // How many lines are counted after a part of the file, and whether to read on.
 struct Turn {
@@ -16,21 +29,63 @@ struct Turn {
     more: bool,
 }
 
+// Reads until `buf` is full or the schedule ends; says so if it cannot be read.
+fn read_schedule(buf: &mut [u8]) -> Input
+    ensures { λ r. ⌜ Counts (r .count) (now (buf .exit)) ⌝ }
+{
+    let mut count = 0;
+    while count < buf.len() {
+        let got = libc::read(STDIN_FILENO, &mut buf[count..]);
+        if got < 0 {
+            io::write_all(STDERR_FILENO, b"tickets: the schedule could not be read\n");
+            return Input {
+                count: 0,
+                failed: true,
+            };
+        }
+        let k = io::count(got, &buf[count..]);
+        if k == 0 {
+            return Input {
+                count,
+                failed: false,
+            };
+        }
+        count += k;
+    }
+    Input {
+        count,
+        failed: false,
+    }
+}
+
+// Writes a part of the report; says so if it cannot be written, and answers whether it was.
+fn write_report(bytes: &[u8]) -> bool {
+    if io::write_all(STDOUT_FILENO, bytes) {
+        return true;
+    }
+    io::write_all(STDERR_FILENO, b"tickets: the report could not be written\n");
+    false
+}
+
 // Reads the header, and prints its refusal; hands back the number of stations, or 0 if there is no more to do.
 fn read_header() -> usize
     ensures { λ r. ⌜ (r ≢ 0 → (2 ≤ r) × (r ≤ 32)) ⌝ }
 {
     let mut line = [0u8; 18];
-    let k = io::read_full(STDIN_FILENO, &mut line);
-    let s = schedule::open(&line[..k]);
-    let mut out = [0u8; 29];
-    let k = file::report_header(s, &mut out);
-    if k != 0 {
-        io::write_all(STDOUT_FILENO, &out[..k]);
+    let r = read_schedule(&mut line);
+    if r.failed {
         return 0;
     }
-    let t = s.table;
-    t.count
+    let k = r.count;
+    match schedule::read_header(&line[..k]) {
+        Header::Refused(refusal) => {
+            let mut out = [0u8; 29];
+            let k = file::print_refusal(1, refusal, &mut out);
+            write_report(&out[..k]);
+            0
+        }
+        Header::Stations(n) => n,
+    }
 }
 
 // Serves a part of the file, and prints its report: whenever the output buffer has no room for another line, and at the end.
@@ -38,20 +93,17 @@ fn serve_part(
     lines: u32,
     n: usize,
     order: &mut [usize; 32],
-    labels: &mut [[u8; 31]; 32],
-    jobs: &mut [u32; 32],
-    pending_labels: &mut [[u8; 31]; 32],
-    pending_jobs: &mut [u32; 32],
-    result_stations: &mut [[u8; 32]; 32],
-    result_jobs: &mut [[u32; 32]; 32],
-    phases: &mut [u8; 32],
+    labels: &mut Labels,
+    jobs: &mut Jobs,
+    control: &mut Control,
+    results: &mut Results,
     chunk: &[u8],
     out: &mut [u8],
 ) -> Turn
-    requires { ⌜ Runnable (parts n (now labels) (now jobs) (now «pending_labels») (now «pending_jobs») (now «result_stations») (now «result_jobs») (now phases)) (now order) ⌝ }
+    requires { ⌜ Runnable (arrays n (now labels) (now jobs) (now control) (now results)) (now order) ⌝ }
     requires { ⌜ lines ≤ 1000001 ⌝ }
     requires { ⌜ 928 ≤ length (now out) ⌝ }
-    ensures { λ _. ⌜ Runnable (parts n (now (labels .exit)) (now (jobs .exit)) (now («pending_labels» .exit)) (now («pending_jobs» .exit)) (now («result_stations» .exit)) (now («result_jobs» .exit)) (now (phases .exit))) (now (order .exit)) ⌝ }
+    ensures { λ _. ⌜ Runnable (arrays n (now (labels .exit)) (now (jobs .exit)) (now (control .exit)) (now (results .exit))) (now (order .exit)) ⌝ }
     ensures { λ r. ⌜ (r .more ≡ true → (r .lines ≡ lines + pieces (now (chunk .entry))) × (r .lines ≤ 1000001)) ⌝ }
 {
     let mut count = lines;
@@ -63,17 +115,14 @@ fn serve_part(
             order,
             labels,
             jobs,
-            pending_labels,
-            pending_jobs,
-            result_stations,
-            result_jobs,
-            phases,
+            control,
+            results,
             &chunk[at..],
             out,
         );
         let written = r.written;
         let refusal = r.refusal;
-        if !io::write_all(STDOUT_FILENO, &out[..written]) {
+        if !write_report(&out[..written]) {
             return Turn { lines, more: false };
         }
         if refusal.number() != 0 {
@@ -93,35 +142,30 @@ fn read_part(
     lines: u32,
     n: usize,
     order: &mut [usize; 32],
-    labels: &mut [[u8; 31]; 32],
-    jobs: &mut [u32; 32],
-    pending_labels: &mut [[u8; 31]; 32],
-    pending_jobs: &mut [u32; 32],
-    result_stations: &mut [[u8; 32]; 32],
-    result_jobs: &mut [[u32; 32]; 32],
-    phases: &mut [u8; 32],
+    labels: &mut Labels,
+    jobs: &mut Jobs,
+    control: &mut Control,
+    results: &mut Results,
     input: &mut [u8],
     out: &mut [u8],
 ) -> Turn
-    requires { ⌜ Runnable (parts n (now labels) (now jobs) (now «pending_labels») (now «pending_jobs») (now «result_stations») (now «result_jobs») (now phases)) (now order) ⌝ }
+    requires { ⌜ Runnable (arrays n (now labels) (now jobs) (now control) (now results)) (now order) ⌝ }
     requires { ⌜ lines ≤ 1000001 ⌝ }
     requires { ⌜ 0 < length (now input) ⌝ }
     requires { ⌜ 928 ≤ length (now out) ⌝ }
-    ensures { λ _. ⌜ Runnable (parts n (now (labels .exit)) (now (jobs .exit)) (now («pending_labels» .exit)) (now («pending_jobs» .exit)) (now («result_stations» .exit)) (now («result_jobs» .exit)) (now (phases .exit))) (now (order .exit)) ⌝ }
+    ensures { λ _. ⌜ Runnable (arrays n (now (labels .exit)) (now (jobs .exit)) (now (control .exit)) (now (results .exit))) (now (order .exit)) ⌝ }
     ensures { λ r. ⌜ (r .more ≡ true → (lines < r .lines) × (r .lines ≤ 1000001)) ⌝ }
 {
-    let k = io::read_full(STDIN_FILENO, input);
+    let r = read_schedule(input);
+    let k = r.count;
     let t = serve_part(
         lines,
         n,
         order,
         labels,
         jobs,
-        pending_labels,
-        pending_jobs,
-        result_stations,
-        result_jobs,
-        phases,
+        control,
+        results,
         &input[..k],
         out,
     );
@@ -135,35 +179,19 @@ fn read_part(
 fn read_parts(
     n: usize,
     order: &mut [usize; 32],
-    labels: &mut [[u8; 31]; 32],
-    jobs: &mut [u32; 32],
-    pending_labels: &mut [[u8; 31]; 32],
-    pending_jobs: &mut [u32; 32],
-    result_stations: &mut [[u8; 32]; 32],
-    result_jobs: &mut [[u32; 32]; 32],
-    phases: &mut [u8; 32],
+    labels: &mut Labels,
+    jobs: &mut Jobs,
+    control: &mut Control,
+    results: &mut Results,
     input: &mut [u8; 73728],
     out: &mut [u8; 65536],
 )
-    requires { ⌜ Runnable (parts n (now labels) (now jobs) (now «pending_labels») (now «pending_jobs») (now «result_stations») (now «result_jobs») (now phases)) (now order) ⌝ }
+    requires { ⌜ Runnable (arrays n (now labels) (now jobs) (now control) (now results)) (now order) ⌝ }
 {
     let mut lines: u32 = 1;
     let mut more = true;
     while more {
-        let t = read_part(
-            lines,
-            n,
-            order,
-            labels,
-            jobs,
-            pending_labels,
-            pending_jobs,
-            result_stations,
-            result_jobs,
-            phases,
-            input,
-            out,
-        );
+        let t = read_part(lines, n, order, labels, jobs, control, results, input, out);
         lines = t.lines;
         more = t.more;
     }
@@ -173,14 +201,12 @@ fn read_parts(
 fn run(n: usize)
     requires { ⌜ (2 ≤ n) × (n ≤ 32) ⌝ }
 {
-    let mut labels = [[1u8; 31]; 32];
-    let mut order = rows::order::order(&labels, n);
-    let mut jobs = [0u32; 32];
-    let mut pending_labels = [[1u8; 31]; 32];
-    let mut pending_jobs = [0u32; 32];
-    let mut result_stations = [parts::fresh_row(n); 32];
-    let mut result_jobs = [[0u32; 32]; 32];
-    let mut phases = [0u8; 32];
+    let mut labels = [[[0u8; 31]; 32]; 2];
+    let mut jobs = [[0u32; 32]; 2];
+    let mut control = [[0u8; 32]; 1];
+    let mut results = [[[0u32; 32]; 2]; 32];
+    arrays::refresh(n, &mut labels, &mut jobs, &mut control, &mut results);
+    let mut order = rows::order::order(&labels[0], n);
     let mut input = [0u8; 73728];
     let mut out = [0u8; 65536];
     read_parts(
@@ -188,11 +214,8 @@ fn run(n: usize)
         &mut order,
         &mut labels,
         &mut jobs,
-        &mut pending_labels,
-        &mut pending_jobs,
-        &mut result_stations,
-        &mut result_jobs,
-        &mut phases,
+        &mut control,
+        &mut results,
         &mut input,
         &mut out,
     );

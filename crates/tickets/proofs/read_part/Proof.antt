@@ -1,3 +1,4 @@
+-- A part that is full counts lines, since it is not empty; any other is the last.
 use mathlib.Core.Path.{_≡_, sym, _∙_}
 use mathlib.Core.Bool.{true≢false}
 use native.Mathlib.Omega.{arith}
@@ -8,8 +9,8 @@ use borrow.Author.Needs.{needs}
 use Rattle.tickets.proofs.read_part.Statement.{statement}
 use Rattle.tickets.proofs.read_part.Tie as tie
 
-read-full-requires : tie.Need-read-full-requires
-read-full-requires c κs = search needs
+read-schedule-requires : tie.Need-read-schedule-requires
+read-schedule-requires c κs = search needs
 
 slice-reshare-prefix-serve-part : tie.Need-slice-reshare-prefix-serve-part
 slice-reshare-prefix-serve-part c = search needs
@@ -19,7 +20,7 @@ slice-aggregate-serve-part c = search needs
 
 serve-part-requires : tie.Need-serve-part-requires
 serve-part-requires c κs =
-    let given = c .before .before .before .before .before .before .before .before .before .before .before .before .before .before .before .before .pre in
+    let given = c .before .before .before .before .before .before .before .before .before .before .before .before .before .pre in
     (given .0, (given .1 .0, given .1 .1 .1))
 
 same-length : tie.Need-same-length
@@ -30,14 +31,16 @@ same-length-2 c = search needs
 
 returns : tie.Need-returns
 returns c =
-    let k = c .before .before .before .before .before .before .before .before .before .before .before .before .before .before .before .before .read-full .result in
-    let input = c .before .before .before .before .before .before .before .before .before .before .before .before .before .before .before .before .read-full .last .1 .0 in
+    let read = c .before .before .before .before .before .before .before .before .before .before .before .before .before in
+    let k = read .read-schedule .result .count in
+    let input = read .read-schedule .last .0 in
     let served = c .before .before .before .serve-part in (
       served .ensures .0,
       λ e.
           let full : k ≡ length input = eqb-true _ _ e in
           let counted = served .ensures .1 (c .if1 .taken) in
-          (omega (arith, counted, length-take-le k input (omega arith), c .before .before .before .before .before .before .before .before .before .before .before .before .before .before .before .before .read-full .kept .1 .0, c .before .before .before .before .before .before .before .before .before .before .before .before .before .before .before .before .before .before .before .before .pre .1 .1 .0), counted .1),
+          let long = length-take-le k input (omega (arith, full)) in
+          (omega (arith, full, counted, long, read .read-schedule .kept .0, read .before .before .before .before .pre .1 .1 .0), counted .1),
     )
 
 same-length-3 : tie.Need-same-length-3
@@ -53,7 +56,7 @@ pub read-part-spec : {M : Type 1} → statement M
 read-part-spec =
     tie.close
     (tie.spec
-    read-full-requires
+    read-schedule-requires
     slice-reshare-prefix-serve-part
     slice-aggregate-serve-part
     serve-part-requires

@@ -3,7 +3,7 @@ use mathlib.Core.Path.{_≡_, refl}
 use mathlib.Core.Bool.{Bool, true, false, cond}
 use Prim.Native.Nat.{ℕ, _-_, _≤_, _<_}
 use native.Mathlib.Omega.{arith}
-use Rattle.parts.specs.Parts.{parts}
+use Rattle.arrays.specs.Arrays.{arrays}
 use Rattle.file.specs.Contracts.{Runnable}
 use Rattle.tickets.proofs.read_parts.Statement.{statement}
 use Rattle.tickets.proofs.read_parts.Tie as tie
@@ -17,21 +17,25 @@ fewer a b m true e h f = rw e (omega (arith, f refl))
 fewer a b m false e h f = rw e (omega arith)
 
 abbrev Inv-loop : tie.InvT-loop
-Inv-loop n order₀ labels₀ jobs₀ pending-labels₀ pending-jobs₀ result-stations₀ result-jobs₀ phases₀ input₀ out₀ lines₀ more₀ order labels jobs pending-labels pending-jobs result-stations result-jobs phases input out lines more =
-    Runnable (parts n labels jobs pending-labels pending-jobs result-stations result-jobs phases) order × (more ≡ true → lines ≤ 1000001)
+Inv-loop n order₀ labels₀ jobs₀ control₀ results₀ input₀ out₀ lines₀ more₀ order labels jobs control results input out lines more =
+    Runnable (arrays n labels jobs control results) order × (more ≡ true → lines ≤ 1000001)
 
 abbrev μ-loop : tie.MeasureT-loop
-μ-loop n order₀ labels₀ jobs₀ pending-labels₀ pending-jobs₀ result-stations₀ result-jobs₀ phases₀ input₀ out₀ lines₀ more₀ order labels jobs pending-labels pending-jobs result-stations result-jobs phases input out lines more =
+μ-loop n order₀ labels₀ jobs₀ control₀ results₀ input₀ out₀ lines₀ more₀ order labels jobs control results input out lines more =
     left more lines
 
 loop-holds : tie.Need-loop-holds Inv-loop μ-loop
 loop-holds c = (c .pre, λ e. omega arith)
 
 read-part-requires : tie.Need-read-part-requires Inv-loop μ-loop
-read-part-requires c κs = (c .before .before .before .before .before .before .before .before .before .before .before .loop .inv .0, (c .before .before .before .before .before .before .before .before .before .before .before .loop .inv .1 (c .before .before .before .before .before .before .before .before .before .before .loop-test .taken), (search needs, search needs)))
+read-part-requires c κs =
+    let l = c .before .before .before .before .before .before .before .before .loop in
+    (l .inv .0, (l .inv .1 (c .before .before .before .before .before .before .before .loop-test .taken), (search needs, search needs)))
 
 loop-less : tie.Need-loop-less Inv-loop μ-loop
-loop-less c = fewer _ _ _ _ (c .before .before .before .before .before .before .before .before .before .before .before .loop-test .taken) (c .before .before .before .before .before .before .before .before .before .before .before .before .loop .inv .1 (c .before .before .before .before .before .before .before .before .before .before .before .loop-test .taken)) (c .read-part .ensures .1)
+loop-less c =
+    let test = c .before .before .before .before .before .before .before .before in
+    fewer _ _ _ _ (test .loop-test .taken) (test .before .loop .inv .1 (test .loop-test .taken)) (c .read-part .ensures .1)
 
 loop-again : tie.Need-loop-again Inv-loop μ-loop
 loop-again c = (c .read-part .ensures .0, λ e. c .read-part .ensures .1 e .1)

@@ -1,19 +1,28 @@
-use borrow.Author.Needs.{needs}
 use Rattle.file.proofs.LineLaws.{fresh-orderly, fresh-runnable}
+use borrow.Author.Needs.{needs}
 use Rattle.tickets.proofs.run.Statement.{statement}
 use Rattle.tickets.proofs.run.Tie as tie
 
-order-requires : tie.Need-order-requires
-order-requires c κs = fresh-orderly _ (c .before .pre .0) (c .before .pre .1)
+refresh-requires : tie.Need-refresh-requires
+refresh-requires c κs = search needs
 
-fresh-row-requires : tie.Need-fresh-row-requires
-fresh-row-requires c κs = search needs
+index-1-order : tie.Need-index-1-order
+index-1-order c = search needs
+
+order-requires : tie.Need-order-requires
+order-requires c κs =
+    let s = c .before .before .before .before .before .before in
+    fresh-orderly (s .args .n) (s .pre .0) (s .pre .1) (c .before .refresh .ensures)
 
 read-parts-requires : tie.Need-read-parts-requires
-read-parts-requires c κs = let s = c .before .before .before .before .before .before .before .before .before .before .before .before .before in fresh-runnable (s .args .n) (s .pre .0) (s .pre .1) (c .before .before .before .before .before .before .before .before .before .before .fresh-row .ensures) (c .before .before .before .before .before .before .before .before .before .before .before .order .ensures)
+read-parts-requires c κs =
+    let o = c .before .before .before .before .before .before .before in
+    let s = o .before .before .before .before .before .before .before in
+    fresh-runnable (s .args .n) (s .pre .0) (s .pre .1) (o .before .before .refresh .ensures) (o .order .ensures)
 
 returns : tie.Need-returns
 returns c = search needs
 
 pub run-spec : {M : Type 1} → statement M
-run-spec = tie.close (tie.spec order-requires fresh-row-requires read-parts-requires returns)
+run-spec =
+    tie.close (tie.spec refresh-requires index-1-order order-requires read-parts-requires returns)

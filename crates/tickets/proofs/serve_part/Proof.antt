@@ -1,3 +1,4 @@
+-- The lines counted and those ahead are all of the part; `y` is what is known after some of them are served.
 use borrow.Author.Needs.{needs}
 use mathlib.Core.Path.{_≡_, refl, sym, _∙_}
 use mathlib.Core.Bool.{true≢false}
@@ -5,20 +6,20 @@ use Prim.Native.Nat.{_+_, _-_, _≤_}
 use native.Mathlib.Omega.{arith}
 use lib.ListN.{length, length-take, length-drop}
 use lib.Seq.{length-take-le}
-use Rattle.parts.specs.Parts.{parts}
-use Rattle.file.specs.Files.{pieces}
+use Rattle.arrays.specs.Arrays.{arrays}
+use Rattle.schedule.specs.Files.{pieces}
 use Rattle.file.specs.Contracts.{Runnable}
 use Rattle.file.proofs.ChunkLaws.{ahead, reports-inside, part-on}
 use Rattle.tickets.proofs.serve_part.Statement.{statement}
 use Rattle.tickets.proofs.serve_part.Tie as tie
 
 abbrev Inv-loop : tie.InvT-loop
-Inv-loop lines n order₀ labels₀ jobs₀ pending-labels₀ pending-jobs₀ result-stations₀ result-jobs₀ phases₀ chunk out₀ count₀ at₀ order labels jobs pending-labels pending-jobs result-stations result-jobs phases out count at =
-    Runnable (parts n labels jobs pending-labels pending-jobs result-stations result-jobs phases) order
-    × (length out ≡ length out₀) × (at ≤ length chunk) × (count + ahead chunk at ≡ lines + pieces chunk) × (count ≤ 1000001)
+Inv-loop lines n order₀ labels₀ jobs₀ control₀ results₀ chunk out₀ count₀ at₀ order labels jobs control results out count at =
+    Runnable (arrays n labels jobs control results) order × (length out ≡ length out₀) × (at ≤ length chunk)
+    × (count + ahead chunk at ≡ lines + pieces chunk) × (count ≤ 1000001)
 
 abbrev μ-loop : tie.MeasureT-loop
-μ-loop lines n order₀ labels₀ jobs₀ pending-labels₀ pending-jobs₀ result-stations₀ result-jobs₀ phases₀ chunk out₀ count₀ at₀ order labels jobs pending-labels pending-jobs result-stations result-jobs phases out count at =
+μ-loop lines n order₀ labels₀ jobs₀ control₀ results₀ chunk out₀ count₀ at₀ order labels jobs control results out count at =
     length chunk - at
 
 loop-holds : tie.Need-loop-holds Inv-loop μ-loop
@@ -34,19 +35,21 @@ part-report-lines-end : tie.Need-part-report-lines-end Inv-loop μ-loop
 part-report-lines-end c = omega arith
 
 report-lines-requires : tie.Need-report-lines-requires Inv-loop μ-loop
-report-lines-requires c κs = c .before .before .before .before .before .before .before .before .before .before .before .loop .inv .0
+report-lines-requires c κs = c .before .before .before .before .before .before .before .before .loop .inv .0
 
-slice-reshare-prefix-write-all : tie.Need-slice-reshare-prefix-write-all Inv-loop μ-loop
-slice-reshare-prefix-write-all c = reports-inside (c .before .before .report-lines .ensures .0)
+slice-reshare-prefix-write-report : tie.Need-slice-reshare-prefix-write-report Inv-loop μ-loop
+slice-reshare-prefix-write-report c = reports-inside (c .before .before .report-lines .ensures .0)
 
-slice-aggregate-write-all : tie.Need-slice-aggregate-write-all Inv-loop μ-loop
-slice-aggregate-write-all c = sym (length-take-le _ _ (reports-inside (c .before .before .before .report-lines .ensures .0)))
+slice-aggregate-write-report : tie.Need-slice-aggregate-write-report Inv-loop μ-loop
+slice-aggregate-write-report c = sym (length-take-le _ _ (reports-inside (c .before .before .before .report-lines .ensures .0)))
 
-write-all-requires : tie.Need-write-all-requires Inv-loop μ-loop
-write-all-requires c κs = search needs
+write-report-requires : tie.Need-write-report-requires Inv-loop μ-loop
+write-report-requires c κs = search needs
 
 same-length : tie.Need-same-length Inv-loop μ-loop
-same-length c = c .before .before .before .before .before .report-lines .kept .1 .1 .1 .1 .1 .1 .1 .1 .1 .1 .1 .0 ∙ c .before .before .before .before .before .before .before .before .before .before .before .before .before .before .before .before .before .loop .inv .1
+same-length c =
+    let y = c .before .before .before .before .before in
+    y .report-lines .kept .1 .1 .1 .1 .1 .1 .1 .1 .0 ∙ y .before .before .before .before .before .before .before .before .before .loop .inv .1
 
 returns : tie.Need-returns Inv-loop μ-loop
 returns c = (c .before .before .before .before .before .report-lines .ensures .1, λ e. absurd (true≢false (sym e)))
@@ -55,34 +58,51 @@ number-requires : tie.Need-number-requires Inv-loop μ-loop
 number-requires c κs = search needs
 
 same-length-2 : tie.Need-same-length-2 Inv-loop μ-loop
-same-length-2 c = c .before .before .before .before .before .before .before .report-lines .kept .1 .1 .1 .1 .1 .1 .1 .1 .1 .1 .1 .0 ∙ c .before .before .before .before .before .before .before .before .before .before .before .before .before .before .before .before .before .before .before .loop .inv .1
+same-length-2 c =
+    let y = c .before .before .before .before .before .before .before in
+    y .report-lines .kept .1 .1 .1 .1 .1 .1 .1 .1 .0 ∙ y .before .before .before .before .before .before .before .before .before .loop .inv .1
 
 returns-2 : tie.Need-returns-2 Inv-loop μ-loop
 returns-2 c = (c .before .before .before .before .before .before .before .report-lines .ensures .1, λ e. absurd (true≢false (sym e)))
 
 add-at : tie.Need-add-at Inv-loop μ-loop
 add-at c =
-    let l = c .before .before .before .before .before .before .before .before .before .before .before .before .before .before .before .before .before .before .before .before .loop in
-    let r = c .before .before .before .before .before .before .before .before .report-lines in
-    let a = c .before .before .before .before .before .before .before .before .before .before .before .before .before .before .before .before .before .before .before .before .before .before .before .args in
-    let on = part-on (r .ensures .0) (a .chunk .now) (l .at) (a .lines + pieces (a .chunk .now)) (c .before .before .before .before .before .before .before .before .before .before .before .before .before .before .before .before .before .before .before .loop-test .taken) (simp (length-take, length-drop) (omega arith)) (l .inv .3) (l .inv .4) (omega (arith, l .inv .1, c .before .before .before .before .before .before .before .before .before .before .before .before .before .before .before .before .before .before .before .before .before .before .before .pre .1 .1)) (sym (c .before .before .number .ensures) ∙ c .before .if2 .left) in
-    omega (arith, on, c .before .before .before .before .before .before .before .before .before .before .before .before .before .before .before .before .before .before .before .before .before .before .before .good .1 .1 .1 .1 .1 .1 .1 .1 .1 .1 .0 .0)
+    let y = c .before .before .before .before .before .before .before .before in
+    let l = y .before .before .before .before .before .before .before .before .before .loop in
+    let test = y .before .before .before .before .before .before .before .before .loop-test .taken in
+    let s = y .before .before .before .before .before .before .before .before .before .before .before .before in
+    let a = s .args in
+    let room = s .pre .1 .1 in
+    let accepted = sym (c .before .before .number .ensures) ∙ c .before .if2 .left in
+    let on = part-on (y .report-lines .ensures .0) (a .chunk .now) (l .at) (a .lines + pieces (a .chunk .now)) test
+    (simp (length-take, length-drop) (omega arith)) (l .inv .3) (l .inv .4) (omega (arith, l .inv .1, room)) accepted in
+    omega (arith, on, s .good .1 .1 .1 .1 .1 .1 .1 .0 .0)
 
 loop-less : tie.Need-loop-less Inv-loop μ-loop
 loop-less c =
-    let l = c .before .before .before .before .before .before .before .before .before .before .before .before .before .before .before .before .before .before .before .before .loop in
-    let r = c .before .before .before .before .before .before .before .before .report-lines in
-    let a = c .before .before .before .before .before .before .before .before .before .before .before .before .before .before .before .before .before .before .before .before .before .before .before .args in
-    let on = part-on (r .ensures .0) (a .chunk .now) (l .at) (a .lines + pieces (a .chunk .now)) (c .before .before .before .before .before .before .before .before .before .before .before .before .before .before .before .before .before .before .before .loop-test .taken) (simp (length-take, length-drop) (omega arith)) (l .inv .3) (l .inv .4) (omega (arith, l .inv .1, c .before .before .before .before .before .before .before .before .before .before .before .before .before .before .before .before .before .before .before .before .before .before .before .pre .1 .1)) (sym (c .before .before .number .ensures) ∙ c .before .if2 .left) in
+    let y = c .before .before .before .before .before .before .before .before in
+    let l = y .before .before .before .before .before .before .before .before .before .loop in
+    let test = y .before .before .before .before .before .before .before .before .loop-test .taken in
+    let s = y .before .before .before .before .before .before .before .before .before .before .before .before in
+    let a = s .args in
+    let room = s .pre .1 .1 in
+    let accepted = sym (c .before .before .number .ensures) ∙ c .before .if2 .left in
+    let on = part-on (y .report-lines .ensures .0) (a .chunk .now) (l .at) (a .lines + pieces (a .chunk .now)) test
+    (simp (length-take, length-drop) (omega arith)) (l .inv .3) (l .inv .4) (omega (arith, l .inv .1, room)) accepted in
     omega (arith, on)
 
 loop-again : tie.Need-loop-again Inv-loop μ-loop
 loop-again c =
-    let l = c .before .before .before .before .before .before .before .before .before .before .before .before .before .before .before .before .before .before .before .before .loop in
-    let r = c .before .before .before .before .before .before .before .before .report-lines in
-    let a = c .before .before .before .before .before .before .before .before .before .before .before .before .before .before .before .before .before .before .before .before .before .before .before .args in
-    let on = part-on (r .ensures .0) (a .chunk .now) (l .at) (a .lines + pieces (a .chunk .now)) (c .before .before .before .before .before .before .before .before .before .before .before .before .before .before .before .before .before .before .before .loop-test .taken) (simp (length-take, length-drop) (omega arith)) (l .inv .3) (l .inv .4) (omega (arith, l .inv .1, c .before .before .before .before .before .before .before .before .before .before .before .before .before .before .before .before .before .before .before .before .before .before .before .pre .1 .1)) (sym (c .before .before .number .ensures) ∙ c .before .if2 .left) in
-    (r .ensures .1, r .kept .1 .1 .1 .1 .1 .1 .1 .1 .1 .1 .1 .0 ∙ l .inv .1, on .1, on .2, on .3)
+    let y = c .before .before .before .before .before .before .before .before in
+    let l = y .before .before .before .before .before .before .before .before .before .loop in
+    let test = y .before .before .before .before .before .before .before .before .loop-test .taken in
+    let s = y .before .before .before .before .before .before .before .before .before .before .before .before in
+    let a = s .args in
+    let room = s .pre .1 .1 in
+    let accepted = sym (c .before .before .number .ensures) ∙ c .before .if2 .left in
+    let on = part-on (y .report-lines .ensures .0) (a .chunk .now) (l .at) (a .lines + pieces (a .chunk .now)) test
+    (simp (length-take, length-drop) (omega arith)) (l .inv .3) (l .inv .4) (omega (arith, l .inv .1, room)) accepted in
+    (y .report-lines .ensures .1, y .report-lines .kept .1 .1 .1 .1 .1 .1 .1 .1 .0 ∙ l .inv .1, on .1, on .2, on .3)
 
 same-length-3 : tie.Need-same-length-3 Inv-loop μ-loop
 same-length-3 c = c .before .loop .inv .1
@@ -103,9 +123,9 @@ serve-part-spec =
     part-report-lines-start
     part-report-lines-end
     report-lines-requires
-    slice-reshare-prefix-write-all
-    slice-aggregate-write-all
-    write-all-requires
+    slice-reshare-prefix-write-report
+    slice-aggregate-write-report
+    write-report-requires
     same-length
     returns
     number-requires
