@@ -1,9 +1,10 @@
 // The one engine: step calls on a table in four arrays, which are lent and changed in place.
 ghost use mathlib.Core.Path.{_≡_};
+ghost use mathlib.Core.Logic.{_≢_};
 ghost use mathlib.Core.Bool.{true};
 ghost use mathlib.Core.List.{[]};
 ghost use Prim.Native.Nat.{ℕ, _*_, _≤_, _<_};
-ghost use lib.ListN.{length, getD};
+ghost use lib.ListN.{length, getD, replicate};
 ghost use Rattle.basics.specs.Tests.{newest};
 ghost use Rattle.rows.specs.Held.{standsIn, Orderly};
 ghost use Rattle.simulation.specs.Calls.{reportLines};
@@ -245,10 +246,11 @@ pub fn judge(n: usize, q: Request, control: &Control, room: usize, top: usize) -
     }
 }
 
-// The newest station, for a move that asks for it.
+// The newest station, for a move that asks for it; else 0.
 fn newest_for(m: Move, rows: &[[u8; 31]; 32], n: usize) -> usize
     requires { ⌜ Orderly n (now rows) ⌝ }
     ensures { λ r. ⌜ (m ≡ SnapLabel → r ≡ newest n (standsIn n (now (rows .entry)))) ⌝ }
+    ensures { λ r. ⌜ (m ≢ SnapLabel → r ≡ 0) ⌝ }
 {
     match m {
         Move::SnapLabel => rows::order::newest(rows, n),
@@ -256,10 +258,11 @@ fn newest_for(m: Move, rows: &[[u8; 31]; 32], n: usize) -> usize
     }
 }
 
-// The scan order, for a move that asks for it.
+// The scan order, for a move that asks for it; else 0s.
 fn order_for(m: Move, rows: &[[u8; 31]; 32], n: usize) -> [usize; 32]
     requires { ⌜ Orderly n (now rows) ⌝ }
     ensures { λ r. ⌜ (m ≡ SnapScan → r ≡ orderOf n (now (rows .entry))) ⌝ }
+    ensures { λ r. ⌜ (m ≢ SnapScan → r ≡ replicate 32 0) ⌝ }
 {
     match m {
         Move::SnapScan => rows::order::order(rows, n),

@@ -17,7 +17,7 @@ use libc::STDIN_FILENO;
 use libc::STDOUT_FILENO;
 use schedule::Header;
 
-// How many bytes were read, and whether that failed.
+// How many bytes were read, and whether that failed; then there are none.
 struct Input {
     count: usize,
     failed: bool,
@@ -29,7 +29,7 @@ struct Turn {
     more: bool,
 }
 
-// Reads until `buf` is full or the schedule ends.
+// Reads until `buf` is full or the schedule ends; says so if it cannot be read.
 fn read_schedule(buf: &mut [u8]) -> Input
     ensures { λ r. ⌜ Counts (r .count) (now (buf .exit)) ⌝ }
 {
@@ -39,7 +39,7 @@ fn read_schedule(buf: &mut [u8]) -> Input
         if got < 0 {
             io::write_all(STDERR_FILENO, b"tickets: the schedule could not be read\n");
             return Input {
-                count,
+                count: 0,
                 failed: true,
             };
         }
@@ -58,7 +58,7 @@ fn read_schedule(buf: &mut [u8]) -> Input
     }
 }
 
-// Writes a part of the report, and answers whether that was done.
+// Writes a part of the report; says so if it cannot be written, and answers whether it was.
 fn write_report(bytes: &[u8]) -> bool {
     if io::write_all(STDOUT_FILENO, bytes) {
         return true;
@@ -157,9 +157,6 @@ fn read_part(
     ensures { λ r. ⌜ (r .more ≡ true → (lines < r .lines) × (r .lines ≤ 1000001)) ⌝ }
 {
     let r = read_schedule(input);
-    if r.failed {
-        return Turn { lines, more: false };
-    }
     let k = r.count;
     let t = serve_part(
         lines,

@@ -1,3 +1,4 @@
+use mathlib.Core.Path.{refl}
 use Rattle.engine.proofs.Stays.{no-snap}
 use borrow.Author.Needs.{needs}
 use Rattle.engine.proofs.newest_for.Statement.{statement}
@@ -10,10 +11,10 @@ newest-requires : tie.Need-newest-requires
 newest-requires c κs = search needs
 
 returns : tie.Need-returns
-returns c = search needs
+returns c = (λ e. c .newest .ensures, λ d. absurd (d (c .before .enum-told .given .1)))
 
 returns-2 : tie.Need-returns-2
-returns-2 c = λ e. absurd (no-snap (c .before .args .m) (c .match .keys2) e)
+returns-2 c = (λ e. absurd (no-snap (c .before .args .m) (c .match .keys2) e), λ d. refl)
 
 pub newest-for-spec : {M : Type 1} → statement M
 newest-for-spec = tie.close (tie.spec enum-told newest-requires returns returns-2)

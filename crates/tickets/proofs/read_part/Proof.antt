@@ -12,12 +12,6 @@ use Rattle.tickets.proofs.read_part.Tie as tie
 read-schedule-requires : tie.Need-read-schedule-requires
 read-schedule-requires c κs = search needs
 
-same-length : tie.Need-same-length
-same-length c = search needs
-
-returns : tie.Need-returns
-returns c = (c .before .before .before .before .before .before .before .pre .0, λ e. absurd (true≢false (sym e)))
-
 slice-reshare-prefix-serve-part : tie.Need-slice-reshare-prefix-serve-part
 slice-reshare-prefix-serve-part c = search needs
 
@@ -26,51 +20,49 @@ slice-aggregate-serve-part c = search needs
 
 serve-part-requires : tie.Need-serve-part-requires
 serve-part-requires c κs =
-    let given = c .before .before .before .before .before .before .before .before .before .before .before .before .before .before .pre in
+    let given = c .before .before .before .before .before .before .before .before .before .before .before .before .before .pre in
     (given .0, (given .1 .0, given .1 .1 .1))
+
+same-length : tie.Need-same-length
+same-length c = search needs
 
 same-length-2 : tie.Need-same-length-2
 same-length-2 c = search needs
 
-same-length-3 : tie.Need-same-length-3
-same-length-3 c = search needs
-
-returns-2 : tie.Need-returns-2
-returns-2 c =
-    let read = c .before .before .before .before .before .before .before .before .before .before .before .before .before .before in
+returns : tie.Need-returns
+returns c =
+    let read = c .before .before .before .before .before .before .before .before .before .before .before .before .before in
     let k = read .read-schedule .result .count in
     let input = read .read-schedule .last .0 in
     let served = c .before .before .before .serve-part in (
       served .ensures .0,
       λ e.
           let full : k ≡ length input = eqb-true _ _ e in
-          let counted = served .ensures .1 (c .if2 .taken) in
+          let counted = served .ensures .1 (c .if1 .taken) in
           let long = length-take-le k input (omega (arith, full)) in
           (omega (arith, full, counted, long, read .read-schedule .kept .0, read .before .before .before .before .pre .1 .1 .0), counted .1),
     )
 
+same-length-3 : tie.Need-same-length-3
+same-length-3 c = search needs
+
 same-length-4 : tie.Need-same-length-4
 same-length-4 c = search needs
 
-same-length-5 : tie.Need-same-length-5
-same-length-5 c = search needs
-
-returns-3 : tie.Need-returns-3
-returns-3 c = (c .before .before .before .serve-part .ensures .0, λ e. absurd (true≢false (sym e ∙ c .if2 .left)))
+returns-2 : tie.Need-returns-2
+returns-2 c = (c .before .before .before .serve-part .ensures .0, λ e. absurd (true≢false (sym e ∙ c .if1 .left)))
 
 pub read-part-spec : {M : Type 1} → statement M
 read-part-spec =
     tie.close
     (tie.spec
     read-schedule-requires
-    same-length
-    returns
     slice-reshare-prefix-serve-part
     slice-aggregate-serve-part
     serve-part-requires
+    same-length
     same-length-2
+    returns
     same-length-3
-    returns-2
     same-length-4
-    same-length-5
-    returns-3)
+    returns-2)

@@ -44,11 +44,7 @@ same-length c =
     same ∙ l .inv .0
 
 returns : tie.Need-returns Inv-loop μ-loop
-returns c =
-    let x = c .before .before .before .before .before in
-    let l = x .before .before .before .loop in
-    let same = same-len-mid (l .count) (length (l .buf) - l .count) (l .buf) (x .read .last .1 .0) (x .read .kept .1 .0) in
-    (omega (arith, same, l .inv), sym (length-take-le _ _ (omega (arith, same, l .inv))))
+returns c = (omega arith, refl)
 
 sub-count : tie.Need-sub-count Inv-loop μ-loop
 sub-count c =
