@@ -90,7 +90,8 @@ returns-3 c =
     let k = length (y .report-lines .last .1 .1 .1 .1 .1 .1 .1 .1 .0) - y .report-lines .result .written in
     let fresh = y .before .before .before .before .before .before .before .before .before .refresh .ensures in
     let zero = sym (test .before .number .ensures) ∙ test .if1 .left in
-    rw (← fresh) (straight-more g zero (y .report-lines .kept .1 .1 .1 .1 .1 .1 .1 .1 .0) (c .before .before .before .before .before .from .ensures) k refl t _ refl refl)
+    let same = y .report-lines .kept .1 .1 .1 .1 .1 .1 .1 .1 .0 in
+    rw (← fresh) (straight-more g zero same (c .before .before .before .before .before .from .ensures) k refl t _ refl refl)
 
 pub report-steps-spec : {M : Type 1} → statement M
 report-steps-spec =
