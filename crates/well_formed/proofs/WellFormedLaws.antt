@@ -1,6 +1,6 @@
 -- What the tests of single rows say of the table that the arrays hold.
-use Prim.Native.Nat.{ℕ, zero, suc, _+_, _-_, _^_, _%_, _≤_, _<_}
-use native.Mathlib.Nat.{zero-add, le-of-suc-le-suc, not-suc-le-zero, mod-eq-of-lt}
+use Prim.Native.Nat.{ℕ, suc, _+_, _-_, _^_, _%_, _≤_, _<_}
+use native.Mathlib.Nat.{zero-add, mod-eq-of-lt}
 use native.Mathlib.Omega.{arith}
 use native.Mathlib.Decide.{decLt}
 use mathlib.Core.Path.{_≡_, refl, sym, ap, ap₂, _∙_}
@@ -13,8 +13,7 @@ use lib.Dec.{eqb, leb, ltb}
 use borrow.Author.Tests.{eqb-true, eq-eqb, ne-eqb, leb-true, le-leb, lt-leb, ltb-true, lt-ltb, le-ltb}
 use Rattle.basics.specs.Tests.{within, every, count, tabulate}
 use Rattle.basics.proofs.Facts.{and-both, both, left-no, tf, is-false, within-true, within-of, every-all, every-at, every-same}
-use Rattle.basics.proofs.Facts.{getD-tabulate, tabulate-same, getD-any}
-use Rattle.basics.proofs.Filled.{filled}
+use Rattle.basics.proofs.Facts.{getD-tabulate, getD-any}
 use Rattle.basics.proofs.Loops.{same-test, every-and, and-yes}
 use Rattle.basics.proofs.Counts.{count-same}
 use Rattle.label.specs.Rows.{digit, rowFits, noRing}

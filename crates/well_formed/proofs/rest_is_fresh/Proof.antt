@@ -30,14 +30,16 @@ returns c =
     let b = c .before .before .before in
     let f = b .before .before in
     let a = f .before .args in
-    and-yes (sym (b .rows-are .ensures) ∙ c .before .before .if1 .taken) (c .rows-are2 .ensures) ∙ fresh-results (a .n) (a .results .now) (f .fresh-result .ensures)
+    and-yes (sym (b .rows-are .ensures) ∙ c .before .before .if1 .taken) (c .rows-are2 .ensures)
+    ∙ fresh-results (a .n) (a .results .now) (f .fresh-result .ensures)
 
 returns-2 : tie.Need-returns-2
 returns-2 c =
     let f = c .before .before .before in
     let a = f .before .args in
     let jobs = every (32 - a .n) (λ i. sameRow (getD (getD (a .results .now) (a .n + i) []) 1 []) (getD (f .fresh-result .result) 1 [])) in
-    and-no jobs (c .before .rows-are .ensures) (c .if1 .left) ∙ fresh-results (a .n) (a .results .now) (f .fresh-result .ensures)
+    and-no jobs (c .before .rows-are .ensures) (c .if1 .left)
+    ∙ fresh-results (a .n) (a .results .now) (f .fresh-result .ensures)
 
 pub rest-is-fresh-spec : {M : Type 1} → statement M
 rest-is-fresh-spec =

@@ -25,7 +25,8 @@ labels-fit-requires c κs = (search needs, λ i h. c .before .shaped .ensures 0 
 
 returns-3 : tie.Need-returns-3
 returns-3 c =
-    failed _ (c .before .before .before .shaped .ensures 0 .results .long) (search needs) _ (λ p. p .labels) (was-false (c .before .labels-fit .ensures) (c .if3 .taken))
+    failed _ (c .before .before .before .shaped .ensures 0 .results .long) (search needs) _ (λ p. p .labels)
+    (was-false (c .before .labels-fit .ensures) (c .if3 .taken))
 
 index-1-labels-fit-2 : tie.Need-index-1-labels-fit-2
 index-1-labels-fit-2 c = search needs
@@ -35,7 +36,8 @@ labels-fit-requires-2 c κs = (search needs, λ i h. c .before .before .before .
 
 returns-4 : tie.Need-returns-4
 returns-4 c =
-    failed _ (c .before .before .before .before .before .before .shaped .ensures 0 .results .long) (search needs) _ (λ p. p .pending) (was-false (c .before .labels-fit2 .ensures) (c .if4 .taken))
+    failed _ (c .before .before .before .before .before .before .shaped .ensures 0 .results .long) (search needs) _ (λ p. p .pending)
+    (was-false (c .before .labels-fit2 .ensures) (c .if4 .taken))
 
 index-1-phases-fit : tie.Need-index-1-phases-fit
 index-1-phases-fit c = search needs
@@ -46,7 +48,8 @@ phases-fit-requires c κs = search needs
 returns-5 : tie.Need-returns-5
 returns-5 c =
     let b = c .before .before .before in
-    failed _ (b .before .before .before .before .before .before .shaped .ensures 0 .results .long) (search needs) _ (λ p. p .phases) (was-false (c .before .phases-fit .ensures) (c .if5 .taken))
+    failed _ (b .before .before .before .before .before .before .shaped .ensures 0 .results .long) (search needs) _ (λ p. p .phases)
+    (was-false (c .before .phases-fit .ensures) (c .if5 .taken))
 
 none-from-requires : tie.Need-none-from-requires
 none-from-requires c κs = search needs
@@ -54,7 +57,8 @@ none-from-requires c κs = search needs
 returns-6 : tie.Need-returns-6
 returns-6 c =
     let b = c .before .before .before .before .before in
-    failed _ (b .before .before .before .before .before .before .shaped .ensures 0 .results .long) (search needs) _ (λ p. p .jobs) (was-false (c .before .none-from .ensures) (c .if6 .taken))
+    failed _ (b .before .before .before .before .before .before .shaped .ensures 0 .results .long) (search needs) _ (λ p. p .jobs)
+    (was-false (c .before .none-from .ensures) (c .if6 .taken))
 
 results-fit-requires : tie.Need-results-fit-requires
 results-fit-requires c κs = search needs
@@ -62,7 +66,8 @@ results-fit-requires c κs = search needs
 returns-7 : tie.Need-returns-7
 returns-7 c =
     let b = c .before .before .before .before .before .before .before in
-    failed _ (b .before .before .before .before .before .before .shaped .ensures 0 .results .long) (search needs) _ (λ p. p .results) (was-false (c .before .results-fit .ensures) (c .if7 .taken))
+    failed _ (b .before .before .before .before .before .before .shaped .ensures 0 .results .long) (search needs) _ (λ p. p .results)
+    (was-false (c .before .results-fit .ensures) (c .if7 .taken))
 
 rest-is-fresh-requires : tie.Need-rest-is-fresh-requires
 rest-is-fresh-requires c κs = search needs
@@ -70,7 +75,8 @@ rest-is-fresh-requires c κs = search needs
 returns-8 : tie.Need-returns-8
 returns-8 c =
     let b = c .before .before .before .before .before .before .before .before .before in
-    failed _ (b .before .before .before .before .before .before .shaped .ensures 0 .results .long) (search needs) _ (λ p. p .rest) (was-false (c .before .rest-is-fresh .ensures) (c .if8 .taken))
+    failed _ (b .before .before .before .before .before .before .shaped .ensures 0 .results .long) (search needs) _ (λ p. p .rest)
+    (was-false (c .before .rest-is-fresh .ensures) (c .if8 .taken))
 
 index-1-no-ring : tie.Need-index-1-no-ring
 index-1-no-ring c = search needs
