@@ -6,41 +6,25 @@ ghost use Prim.Native.Nat.{ℕ, suc, _+_, _-_, _≤_, _<_};
 ghost use lib.ListN.{length, getD};
 ghost use lib.Dec.{eqb, leb, ltb};
 ghost use Rattle.basics.specs.Tests.{within, every, count};
-ghost use Rattle.simulation.specs.Machine.{freshRest};
-ghost use Rattle.arrays.specs.Arrays.{arrays, resultRows};
+ghost use Rattle.arrays.specs.Arrays.{arrays};
 ghost use Rattle.arrays.specs.WellFormed.{resultFits, resultFresh, wellFormed};
-ghost use Rattle.well_formed.specs.Halves.{halfTops, topDigits, halfFits, labelFits, labelsFit};
+ghost use Rattle.well_formed.specs.Loops.{tops, halfFits, halfOnes, labelsFit, noneFrom, sameRow};
 use arrays::Control;
 use arrays::Jobs;
 use arrays::Labels;
 use arrays::Results;
 
-// The greatest digit at position p of a label of m digits.
-fn top_digit(m: usize, p: usize) -> u8
-    ensures { λ r. ⌜ r ≡ cond (ltb p m) 5 1 ⌝ }
+// The greatest bytes at 32 places, `high`, and at 32 more, `low`: read from place 32 - m on, the first m are `high`.
+fn tops(high: u8, low: u8) -> [u8; 64]
+    ensures { λ r. ⌜ r ≡ tops high low ⌝ }
 {
-    if p < m { 5 } else { 1 }
-}
-
-// The greatest digits at the 16 positions from h on.
-fn half_tops(m: usize, h: usize) -> [u8; 16]
-    requires { ⌜ h ≤ 15 ⌝ }
-    ensures { λ r. ⌜ r ≡ halfTops m h ⌝ }
-{
-    let mut r = [1u8; 16];
+    let mut r = [low; 64];
     let mut p: usize = 0;
-    while p < 16 {
-        r[p] = top_digit(m, h + p);
+    while p < 32 {
+        r[p] = high;
         p += 1;
     }
     r
-}
-
-// The greatest digits of both halves, which share position 15: so each is as long as a vector.
-fn tops(m: usize) -> [[u8; 16]; 2]
-    ensures { λ r. ⌜ r ≡ topDigits m ⌝ }
-{
-    [half_tops(m, 0), half_tops(m, 15)]
 }
 
 // Whether a digit is from 1 to `top`, by one comparison: 0 less 1 is the greatest byte.
@@ -50,15 +34,15 @@ fn digit_fits(d: u8, top: u8) -> bool
     std::num::wrapping_sub_u8(d, 1) < top
 }
 
-// Whether each of the 16 digits from position h on is from 1 to the greatest there.
-fn half_fits(label: &[u8; 31], top: &[u8; 16], h: usize) -> bool
-    requires { ⌜ h ≤ 15 ⌝ }
-    ensures { λ r. ⌜ r ≡ halfFits (now (top .entry)) (now (label .entry)) h ⌝ }
+// Whether each of the 16 digits from position h on is from 1 to the greatest there, in a label of n - 1 digits.
+fn half_fits(n: usize, label: &[u8; 31], tops: &[u8; 64], h: usize) -> bool
+    requires { ⌜ (1 ≤ n) × (n ≤ 32) × (h ≤ 15) ⌝ }
+    ensures { λ r. ⌜ r ≡ halfFits n (now (tops .entry)) (now (label .entry)) h ⌝ }
 {
     let mut r = true;
     let mut p: usize = 0;
     while p < 16 {
-        if !digit_fits(label[h + p], top[p]) {
+        if !digit_fits(label[h + p], tops[33 - n + h + p]) {
             r = false;
         }
         p += 1;
@@ -66,49 +50,79 @@ fn half_fits(label: &[u8; 31], top: &[u8; 16], h: usize) -> bool
     r
 }
 
-// Whether the 16 digits from position h on fit in each of the k labels from row i on.
-fn halves_fit(rows: &[[u8; 31]; 32], top: &[u8; 16], h: usize, i: usize, k: usize) -> bool
-    requires { ⌜ (h ≤ 15) × (i + k ≤ 32) ⌝ }
-    ensures { λ r. ⌜ r ≡ every k (λ j. halfFits (now (top .entry)) (getD (now (rows .entry)) (i + j) []) h) ⌝ }
+// Whether the 16 digits from position h on fit in each label of n stations.
+fn halves_fit(n: usize, rows: &[[u8; 31]; 32], tops: &[u8; 64], h: usize) -> bool
+    requires { ⌜ (1 ≤ n) × (n ≤ 32) × (h ≤ 15) ⌝ }
+    ensures { λ r. ⌜ r ≡ every n (λ i. halfFits n (now (tops .entry)) (getD (now (rows .entry)) i []) h) ⌝ }
 {
-    let mut j: usize = 0;
-    while j < k {
-        if !half_fits(&rows[i + j], top, h) {
+    let mut i: usize = 0;
+    while i < n {
+        if !half_fits(n, &rows[i], tops, h) {
             return false;
         }
-        j += 1;
+        i += 1;
     }
     true
 }
 
-// Whether the k labels from row i on fit: first one half of all of them, then the other, so that no byte is read for both at once.
-fn labels_within(rows: &[[u8; 31]; 32], tops: &[[u8; 16]; 2], i: usize, k: usize) -> bool
-    requires { ⌜ i + k ≤ 32 ⌝ }
-    ensures { λ r. ⌜ r ≡ every k (λ j. labelFits (now (tops .entry)) (getD (now (rows .entry)) (i + j) [])) ⌝ }
+// Whether each of the 16 digits from position h on is 1.
+fn half_is_ones(label: &[u8; 31], h: usize) -> bool
+    requires { ⌜ h ≤ 15 ⌝ }
+    ensures { λ r. ⌜ r ≡ halfOnes (now (label .entry)) h ⌝ }
 {
-    halves_fit(rows, &tops[0], 0, i, k) && halves_fit(rows, &tops[1], 15, i, k)
+    let mut r = true;
+    let mut p: usize = 0;
+    while p < 16 {
+        if label[h + p] != 1 {
+            r = false;
+        }
+        p += 1;
+    }
+    r
 }
 
-// Whether the labels of n stations fit, and those past them are all 1.
+// Whether the 16 digits from position h on are 1 in each label past n stations.
+fn halves_are_ones(n: usize, rows: &[[u8; 31]; 32], h: usize) -> bool
+    requires { ⌜ (n ≤ 32) × (h ≤ 15) ⌝ }
+    ensures { λ r. ⌜ r ≡ every (32 - n) (λ i. halfOnes (getD (now (rows .entry)) (n + i) []) h) ⌝ }
+{
+    let mut i: usize = 0;
+    while i < 32 - n {
+        if !half_is_ones(&rows[n + i], h) {
+            return false;
+        }
+        i += 1;
+    }
+    true
+}
+
+// Whether the labels of n stations fit, and those past them are all 1. First one half of all of them is read, then the other: the halves, as long as
+// a vector each, share position 15, and no byte is read for both at once.
 fn labels_fit(n: usize, rows: &[[u8; 31]; 32]) -> bool
     requires { ⌜ (1 ≤ n) × (n ≤ 32) ⌝ }
     requires { ⌜ ((i : ℕ) → i < 32 → length (getD (now rows) i []) ≡ 31) ⌝ }
     ensures { λ r. ⌜ r ≡ labelsFit n (now (rows .entry)) ⌝ }
 {
-    let most = tops(n - 1);
-    let ones = tops(0);
-    labels_within(rows, &most, 0, n) && labels_within(rows, &ones, n, 32 - n)
+    let most = tops(5, 1);
+    if !halves_fit(n, rows, &most, 0) {
+        return false;
+    }
+    if !halves_fit(n, rows, &most, 15) {
+        return false;
+    }
+    halves_are_ones(n, rows, 0) && halves_are_ones(n, rows, 15)
 }
 
-// Whether each number of n stations is that of a phase.
-fn phases_known(n: usize, phases: &[u8; 32]) -> bool
+// Whether each number of n stations is that of a phase, and all past them are idle.
+fn phases_fit(n: usize, phases: &[u8; 32]) -> bool
     requires { ⌜ n ≤ 32 ⌝ }
-    ensures { λ r. ⌜ r ≡ every n (λ i. leb (getD (now (phases .entry)) i 0) 5) ⌝ }
+    ensures { λ r. ⌜ r ≡ every 32 (λ i. leb (getD (now (phases .entry)) i 0) (cond (ltb i n) 5 0)) ⌝ }
 {
+    let most = tops(5, 0);
     let mut r = true;
     let mut i: usize = 0;
-    while i < n {
-        if 5 < phases[i] {
+    while i < 32 {
+        if most[32 - n + i] < phases[i] {
             r = false;
         }
         i += 1;
@@ -116,31 +130,18 @@ fn phases_known(n: usize, phases: &[u8; 32]) -> bool
     r
 }
 
-// Whether all from place n on are idle.
-fn idle_from(n: usize, phases: &[u8; 32]) -> bool
+// Whether two rows, as those of a result, have nothing from place n on.
+fn none_from(n: usize, rows: &[[u32; 32]; 2]) -> bool
     requires { ⌜ n ≤ 32 ⌝ }
-    ensures { λ r. ⌜ r ≡ every (32 - n) (λ i. eqb (getD (now (phases .entry)) (n + i) 0) 0) ⌝ }
+    ensures { λ r. ⌜ r ≡ noneFrom n (now (rows .entry)) ⌝ }
 {
     let mut r = true;
     let mut i: usize = 0;
     while i < 32 - n {
-        if phases[n + i] != 0 {
+        if rows[0][n + i] != 0 {
             r = false;
         }
-        i += 1;
-    }
-    r
-}
-
-// Whether a row of jobs or stations has none from place n on.
-fn none_from(n: usize, row: &[u32; 32]) -> bool
-    requires { ⌜ n ≤ 32 ⌝ }
-    ensures { λ r. ⌜ r ≡ every (32 - n) (λ i. eqb (getD (now (row .entry)) (n + i) 0) 0) ⌝ }
-{
-    let mut r = true;
-    let mut i: usize = 0;
-    while i < 32 - n {
-        if row[n + i] != 0 {
+        if rows[1][n + i] != 0 {
             r = false;
         }
         i += 1;
@@ -191,10 +192,7 @@ fn result_fits(n: usize, rows: &[[u32; 32]; 2]) -> bool
     requires { ⌜ n ≤ 32 ⌝ }
     ensures { λ r. ⌜ r ≡ resultFits n (now (rows .entry)) ⌝ }
 {
-    if !all_once(n, tally(n, &rows[0])) {
-        return false;
-    }
-    none_from(n, &rows[0]) && none_from(n, &rows[1])
+    all_once(n, tally(n, &rows[0])) && none_from(n, rows)
 }
 
 // Whether the results of n stations fit.
@@ -213,7 +211,7 @@ fn results_fit(n: usize, results: &Results) -> bool
 }
 
 fn same_row(a: &[u32; 32], b: &[u32; 32]) -> bool
-    ensures { λ r. ⌜ r ≡ every 32 (λ p. eqb (getD (now (a .entry)) p 0) (getD (now (b .entry)) p 0)) ⌝ }
+    ensures { λ r. ⌜ r ≡ sameRow (now (a .entry)) (now (b .entry)) ⌝ }
 {
     let mut r = true;
     let mut p: usize = 0;
@@ -226,27 +224,28 @@ fn same_row(a: &[u32; 32], b: &[u32; 32]) -> bool
     r
 }
 
-// Whether a result is `fresh`, that of a fresh station.
-fn is_fresh(rows: &[[u32; 32]; 2], fresh: &[[u32; 32]; 2]) -> bool
-    ensures { λ r. ⌜ ((n : ℕ) → now (fresh .entry) ≡ resultRows (freshRest n .result 0) → r ≡ resultFresh n (now (rows .entry))) ⌝ }
-{
-    same_row(&rows[0], &fresh[0]) && same_row(&rows[1], &fresh[1])
-}
-
-// Whether the results past the n stations are `fresh`, that of a fresh station of n.
-fn rest_is_fresh(n: usize, results: &Results, fresh: &[[u32; 32]; 2]) -> bool
-    requires { ⌜ n ≤ 32 ⌝ }
-    requires { ⌜ now fresh ≡ resultRows (freshRest n .result 0) ⌝ }
-    ensures { λ r. ⌜ r ≡ every (32 - n) (λ i. resultFresh n (getD (now (results .entry)) (n + i) [])) ⌝ }
+// Whether row k of each result past the n stations is `row`.
+fn rows_are(n: usize, k: usize, results: &Results, row: &[u32; 32]) -> bool
+    requires { ⌜ (n ≤ 32) × (k ≤ 1) ⌝ }
+    ensures { λ r. ⌜ r ≡ every (32 - n) (λ i. sameRow (getD (getD (now (results .entry)) (n + i) []) k []) (now (row .entry))) ⌝ }
 {
     let mut i: usize = 0;
     while i < 32 - n {
-        if !is_fresh(&results[n + i], fresh) {
+        if !same_row(&results[n + i][k], row) {
             return false;
         }
         i += 1;
     }
     true
+}
+
+// Whether the results past the n stations are that of a fresh station of n.
+fn rest_is_fresh(n: usize, results: &Results) -> bool
+    requires { ⌜ n ≤ 32 ⌝ }
+    ensures { λ r. ⌜ r ≡ every (32 - n) (λ i. resultFresh n (getD (now (results .entry)) (n + i) [])) ⌝ }
+{
+    let fresh = arrays::fresh_result(n);
+    rows_are(n, 0, results, &fresh[0]) && rows_are(n, 1, results, &fresh[1])
 }
 
 // Whether the arrays hold a well-formed table.
@@ -273,23 +272,16 @@ pub fn well_formed(
     if !labels_fit(n, &labels[1]) {
         return false;
     }
-    if !phases_known(n, &control[0]) {
+    if !phases_fit(n, &control[0]) {
         return false;
     }
-    if !idle_from(n, &control[0]) {
-        return false;
-    }
-    if !none_from(n, &jobs[0]) {
-        return false;
-    }
-    if !none_from(n, &jobs[1]) {
+    if !none_from(n, jobs) {
         return false;
     }
     if !results_fit(n, results) {
         return false;
     }
-    let fresh = arrays::fresh_result(n);
-    if !rest_is_fresh(n, results, &fresh) {
+    if !rest_is_fresh(n, results) {
         return false;
     }
     rows::ring::no_ring(&labels[0], n)

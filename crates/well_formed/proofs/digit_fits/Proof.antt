@@ -1,6 +1,5 @@
 use Rattle.well_formed.proofs.WellFormedLaws.{from-one}
 use borrow.Author.Needs.{needs}
-use borrow.Author.Needs.{needs}
 use Rattle.well_formed.proofs.digit_fits.Statement.{statement}
 use Rattle.well_formed.proofs.digit_fits.Tie as tie
 

@@ -10,10 +10,10 @@ use Rattle.well_formed.proofs.half_fits.Statement.{statement}
 use Rattle.well_formed.proofs.half_fits.Tie as tie
 
 abbrev Inv-loop : tie.InvT-loop
-Inv-loop label top h r₀ p₀ r p = (p ≤ 16) × (r ≡ every p (λ q. within 1 (getD top q 0) (getD label (h + q) 0)))
+Inv-loop n label tops h r₀ p₀ r p = (p ≤ 16) × (r ≡ every p (λ q. within 1 (getD tops (33 - n + h + q) 0) (getD label (h + q) 0)))
 
 abbrev μ-loop : tie.MeasureT-loop
-μ-loop label top h r₀ p₀ r p = 16 - p
+μ-loop n label tops h r₀ p₀ r p = 16 - p
 
 loop-holds : tie.Need-loop-holds Inv-loop μ-loop
 loop-holds c = (search needs, flag-up _)
@@ -23,6 +23,15 @@ add-digit-fits c = search needs
 
 element-copy-out-digit-fits : tie.Need-element-copy-out-digit-fits Inv-loop μ-loop
 element-copy-out-digit-fits c = search needs
+
+sub-digit-fits : tie.Need-sub-digit-fits Inv-loop μ-loop
+sub-digit-fits c = search needs
+
+add-digit-fits-2 : tie.Need-add-digit-fits-2 Inv-loop μ-loop
+add-digit-fits-2 c = search needs
+
+add-digit-fits-3 : tie.Need-add-digit-fits-3 Inv-loop μ-loop
+add-digit-fits-3 c = search needs
 
 element-copy-out-digit-fits-2 : tie.Need-element-copy-out-digit-fits-2 Inv-loop μ-loop
 element-copy-out-digit-fits-2 c = search needs
@@ -57,6 +66,9 @@ half-fits-spec =
     loop-holds
     add-digit-fits
     element-copy-out-digit-fits
+    sub-digit-fits
+    add-digit-fits-2
+    add-digit-fits-3
     element-copy-out-digit-fits-2
     digit-fits-requires
     add-p

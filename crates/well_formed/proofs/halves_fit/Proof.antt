@@ -1,4 +1,4 @@
-use Prim.Native.Nat.{_+_, _-_, _≤_}
+use Prim.Native.Nat.{_-_, _≤_}
 use native.Mathlib.Omega.{arith}
 use mathlib.Core.Path.{_≡_, sym}
 use mathlib.Core.Bool.{true}
@@ -7,22 +7,19 @@ use lib.ListN.{getD}
 use Rattle.basics.specs.Tests.{every}
 use Rattle.basics.proofs.Facts.{every-no}
 use Rattle.basics.proofs.Loops.{every-none, every-more, every-done, was-false, was-true}
-use Rattle.well_formed.specs.Halves.{halfFits}
+use Rattle.well_formed.specs.Loops.{halfFits}
 use borrow.Author.Needs.{needs}
 use Rattle.well_formed.proofs.halves_fit.Statement.{statement}
 use Rattle.well_formed.proofs.halves_fit.Tie as tie
 
 abbrev Inv-loop : tie.InvT-loop
-Inv-loop rows top h i k j₀ j = (j ≤ k) × (every j (λ q. halfFits top (getD rows (i + q) []) h) ≡ true)
+Inv-loop n rows tops h i₀ i = (i ≤ n) × (every i (λ k. halfFits n tops (getD rows k []) h) ≡ true)
 
 abbrev μ-loop : tie.MeasureT-loop
-μ-loop rows top h i k j₀ j = k - j
+μ-loop n rows tops h i₀ i = n - i
 
 loop-holds : tie.Need-loop-holds Inv-loop μ-loop
 loop-holds c = (search needs, every-none _)
-
-add-half-fits : tie.Need-add-half-fits Inv-loop μ-loop
-add-half-fits c = search needs
 
 mul-half-fits : tie.Need-mul-half-fits Inv-loop μ-loop
 mul-half-fits c = search needs
@@ -36,10 +33,10 @@ half-fits-requires c κs = search needs
 returns : tie.Need-returns Inv-loop μ-loop
 returns c =
     let b = c .before .before .before .before in
-    sym (every-no _ _ (b .loop .j) (search needs) (was-false (c .before .half-fits .ensures) (c .if1 .taken)))
+    sym (every-no _ _ (b .loop .i) (search needs) (was-false (c .before .half-fits .ensures) (c .if1 .taken)))
 
-add-j : tie.Need-add-j Inv-loop μ-loop
-add-j c = search needs
+add-i : tie.Need-add-i Inv-loop μ-loop
+add-i c = search needs
 
 loop-less : tie.Need-loop-less Inv-loop μ-loop
 loop-less c = search needs
@@ -59,12 +56,11 @@ halves-fit-spec =
     Inv-loop
     μ-loop
     loop-holds
-    add-half-fits
     mul-half-fits
     index-1-half-fits
     half-fits-requires
     returns
-    add-j
+    add-i
     loop-less
     loop-again
     returns-2)

@@ -2,20 +2,22 @@ use Prim.Native.Nat.{_+_, _-_, _≤_}
 use native.Mathlib.Omega.{arith}
 use mathlib.Core.Path.{_≡_, _∙_}
 use mathlib.Core.Logic.{⊎-elim}
-use lib.ListN.{getD}
+use mathlib.Core.Bool.{_&&_}
 use lib.Dec.{eqb}
 use borrow.Author.Tests.{eq-eqb, ne-eqb}
 use Rattle.basics.specs.Tests.{every}
+use Rattle.basics.proofs.Facts.{both, left-no, right-no}
 use Rattle.basics.proofs.Loops.{flag-up, flag-down, flag-stays, flag-end}
+use Rattle.arrays.specs.Arrays.{cell}
 use borrow.Author.Needs.{needs}
 use Rattle.well_formed.proofs.none_from.Statement.{statement}
 use Rattle.well_formed.proofs.none_from.Tie as tie
 
 abbrev Inv-loop : tie.InvT-loop
-Inv-loop n row r₀ i₀ r i = (i ≤ 32 - n) × (r ≡ every i (λ k. eqb (getD row (n + k) 0) 0))
+Inv-loop n rows r₀ i₀ r i = (i ≤ 32 - n) × (r ≡ every i (λ k. eqb (cell rows 0 (n + k) 0) 0 && eqb (cell rows 1 (n + k) 0) 0))
 
 abbrev μ-loop : tie.MeasureT-loop
-μ-loop n row r₀ i₀ r i = 32 - n - i
+μ-loop n rows r₀ i₀ r i = 32 - n - i
 
 loop-holds : tie.Need-loop-holds Inv-loop μ-loop
 loop-holds c = (search needs, flag-up _)
@@ -29,8 +31,23 @@ add-if1 c = search needs
 mul-if1 : tie.Need-mul-if1 Inv-loop μ-loop
 mul-if1 c = search needs
 
-element-copy-out-if1 : tie.Need-element-copy-out-if1 Inv-loop μ-loop
-element-copy-out-if1 c = search needs
+index-1-if1 : tie.Need-index-1-if1 Inv-loop μ-loop
+index-1-if1 c = search needs
+
+index-2-if1 : tie.Need-index-2-if1 Inv-loop μ-loop
+index-2-if1 c = search needs
+
+add-if2 : tie.Need-add-if2 Inv-loop μ-loop
+add-if2 c = search needs
+
+mul-if2 : tie.Need-mul-if2 Inv-loop μ-loop
+mul-if2 c = search needs
+
+index-1-if2 : tie.Need-index-1-if2 Inv-loop μ-loop
+index-1-if2 c = search needs
+
+index-2-if2 : tie.Need-index-2-if2 Inv-loop μ-loop
+index-2-if2 c = search needs
 
 add-i : tie.Need-add-i Inv-loop μ-loop
 add-i c = search needs
@@ -40,12 +57,17 @@ loop-less c = search needs
 
 loop-again : tie.Need-loop-again Inv-loop μ-loop
 loop-again c =
-    let b = c .before .before .before in
+    let d = c .before .before in
+    let b = d .before .before .before in
     let i = b .loop .i in
     let a = b .before .args in
-    let x = getD (a .row .now) (a .n + i) 0 in (
+    let x = cell (a .rows .now) 0 (a .n + i) 0 in
+    let y = cell (a .rows .now) 1 (a .n + i) 0 in (
       search needs,
-      ⊎-elim (λ w. w .1 ∙ flag-down i _ (ne-eqb x 0 (w .0 .taken))) (λ w. w .1 ∙ flag-stays i _ (b .loop .inv .1) (eq-eqb x 0 (w .0 .left))) (c .if1 .came),
+      ⊎-elim (λ v. v .1 ∙ flag-down i _ (right-no (eqb x 0) (ne-eqb y 0 (v .0 .taken))))
+          (λ v. v .1 ∙ ⊎-elim (λ w. w .1 ∙ flag-down i _ (left-no _ (ne-eqb x 0 (w .0 .taken))))
+          (λ w. w .1 ∙ flag-stays i _ (b .loop .inv .1) (both (eq-eqb x 0 (w .0 .left)) (eq-eqb y 0 (v .0 .left)))) (d .if1 .came))
+          (c .if2 .came),
     )
 
 returns : tie.Need-returns Inv-loop μ-loop
@@ -61,7 +83,12 @@ none-from-spec =
     sub-loop
     add-if1
     mul-if1
-    element-copy-out-if1
+    index-1-if1
+    index-2-if1
+    add-if2
+    mul-if2
+    index-1-if2
+    index-2-if2
     add-i
     loop-less
     loop-again

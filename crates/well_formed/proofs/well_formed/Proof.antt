@@ -5,7 +5,6 @@ use Rattle.basics.proofs.Facts.{left-no, right-no}
 use Rattle.basics.proofs.Loops.{was-false, was-true}
 use Rattle.well_formed.proofs.WellFormedLaws.{wrong-count, failed, by-rings}
 use borrow.Author.Needs.{needs}
-use borrow.Author.Needs.{needs}
 use Rattle.well_formed.proofs.well_formed.Statement.{statement}
 use Rattle.well_formed.proofs.well_formed.Tie as tie
 
@@ -26,7 +25,8 @@ labels-fit-requires c κs = (search needs, λ i h. c .before .shaped .ensures 0 
 
 returns-3 : tie.Need-returns-3
 returns-3 c =
-    failed _ (c .before .before .before .shaped .ensures 0 .results .long) (search needs) _ (λ p. p .labels) (was-false (c .before .labels-fit .ensures) (c .if3 .taken))
+    failed _ (c .before .before .before .shaped .ensures 0 .results .long) (search needs) _ (λ p. p .labels)
+    (was-false (c .before .labels-fit .ensures) (c .if3 .taken))
 
 index-1-labels-fit-2 : tie.Need-index-1-labels-fit-2
 index-1-labels-fit-2 c = search needs
@@ -39,73 +39,44 @@ returns-4 c =
     failed _ (c .before .before .before .before .before .before .shaped .ensures 0 .results .long) (search needs) _ (λ p. p .pending)
     (was-false (c .before .labels-fit2 .ensures) (c .if4 .taken))
 
-index-1-phases-known : tie.Need-index-1-phases-known
-index-1-phases-known c = search needs
+index-1-phases-fit : tie.Need-index-1-phases-fit
+index-1-phases-fit c = search needs
 
-phases-known-requires : tie.Need-phases-known-requires
-phases-known-requires c κs = search needs
+phases-fit-requires : tie.Need-phases-fit-requires
+phases-fit-requires c κs = search needs
 
 returns-5 : tie.Need-returns-5
 returns-5 c =
-    failed _ (c .before .before .before .before .before .before .before .before .before .shaped .ensures 0 .results .long) (search needs) _ (λ p. p .phases)
-    (was-false (c .before .phases-known .ensures) (c .if5 .taken))
-
-index-1-idle-from : tie.Need-index-1-idle-from
-index-1-idle-from c = search needs
-
-idle-from-requires : tie.Need-idle-from-requires
-idle-from-requires c κs = search needs
-
-returns-6 : tie.Need-returns-6
-returns-6 c =
-    let b = c .before .before in
-    failed _ (b .before .before .before .before .before .before .before .before .before .before .shaped .ensures 0 .results .long) (search needs) _ (λ p. p .idle)
-    (was-false (c .before .idle-from .ensures) (c .if6 .taken))
-
-index-1-none-from : tie.Need-index-1-none-from
-index-1-none-from c = search needs
+    let b = c .before .before .before in
+    failed _ (b .before .before .before .before .before .before .shaped .ensures 0 .results .long) (search needs) _ (λ p. p .phases)
+    (was-false (c .before .phases-fit .ensures) (c .if5 .taken))
 
 none-from-requires : tie.Need-none-from-requires
 none-from-requires c κs = search needs
 
-returns-7 : tie.Need-returns-7
-returns-7 c =
+returns-6 : tie.Need-returns-6
+returns-6 c =
     let b = c .before .before .before .before .before in
-    failed _ (b .before .before .before .before .before .before .before .before .before .before .shaped .ensures 0 .results .long) (search needs) _ (λ p. p .jobs)
-    (was-false (c .before .none-from .ensures) (c .if7 .taken))
-
-index-1-none-from-2 : tie.Need-index-1-none-from-2
-index-1-none-from-2 c = search needs
-
-none-from-requires-2 : tie.Need-none-from-requires-2
-none-from-requires-2 c κs = search needs
-
-returns-8 : tie.Need-returns-8
-returns-8 c =
-    let b = c .before .before .before .before .before .before .before .before in
-    failed _ (b .before .before .before .before .before .before .before .before .before .before .shaped .ensures 0 .results .long) (search needs) _ (λ p. p .pendingJobs)
-    (was-false (c .before .none-from2 .ensures) (c .if8 .taken))
+    failed _ (b .before .before .before .before .before .before .shaped .ensures 0 .results .long) (search needs) _ (λ p. p .jobs)
+    (was-false (c .before .none-from .ensures) (c .if6 .taken))
 
 results-fit-requires : tie.Need-results-fit-requires
 results-fit-requires c κs = search needs
 
-returns-9 : tie.Need-returns-9
-returns-9 c =
-    let b = c .before .before .before .before .before .before .before .before .before .before in
-    failed _ (b .before .before .before .before .before .before .before .before .before .before .shaped .ensures 0 .results .long) (search needs) _ (λ p. p .results)
-    (was-false (c .before .results-fit .ensures) (c .if9 .taken))
-
-fresh-result-requires : tie.Need-fresh-result-requires
-fresh-result-requires c κs = search needs
+returns-7 : tie.Need-returns-7
+returns-7 c =
+    let b = c .before .before .before .before .before .before .before in
+    failed _ (b .before .before .before .before .before .before .shaped .ensures 0 .results .long) (search needs) _ (λ p. p .results)
+    (was-false (c .before .results-fit .ensures) (c .if7 .taken))
 
 rest-is-fresh-requires : tie.Need-rest-is-fresh-requires
 rest-is-fresh-requires c κs = search needs
 
-returns-10 : tie.Need-returns-10
-returns-10 c =
-    let b = c .before .before .before .before .before .before .before .before .before .before .before .before .before .before in
-    failed _ (b .before .before .before .before .before .before .before .before .before .before .shaped .ensures 0 .results .long) (search needs) _ (λ p. p .rest)
-    (was-false (c .before .rest-is-fresh .ensures) (c .if10 .taken))
+returns-8 : tie.Need-returns-8
+returns-8 c =
+    let b = c .before .before .before .before .before .before .before .before .before in
+    failed _ (b .before .before .before .before .before .before .shaped .ensures 0 .results .long) (search needs) _ (λ p. p .rest)
+    (was-false (c .before .rest-is-fresh .ensures) (c .if8 .taken))
 
 index-1-no-ring : tie.Need-index-1-no-ring
 index-1-no-ring c = search needs
@@ -113,14 +84,12 @@ index-1-no-ring c = search needs
 no-ring-requires : tie.Need-no-ring-requires
 no-ring-requires c κs = search needs
 
-returns-11 : tie.Need-returns-11
-returns-11 c =
-    let b₁₀ = c .before .before in
-    let b₉ = b₁₀ .before .before .before .before in
-    let b₈ = b₉ .before .before in
-    let b₇ = b₈ .before .before .before in
-    let b₆ = b₇ .before .before .before in
-    let b₅ = b₆ .before .before .before in
+returns-9 : tie.Need-returns-9
+returns-9 c =
+    let b₈ = c .before .before in
+    let b₇ = b₈ .before .before in
+    let b₆ = b₇ .before .before in
+    let b₅ = b₆ .before .before in
     let b₄ = b₅ .before .before .before in
     let b₃ = b₄ .before .before .before in
     let z = b₃ .before .before .before in
@@ -129,12 +98,10 @@ returns-11 c =
     record {
       labels = was-true (b₃ .before .labels-fit .ensures) (b₃ .if3 .left);
       pending = was-true (b₄ .before .labels-fit2 .ensures) (b₄ .if4 .left);
-      phases = was-true (b₅ .before .phases-known .ensures) (b₅ .if5 .left);
-      idle = was-true (b₆ .before .idle-from .ensures) (b₆ .if6 .left);
-      jobs = was-true (b₇ .before .none-from .ensures) (b₇ .if7 .left);
-      pendingJobs = was-true (b₈ .before .none-from2 .ensures) (b₈ .if8 .left);
-      results = was-true (b₉ .before .results-fit .ensures) (b₉ .if9 .left);
-      rest = was-true (b₁₀ .before .rest-is-fresh .ensures) (b₁₀ .if10 .left);
+      phases = was-true (b₅ .before .phases-fit .ensures) (b₅ .if5 .left);
+      jobs = was-true (b₆ .before .none-from .ensures) (b₆ .if6 .left);
+      results = was-true (b₇ .before .results-fit .ensures) (b₇ .if7 .left);
+      rest = was-true (b₈ .before .rest-is-fresh .ensures) (b₈ .if8 .left);
     }
     (c .no-ring .ensures)
 
@@ -151,23 +118,15 @@ well-formed-spec =
     index-1-labels-fit-2
     labels-fit-requires-2
     returns-4
-    index-1-phases-known
-    phases-known-requires
+    index-1-phases-fit
+    phases-fit-requires
     returns-5
-    index-1-idle-from
-    idle-from-requires
-    returns-6
-    index-1-none-from
     none-from-requires
-    returns-7
-    index-1-none-from-2
-    none-from-requires-2
-    returns-8
+    returns-6
     results-fit-requires
-    returns-9
-    fresh-result-requires
+    returns-7
     rest-is-fresh-requires
-    returns-10
+    returns-8
     index-1-no-ring
     no-ring-requires
-    returns-11)
+    returns-9)

@@ -8,20 +8,17 @@ use borrow.Author.Tests.{eq-eqb, ne-eqb}
 use Rattle.basics.specs.Tests.{every}
 use Rattle.basics.proofs.Loops.{flag-up, flag-down, flag-stays, flag-end}
 use borrow.Author.Needs.{needs}
-use Rattle.well_formed.proofs.idle_from.Statement.{statement}
-use Rattle.well_formed.proofs.idle_from.Tie as tie
+use Rattle.well_formed.proofs.half_is_ones.Statement.{statement}
+use Rattle.well_formed.proofs.half_is_ones.Tie as tie
 
 abbrev Inv-loop : tie.InvT-loop
-Inv-loop n phases r₀ i₀ r i = (i ≤ 32 - n) × (r ≡ every i (λ k. eqb (getD phases (n + k) 0) 0))
+Inv-loop label h r₀ p₀ r p = (p ≤ 16) × (r ≡ every p (λ q. eqb (getD label (h + q) 0) 1))
 
 abbrev μ-loop : tie.MeasureT-loop
-μ-loop n phases r₀ i₀ r i = 32 - n - i
+μ-loop label h r₀ p₀ r p = 16 - p
 
 loop-holds : tie.Need-loop-holds Inv-loop μ-loop
 loop-holds c = (search needs, flag-up _)
-
-sub-loop : tie.Need-sub-loop Inv-loop μ-loop
-sub-loop c = search needs
 
 add-if1 : tie.Need-add-if1 Inv-loop μ-loop
 add-if1 c = search needs
@@ -29,8 +26,8 @@ add-if1 c = search needs
 element-copy-out-if1 : tie.Need-element-copy-out-if1 Inv-loop μ-loop
 element-copy-out-if1 c = search needs
 
-add-i : tie.Need-add-i Inv-loop μ-loop
-add-i c = search needs
+add-p : tie.Need-add-p Inv-loop μ-loop
+add-p c = search needs
 
 loop-less : tie.Need-loop-less Inv-loop μ-loop
 loop-less c = search needs
@@ -38,27 +35,26 @@ loop-less c = search needs
 loop-again : tie.Need-loop-again Inv-loop μ-loop
 loop-again c =
     let b = c .before .before .before in
-    let i = b .loop .i in
+    let p = b .loop .p in
     let a = b .before .args in
-    let x = getD (a .phases .now) (a .n + i) 0 in (
+    let x = getD (a .label .now) (a .h + p) 0 in (
       search needs,
-      ⊎-elim (λ w. w .1 ∙ flag-down i _ (ne-eqb x 0 (w .0 .taken))) (λ w. w .1 ∙ flag-stays i _ (b .loop .inv .1) (eq-eqb x 0 (w .0 .left))) (c .if1 .came),
+      ⊎-elim (λ w. w .1 ∙ flag-down p _ (ne-eqb x 1 (w .0 .taken))) (λ w. w .1 ∙ flag-stays p _ (b .loop .inv .1) (eq-eqb x 1 (w .0 .left))) (c .if1 .came),
     )
 
 returns : tie.Need-returns Inv-loop μ-loop
 returns c = flag-end _ (c .before .loop .inv .1) (omega arith)
 
-pub idle-from-spec : {M : Type 1} → statement M
-idle-from-spec =
+pub half-is-ones-spec : {M : Type 1} → statement M
+half-is-ones-spec =
     tie.close
     (tie.spec
     Inv-loop
     μ-loop
     loop-holds
-    sub-loop
     add-if1
     element-copy-out-if1
-    add-i
+    add-p
     loop-less
     loop-again
     returns)
