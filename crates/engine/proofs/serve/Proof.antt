@@ -27,7 +27,8 @@ carry-out-requires c κs =
     let newest = order .before .before in
     let j = newest .before .before in
     let s = j .before .before .before in
-    ready _ (s .pre) (s .args .request) _ 0 (j .judge .result) (j .judge .ensures) _ refl refl refl (newest .newest-for .ensures .0) (order .order-for .ensures .0)
+    ready _ (s .pre) (s .args .request) _ 0 (j .judge .result) (j .judge .ensures) _ refl refl refl
+    (newest .newest-for .ensures .0) (order .order-for .ensures .0)
 
 same-length : tie.Need-same-length
 same-length c = search needs
