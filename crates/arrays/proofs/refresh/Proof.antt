@@ -3,11 +3,8 @@ use borrow.Author.Needs.{needs}
 use Rattle.arrays.proofs.refresh.Statement.{statement}
 use Rattle.arrays.proofs.refresh.Tie as tie
 
-fresh-result-requires : tie.Need-fresh-result-requires
-fresh-result-requires c κs = search needs
-
 returns : tie.Need-returns
 returns c = fresh-arrays _ (c .before .before .before .fresh-result .ensures)
 
 pub refresh-spec : {M : Type 1} → statement M
-refresh-spec = tie.close (tie.spec fresh-result-requires returns)
+refresh-spec = tie.close (tie.spec (λ c κs. search needs) returns)

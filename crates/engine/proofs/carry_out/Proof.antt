@@ -4,9 +4,6 @@ use borrow.Author.Needs.{needs}
 use Rattle.engine.proofs.carry_out.Statement.{statement}
 use Rattle.engine.proofs.carry_out.Tie as tie
 
-shaped-requires : tie.Need-shaped-requires
-shaped-requires c κs = search needs
-
 report-due-requires : tie.Need-report-due-requires
 report-due-requires c κs = let s = c .before .before .before .before .before .before .before .before in (in-arrays (s .pre), s .pre .hasRoom)
 
@@ -25,27 +22,15 @@ store-jobs-requires c κs =
     let s = c .before .before .before .before .before .before .before .before .before .before .before .before .before .before .before .before .before in
     (in-arrays (s .pre) .0, s .pre .jobFits)
 
-index-1-phase-after : tie.Need-index-1-phase-after
-index-1-phase-after c = search needs
-
 index-2-phase-after : tie.Need-index-2-phase-after
 index-2-phase-after c =
     let z = c .before .before .before .before .before .before .before .before .before .before .before .before in
     in-arrays (z .before .before .before .before .before .before .pre) .0
 
-phase-after-requires : tie.Need-phase-after-requires
-phase-after-requires c κs = search needs
-
-index-1-control : tie.Need-index-1-control
-index-1-control c = search needs
-
 index-2-control : tie.Need-index-2-control
 index-2-control c =
     let z = c .before .before .before .before .before .before .before .before .before .before .before .before .before .before in
     in-arrays (z .before .before .before .before .before .before .pre) .0
-
-same-length : tie.Need-same-length
-same-length c = search needs
 
 returns : tie.Need-returns
 returns c =
@@ -59,18 +44,6 @@ returns c =
     (result .store-result .ensures)
 
 pub carry-out-spec : {M : Type 1} → statement M
-carry-out-spec =
-    tie.close
-    (tie.spec
-    shaped-requires
-    report-due-requires
-    store-labels-requires
-    store-result-requires
-    store-jobs-requires
-    index-1-phase-after
-    index-2-phase-after
-    phase-after-requires
-    index-1-control
-    index-2-control
-    same-length
-    returns)
+carry-out-spec = tie.close (tie.spec (λ c κs. search needs) report-due-requires store-labels-requires
+    store-result-requires store-jobs-requires (λ c. search needs) index-2-phase-after (λ c κs. search needs)
+    (λ c. search needs) index-2-control (λ c. search needs) returns)

@@ -8,22 +8,10 @@ use borrow.Author.Needs.{needs}
 use Rattle.engine.proofs.judge.Statement.{statement}
 use Rattle.engine.proofs.judge.Tie as tie
 
-place-of-requires : tie.Need-place-of-requires
-place-of-requires c κs = search needs
-
-index-1-phase-of : tie.Need-index-1-phase-of
-index-1-phase-of c = search needs
-
 index-2-phase-of : tie.Need-index-2-phase-of
 index-2-phase-of c =
     let s = c .before in
     omega (arith, s .pre, place-below (s .args .n) (s .args .q .station) (s .pre .0), c .place-of .ensures)
-
-phase-of-requires : tie.Need-phase-of-requires
-phase-of-requires c κs = search needs
-
-judge-requires : tie.Need-judge-requires
-judge-requires c κs = search needs
 
 returns : tie.Need-returns
 returns c =
@@ -40,12 +28,5 @@ returns c =
     }
 
 pub judge-spec : {M : Type 1} → statement M
-judge-spec =
-    tie.close
-    (tie.spec
-    place-of-requires
-    index-1-phase-of
-    index-2-phase-of
-    phase-of-requires
-    judge-requires
-    returns)
+judge-spec = tie.close (tie.spec (λ c κs. search needs) (λ c. search needs) index-2-phase-of (λ c κs. search needs)
+    (λ c κs. search needs) returns)

@@ -11,26 +11,8 @@ use borrow.Author.Needs.{needs}
 use Rattle.engine.proofs.report_due.Statement.{statement}
 use Rattle.engine.proofs.report_due.Tie as tie
 
-enum-told : tie.Need-enum-told
-enum-told c = search needs
-
-mul-write-result : tie.Need-mul-write-result
-mul-write-result c = search needs
-
-index-1-write-result : tie.Need-index-1-write-result
-index-1-write-result c = search needs
-
 write-result-requires : tie.Need-write-result-requires
 write-result-requires c κs = let s = c .before .before .before .before .before in (s .pre .0 .1, s .pre .1 (c .before .before .enum-told .given .1))
-
-mul-t9 : tie.Need-mul-t9
-mul-t9 c = search needs
-
-refusal-of-requires : tie.Need-refusal-of-requires
-refusal-of-requires c κs = search needs
-
-same-length : tie.Need-same-length
-same-length c = search needs
 
 returns : tie.Need-returns
 returns c =
@@ -54,15 +36,5 @@ returns-2 c =
     }
 
 pub report-due-spec : {M : Type 1} → statement M
-report-due-spec =
-    tie.close
-    (tie.spec
-    enum-told
-    mul-write-result
-    index-1-write-result
-    write-result-requires
-    mul-t9
-    refusal-of-requires
-    same-length
-    returns
-    returns-2)
+report-due-spec = tie.close (tie.spec (λ c. search needs) (λ c. search needs) (λ c. search needs)
+    write-result-requires (λ c. search needs) (λ c κs. search needs) (λ c. search needs) returns returns-2)

@@ -19,41 +19,17 @@ abbrev μ-loop : tie.MeasureT-loop
 loop-holds : tie.Need-loop-holds Inv-loop μ-loop
 loop-holds c = (search needs, filled-none 32 _ 0, filled-none 32 _ 0)
 
-mul-i : tie.Need-mul-i Inv-loop μ-loop
-mul-i c = search needs
-
-element-copy-out-i : tie.Need-element-copy-out-i Inv-loop μ-loop
-element-copy-out-i c = search needs
-
 add-stations : tie.Need-add-stations Inv-loop μ-loop
 add-stations c = omega (arith, c .before .before .before .pre .1 (c .before .before .loop .p) (omega arith))
 
 cast-stations : tie.Need-cast-stations Inv-loop μ-loop
 cast-stations c = omega (arith, c .before .before .before .pre .1 (c .before .before .loop .p) (omega arith))
 
-mul-stations : tie.Need-mul-stations Inv-loop μ-loop
-mul-stations c = search needs
-
-array-write-stations : tie.Need-array-write-stations Inv-loop μ-loop
-array-write-stations c = search needs
-
 mul-listed : tie.Need-mul-listed Inv-loop μ-loop
 mul-listed c = omega (arith, c .before .before .before .pre .1 (c .before .before .loop .p) (omega arith))
 
 element-copy-out-listed : tie.Need-element-copy-out-listed Inv-loop μ-loop
 element-copy-out-listed c = c .before .before .before .pre .1 (c .before .before .loop .p) (omega arith)
-
-mul-listed-2 : tie.Need-mul-listed-2 Inv-loop μ-loop
-mul-listed-2 c = search needs
-
-array-write-listed : tie.Need-array-write-listed Inv-loop μ-loop
-array-write-listed c = search needs
-
-add-p : tie.Need-add-p Inv-loop μ-loop
-add-p c = search needs
-
-loop-less : tie.Need-loop-less Inv-loop μ-loop
-loop-less c = search needs
 
 loop-again : tie.Need-loop-again Inv-loop μ-loop
 loop-again c =
@@ -67,23 +43,6 @@ returns c =
     rw (l .inv .1, l .inv .2, e)
 
 pub scan-result-spec : {M : Type 1} → statement M
-scan-result-spec =
-    tie.close
-    (tie.spec
-    Inv-loop
-    μ-loop
-    loop-holds
-    mul-i
-    element-copy-out-i
-    add-stations
-    cast-stations
-    mul-stations
-    array-write-stations
-    mul-listed
-    element-copy-out-listed
-    mul-listed-2
-    array-write-listed
-    add-p
-    loop-less
-    loop-again
-    returns)
+scan-result-spec = tie.close (tie.spec Inv-loop μ-loop loop-holds (λ c. search needs) (λ c. search needs) add-stations
+    cast-stations (λ c. search needs) (λ c. search needs) mul-listed element-copy-out-listed (λ c. search needs)
+    (λ c. search needs) (λ c. search needs) (λ c. search needs) loop-again returns)

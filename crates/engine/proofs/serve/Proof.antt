@@ -9,14 +9,8 @@ use Rattle.engine.proofs.serve.Tie as tie
 judge-requires : tie.Need-judge-requires
 judge-requires c κs = let p = passed _ (c .before .before .pre) in (p .low, p .high)
 
-index-1-newest-for : tie.Need-index-1-newest-for
-index-1-newest-for c = search needs
-
 newest-for-requires : tie.Need-newest-for-requires
 newest-for-requires c κs = orderly _ (c .before .before .before .before .pre)
-
-index-1-order-for : tie.Need-index-1-order-for
-index-1-order-for c = search needs
 
 order-for-requires : tie.Need-order-for-requires
 order-for-requires c κs = orderly _ (c .before .before .before .before .before .before .pre)
@@ -30,9 +24,6 @@ carry-out-requires c κs =
     ready _ (s .pre) (s .args .request) _ 0 (j .judge .result) (j .judge .ensures) _ refl refl refl
     (newest .newest-for .ensures .0) (order .order-for .ensures .0)
 
-same-length : tie.Need-same-length
-same-length c = search needs
-
 returns : tie.Need-returns
 returns c =
     let j = c .before .before .before .before .before .before .before .before .before .before .before .before .before in
@@ -40,14 +31,5 @@ returns c =
     served _ (s .pre) (s .args .request) _ 0 (j .judge .result) (j .judge .ensures) refl refl refl refl (c .before .before .carry-out .ensures)
 
 pub serve-spec : {M : Type 1} → statement M
-serve-spec =
-    tie.close
-    (tie.spec
-    judge-requires
-    index-1-newest-for
-    newest-for-requires
-    index-1-order-for
-    order-for-requires
-    carry-out-requires
-    same-length
-    returns)
+serve-spec = tie.close (tie.spec judge-requires (λ c. search needs) newest-for-requires (λ c. search needs)
+    order-for-requires carry-out-requires (λ c. search needs) returns)

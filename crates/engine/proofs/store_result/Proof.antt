@@ -4,20 +4,8 @@ use borrow.Author.Needs.{needs}
 use Rattle.engine.proofs.store_result.Statement.{statement}
 use Rattle.engine.proofs.store_result.Tie as tie
 
-enum-told : tie.Need-enum-told
-enum-told c = search needs
-
-index-1-scan-result : tie.Need-index-1-scan-result
-index-1-scan-result c = search needs
-
 scan-result-requires : tie.Need-scan-result-requires
 scan-result-requires c κs = let s = c .before .before .before in (s .pre .0 .1, s .pre .1 (c .before .enum-told .given .1))
-
-mul-t11 : tie.Need-mul-t11
-mul-t11 c = search needs
-
-element-set-from-results : tie.Need-element-set-from-results
-element-set-from-results c = search needs
 
 returns : tie.Need-returns
 returns c = rw (c .before .before .enum-told .given .1, c .scan-result .ensures)
@@ -26,13 +14,5 @@ returns-2 : tie.Need-returns-2
 returns-2 c = results-stay _ _ _ _ _ _ (c .before .args .m) (c .match .keys2)
 
 pub store-result-spec : {M : Type 1} → statement M
-store-result-spec =
-    tie.close
-    (tie.spec
-    enum-told
-    index-1-scan-result
-    scan-result-requires
-    mul-t11
-    element-set-from-results
-    returns
-    returns-2)
+store-result-spec = tie.close (tie.spec (λ c. search needs) (λ c. search needs) scan-result-requires
+    (λ c. search needs) (λ c. search needs) returns returns-2)

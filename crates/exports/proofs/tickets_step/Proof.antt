@@ -4,18 +4,6 @@ use borrow.Author.Needs.{needs}
 use Rattle.exports.proofs.tickets_step.Statement.{statement}
 use Rattle.exports.proofs.tickets_step.Tie as tie
 
-shaped-requires : tie.Need-shaped-requires
-shaped-requires c κs = search needs
-
-step-requires : tie.Need-step-requires
-step-requires c κs = search needs
-
-number-requires : tie.Need-number-requires
-number-requires c κs = search needs
-
-same-length : tie.Need-same-length
-same-length c = search needs
-
 returns : tie.Need-returns
 returns c =
     let s = c .before .before .before in
@@ -26,4 +14,5 @@ returns c =
     )
 
 pub tickets-step-spec : {M : Type 1} → statement M
-tickets-step-spec = tie.close (tie.spec shaped-requires step-requires number-requires same-length returns)
+tickets-step-spec = tie.close (tie.spec (λ c κs. search needs) (λ c κs. search needs) (λ c κs. search needs)
+    (λ c. search needs) returns)

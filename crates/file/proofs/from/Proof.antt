@@ -6,15 +6,6 @@ use borrow.Author.Needs.{needs}
 use Rattle.file.proofs.from.Statement.{statement}
 use Rattle.file.proofs.from.Tie as tie
 
-sub-result : tie.Need-sub-result
-sub-result c = search needs
-
-part-result-start : tie.Need-part-result-start
-part-result-start c = search needs
-
-part-result-end : tie.Need-part-result-end
-part-result-end c = search needs
-
 returns : tie.Need-returns
 returns c =
     let a = c .before .args in
@@ -22,4 +13,4 @@ returns c =
     take-all (length (a .file .now) - a .at) (drop (a .at) (a .file .now)) (omega arith)
 
 pub from-spec : {M : Type 1} → statement M
-from-spec = tie.close (tie.spec sub-result part-result-start part-result-end returns)
+from-spec = tie.close (tie.spec (λ c. search needs) (λ c. search needs) (λ c. search needs) returns)

@@ -3,17 +3,8 @@ use borrow.Author.Needs.{needs}
 use Rattle.file.proofs.refresh_order.Statement.{statement}
 use Rattle.file.proofs.refresh_order.Tie as tie
 
-enum-told : tie.Need-enum-told
-enum-told c = search needs
-
-reorder-requires : tie.Need-reorder-requires
-reorder-requires c κs = search needs
-
-returns : tie.Need-returns
-returns c = search needs
-
 returns-2 : tie.Need-returns-2
 returns-2 c = c .before .pre .1 .1 .1 (no-update (c .before .args .m) (c .match .keys2))
 
 pub refresh-order-spec : {M : Type 1} → statement M
-refresh-order-spec = tie.close (tie.spec enum-told reorder-requires returns returns-2)
+refresh-order-spec = tie.close (tie.spec (λ c. search needs) (λ c κs. search needs) (λ c. search needs) returns-2)

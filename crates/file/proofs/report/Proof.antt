@@ -7,27 +7,12 @@ use borrow.Author.Needs.{needs}
 use Rattle.file.proofs.report.Statement.{statement}
 use Rattle.file.proofs.report.Tie as tie
 
-line-at-requires : tie.Need-line-at-requires
-line-at-requires c κs = search needs
-
-read-header-requires : tie.Need-read-header-requires
-read-header-requires c κs = search needs
-
-enum-known-refusal : tie.Need-enum-known-refusal
-enum-known-refusal c = search needs
-
 returns : tie.Need-returns
 returns c =
     let h = c .before .before .before .before in
     let said = sym (h .read-header .ensures) ∙ c .before .before .refusal .given .1 in
     let a = h .before .before .before .before .args in
     refused-short (a .file .now) (h .before .line-at .ensures) said (a .out .now) (c .if1 .taken)
-
-print-refusal-requires : tie.Need-print-refusal-requires
-print-refusal-requires c κs = search needs
-
-enum-known-n : tie.Need-enum-known-n
-enum-known-n c = search needs
 
 from-requires : tie.Need-from-requires
 from-requires c κs =
@@ -40,9 +25,6 @@ report-steps-requires c κs =
     let said = sym (h .read-header .ensures) ∙ c .before .before .before .before .n .given .1 in
     let a = h .before .before .before .before .args in
     stations (a .file .now) (h .before .line-at .ensures) said
-
-same-length : tie.Need-same-length
-same-length c = search needs
 
 returns-2 : tie.Need-returns-2
 returns-2 c =
@@ -77,9 +59,6 @@ report-steps-requires-2 c κs =
     let a = h .before .before .before .before .args in
     stations (a .file .now) (h .before .line-at .ensures) said
 
-same-length-2 : tie.Need-same-length-2
-same-length-2 c = search needs
-
 returns-4 : tie.Need-returns-4
 returns-4 c =
     let h = c .before .before .before .before .before .before .before .before in
@@ -87,9 +66,6 @@ returns-4 c =
     let a = h .before .before .before .before .args in
     let told = c .before .before .print-refusal .ensures in
     refused-told (a .file .now) (h .before .line-at .ensures) said (a .out .now) _ (c .before .before .before .before .if1 .left) refl (told .0) (told .1)
-
-same-length-3 : tie.Need-same-length-3
-same-length-3 c = search needs
 
 returns-5 : tie.Need-returns-5
 returns-5 c =
@@ -103,23 +79,6 @@ returns-5 c =
     steps-told (a .file .now) (h .before .line-at .ensures) said f (a .out .now) g (omega (arith, g .count, size .report-size .ensures, test))
 
 pub report-spec : {M : Type 1} → statement M
-report-spec =
-    tie.close
-    (tie.spec
-    line-at-requires
-    read-header-requires
-    enum-known-refusal
-    returns
-    print-refusal-requires
-    enum-known-n
-    from-requires
-    report-steps-requires
-    same-length
-    returns-2
-    report-size-requires
-    returns-3
-    report-steps-requires-2
-    same-length-2
-    returns-4
-    same-length-3
-    returns-5)
+report-spec = tie.close (tie.spec (λ c κs. search needs) (λ c κs. search needs) (λ c. search needs) returns
+    (λ c κs. search needs) (λ c. search needs) from-requires report-steps-requires (λ c. search needs) returns-2
+    report-size-requires returns-3 report-steps-requires-2 (λ c. search needs) returns-4 (λ c. search needs) returns-5)

@@ -45,18 +45,6 @@ returns c =
 line-at-requires : tie.Need-line-at-requires Inv-loop μ-loop
 line-at-requires c κs = place-within (c .before .before .loop .inv .0)
 
-cast-number : tie.Need-cast-number Inv-loop μ-loop
-cast-number c = search needs
-
-add-number : tie.Need-add-number Inv-loop μ-loop
-add-number c = omega arith
-
-next-line-requires : tie.Need-next-line-requires Inv-loop μ-loop
-next-line-requires c κs = search needs
-
-enum-known-refusal : tie.Need-enum-known-refusal Inv-loop μ-loop
-enum-known-refusal c = search needs
-
 add-print-refusal : tie.Need-add-print-refusal Inv-loop μ-loop
 add-print-refusal c =
     let x = c .before .before .before .before in
@@ -65,12 +53,6 @@ add-print-refusal c =
     let free = x .before .if1 .left in
     let outFits = x .before .before .before .before .before .before .good .1 .1 .1 .1 .1 .1 .1 .1 .0 .0 in
     omega (arith, room-here (l .inv .0) test free, as-long (l .inv .0), outFits)
-
-sub-print-refusal : tie.Need-sub-print-refusal Inv-loop μ-loop
-sub-print-refusal c = omega arith
-
-part-print-refusal-start : tie.Need-part-print-refusal-start Inv-loop μ-loop
-part-print-refusal-start c = omega arith
 
 part-print-refusal-end : tie.Need-part-print-refusal-end Inv-loop μ-loop
 part-print-refusal-end c =
@@ -131,9 +113,6 @@ returns-2 c =
       l .inv .1,
     )
 
-enum-known-station : tie.Need-enum-known-station Inv-loop μ-loop
-enum-known-station c = search needs
-
 add-serve-line : tie.Need-add-serve-line Inv-loop μ-loop
 add-serve-line c =
     let x = c .before .before .before .before .before .before .before .before .before in
@@ -142,12 +121,6 @@ add-serve-line c =
     let free = x .before .if1 .left in
     let outFits = x .before .before .before .before .before .before .good .1 .1 .1 .1 .1 .1 .1 .1 .0 .0 in
     omega (arith, room-here (l .inv .0) test free, as-long (l .inv .0), outFits)
-
-sub-serve-line : tie.Need-sub-serve-line Inv-loop μ-loop
-sub-serve-line c = omega arith
-
-part-serve-line-start : tie.Need-part-serve-line-start Inv-loop μ-loop
-part-serve-line-start c = omega arith
 
 part-serve-line-end : tie.Need-part-serve-line-end Inv-loop μ-loop
 part-serve-line-end c =
@@ -224,39 +197,8 @@ returns-3 : tie.Need-returns-3 Inv-loop μ-loop
 returns-3 c = (sofar-end (c .before .loop .inv .0) _ refl refl refl refl (inl (c .loop-test .left)), c .before .loop .inv .1)
 
 pub report-lines-spec : {M : Type 1} → statement M
-report-lines-spec =
-    tie.close
-    (tie.spec
-    Inv-loop
-    μ-loop
-    loop-holds
-    sub-if1
-    same-length
-    returns
-    line-at-requires
-    cast-number
-    add-number
-    next-line-requires
-    enum-known-refusal
-    add-print-refusal
-    sub-print-refusal
-    part-print-refusal-start
-    part-print-refusal-end
-    print-refusal-requires
-    add-t30
-    add-t33
-    same-length-2
-    returns-2
-    enum-known-station
-    add-serve-line
-    sub-serve-line
-    part-serve-line-start
-    part-serve-line-end
-    serve-line-requires
-    add-count
-    add-written
-    add-at
-    loop-less
-    loop-again
-    same-length-3
-    returns-3)
+report-lines-spec = tie.close (tie.spec Inv-loop μ-loop loop-holds sub-if1 same-length returns line-at-requires
+    (λ c. search needs) (λ c. omega arith) (λ c κs. search needs) (λ c. search needs) add-print-refusal
+    (λ c. omega arith) (λ c. omega arith) part-print-refusal-end print-refusal-requires add-t30 add-t33 same-length-2
+    returns-2 (λ c. search needs) add-serve-line (λ c. omega arith) (λ c. omega arith) part-serve-line-end
+    serve-line-requires add-count add-written add-at loop-less loop-again same-length-3 returns-3)

@@ -29,9 +29,6 @@ loop-holds c = (gathered-start _ _ _ _ (c .before .before .pre .1), c .before .b
 from-requires : tie.Need-from-requires Inv-loop μ-loop
 from-requires c κs = c .before .before .before .before .before .before .loop .inv .0 .within
 
-slice-aggregate-report-lines : tie.Need-slice-aggregate-report-lines Inv-loop μ-loop
-slice-aggregate-report-lines c = search needs
-
 report-lines-requires : tie.Need-report-lines-requires Inv-loop μ-loop
 report-lines-requires c κs = c .before .before .before .before .before .before .before .before .loop .inv .1
 
@@ -41,18 +38,12 @@ array-share-prefix-scratch c = reports-inside (c .before .report-lines .ensures 
 slice-aggregate-put : tie.Need-slice-aggregate-put Inv-loop μ-loop
 slice-aggregate-put c = sym (length-take-le _ _ (reports-inside (c .before .before .report-lines .ensures .0)))
 
-put-requires : tie.Need-put-requires Inv-loop μ-loop
-put-requires c κs = search needs
-
 add-written : tie.Need-add-written Inv-loop μ-loop
 add-written c =
     let y = c .before .before .before .before .before .before in
     let l = y .before .before .before .before .before .before .before .before .before .loop in
     let g = reports-as (y .before .before .from .ensures) (y .report-lines .ensures .0) in
     omega (arith, l .inv .0 .few, l .inv .0 .low, reports-inside g, y .report-lines .kept .1 .1 .1 .1 .1 .1 .1 .1 .0 ∙ l .inv .2)
-
-number-requires : tie.Need-number-requires Inv-loop μ-loop
-number-requires c κs = search needs
 
 same-length : tie.Need-same-length Inv-loop μ-loop
 same-length c =
@@ -110,24 +101,6 @@ returns-2 c =
     (gathered-end (l .inv .0) (c .loop-test .left) _ refl refl, omega (arith, l .inv .0 .few, l .inv .0 .low))
 
 pub report-rest-spec : {M : Type 1} → statement M
-report-rest-spec =
-    tie.close
-    (tie.spec
-    Inv-loop
-    μ-loop
-    loop-holds
-    from-requires
-    slice-aggregate-report-lines
-    report-lines-requires
-    array-share-prefix-scratch
-    slice-aggregate-put
-    put-requires
-    add-written
-    number-requires
-    same-length
-    returns
-    add-at
-    loop-less
-    loop-again
-    same-length-2
-    returns-2)
+report-rest-spec = tie.close (tie.spec Inv-loop μ-loop loop-holds from-requires (λ c. search needs)
+    report-lines-requires array-share-prefix-scratch slice-aggregate-put (λ c κs. search needs) add-written
+    (λ c κs. search needs) same-length returns add-at loop-less loop-again same-length-2 returns-2)

@@ -10,12 +10,6 @@ use borrow.Author.Needs.{needs}
 use Rattle.file.proofs.report_steps.Statement.{statement}
 use Rattle.file.proofs.report_steps.Tie as tie
 
-refresh-requires : tie.Need-refresh-requires
-refresh-requires c κs = search needs
-
-index-1-order : tie.Need-index-1-order
-index-1-order c = search needs
-
 order-requires : tie.Need-order-requires
 order-requires c κs =
     let s = c .before .before .before .before .before .before .before .before in
@@ -27,21 +21,12 @@ report-lines-requires c κs =
     let s = o .before .before .before .before .before .before .before .before .before in
     fresh-runnable (s .args .n) (s .pre .0) (s .pre .1) (o .before .before .refresh .ensures) (o .order .ensures)
 
-number-requires : tie.Need-number-requires
-number-requires c κs = search needs
-
-same-length : tie.Need-same-length
-same-length c = search needs
-
 returns : tie.Need-returns
 returns c =
     let y = c .before .before .before .before in
     let g = y .report-lines .ensures .0 in
     let fresh = y .before .before .before .before .before .before .before .before .before .refresh .ensures in
     rw (← fresh) (straight-stop g (λ z. c .if1 .taken (c .before .number .ensures ∙ z)) _ refl refl)
-
-same-length-2 : tie.Need-same-length-2
-same-length-2 c = search needs
 
 returns-2 : tie.Need-returns-2
 returns-2 c =
@@ -50,9 +35,6 @@ returns-2 c =
     let fresh = y .before .before .before .before .before .before .before .before .before .refresh .ensures in
     rw (← fresh) (straight-end g (c .if2 .taken) _ refl refl)
 
-from-requires : tie.Need-from-requires
-from-requires c κs = search needs
-
 sub-report-rest : tie.Need-sub-report-rest
 sub-report-rest c =
     reports-inside (c .before .before .before .before .before .before .before .before .before .before .before .before .report-lines .ensures .0)
@@ -60,9 +42,6 @@ sub-report-rest c =
 part-report-rest-start : tie.Need-part-report-rest-start
 part-report-rest-start c =
     reports-inside (c .before .before .before .before .before .before .before .before .before .before .before .before .report-lines .ensures .0)
-
-part-report-rest-end : tie.Need-part-report-rest-end
-part-report-rest-end c = search needs
 
 report-rest-requires : tie.Need-report-rest-requires
 report-rest-requires c κs =
@@ -78,9 +57,6 @@ add-t37 c =
     let few = straight-few (y .report-lines .ensures .0) (omega arith) (sym (test .before .number .ensures) ∙ test .if1 .left) in
     omega (arith, few, c .before .before .before .report-rest .ensures .1)
 
-same-length-3 : tie.Need-same-length-3
-same-length-3 c = search needs
-
 returns-3 : tie.Need-returns-3
 returns-3 c =
     let y = c .before .before .before .before .before .before .before .before .before .before .before .before .before .before .before .before .before in
@@ -94,23 +70,7 @@ returns-3 c =
     rw (← fresh) (straight-more g zero same (c .before .before .before .before .before .from .ensures) k refl t _ refl refl)
 
 pub report-steps-spec : {M : Type 1} → statement M
-report-steps-spec =
-    tie.close
-    (tie.spec
-    refresh-requires
-    index-1-order
-    order-requires
-    report-lines-requires
-    number-requires
-    same-length
-    returns
-    same-length-2
-    returns-2
-    from-requires
-    sub-report-rest
-    part-report-rest-start
-    part-report-rest-end
-    report-rest-requires
-    add-t37
-    same-length-3
-    returns-3)
+report-steps-spec = tie.close (tie.spec (λ c κs. search needs) (λ c. search needs) order-requires
+    report-lines-requires (λ c κs. search needs) (λ c. search needs) returns (λ c. search needs) returns-2
+    (λ c κs. search needs) sub-report-rest part-report-rest-start (λ c. search needs) report-rest-requires add-t37
+    (λ c. search needs) returns-3)

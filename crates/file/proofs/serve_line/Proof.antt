@@ -5,26 +5,11 @@ use borrow.Author.Needs.{needs}
 use Rattle.file.proofs.serve_line.Statement.{statement}
 use Rattle.file.proofs.serve_line.Tie as tie
 
-sub-judge : tie.Need-sub-judge
-sub-judge c = search needs
-
-mul-judge : tie.Need-mul-judge
-mul-judge c = search needs
-
-element-copy-out-judge : tie.Need-element-copy-out-judge
-element-copy-out-judge c = search needs
-
-judge-requires : tie.Need-judge-requires
-judge-requires c κs = search needs
-
 carry-out-requires : tie.Need-carry-out-requires
 carry-out-requires c κs =
     let x = c .before .before .before .before .before .before in
     let s = x .before .before .before .before in
     line-ready (s .pre .0) (x .judge .ensures) (s .pre .1)
-
-index-1-refresh-order : tie.Need-index-1-refresh-order
-index-1-refresh-order c = search needs
 
 refresh-order-requires : tie.Need-refresh-order-requires
 refresh-order-requires c κs =
@@ -34,12 +19,6 @@ refresh-order-requires c κs =
     let g = c .before .before .before .before .carry-out .ensures in
     (line-orderly f j g, (line-place f j, (line-before f j g, line-kept f j g)))
 
-number-requires : tie.Need-number-requires
-number-requires c κs = search needs
-
-same-length : tie.Need-same-length
-same-length c = search needs
-
 returns : tie.Need-returns
 returns c =
     let x = c .before .before .before .before .before .before .before .before .before .before .before .before .before .before in
@@ -47,12 +26,6 @@ returns c =
     let j = x .judge .ensures in
     let g = c .before .before .before .before .before .before .before .carry-out .ensures in
     (line-accepted f j g (sym (c .before .number .ensures) ∙ c .if1 .taken), line-runnable f j g (c .before .before .refresh-order .ensures))
-
-print-refusal-requires : tie.Need-print-refusal-requires
-print-refusal-requires c κs = search needs
-
-same-length-2 : tie.Need-same-length-2
-same-length-2 c = search needs
 
 returns-2 : tie.Need-returns-2
 returns-2 c =
@@ -67,19 +40,6 @@ returns-2 c =
     )
 
 pub serve-line-spec : {M : Type 1} → statement M
-serve-line-spec =
-    tie.close
-    (tie.spec
-    sub-judge
-    mul-judge
-    element-copy-out-judge
-    judge-requires
-    carry-out-requires
-    index-1-refresh-order
-    refresh-order-requires
-    number-requires
-    same-length
-    returns
-    print-refusal-requires
-    same-length-2
-    returns-2)
+serve-line-spec = tie.close (tie.spec (λ c. search needs) (λ c. search needs) (λ c. search needs)
+    (λ c κs. search needs) carry-out-requires (λ c. search needs) refresh-order-requires (λ c κs. search needs)
+    (λ c. search needs) returns (λ c κs. search needs) (λ c. search needs) returns-2)

@@ -5,15 +5,6 @@ use Rattle.schedule.specs.Lines.{headerRead}
 use Rattle.schedule.proofs.read_header.Statement.{statement}
 use Rattle.schedule.proofs.read_header.Tie as tie
 
-read-line-requires : tie.Need-read-line-requires
-read-line-requires c κs = search needs
-
-enum-known-r : tie.Need-enum-known-r
-enum-known-r c = search needs
-
-enum-known-station : tie.Need-enum-known-station
-enum-known-station c = search needs
-
 returns : tie.Need-returns
 unfolding headerRead
 returns c =
@@ -74,5 +65,5 @@ returns-6 c =
     )
 
 pub read-header-spec : {M : Type 1} → statement M
-read-header-spec =
-    tie.close (tie.spec read-line-requires enum-known-r enum-known-station returns returns-2 returns-3 returns-4 returns-5 returns-6)
+read-header-spec = tie.close (tie.spec (λ c κs. search needs) (λ c. search needs) (λ c. search needs) returns
+    returns-2 returns-3 returns-4 returns-5 returns-6)

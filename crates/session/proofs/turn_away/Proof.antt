@@ -5,16 +5,10 @@ use borrow.Author.Needs.{needs}
 use Rattle.session.proofs.turn_away.Statement.{statement}
 use Rattle.session.proofs.turn_away.Tie as tie
 
-counted-requires : tie.Need-counted-requires
-counted-requires c κs = search needs
-
-refuse-requires : tie.Need-refuse-requires
-refuse-requires c κs = search needs
-
 returns : tie.Need-returns
 returns c =
     let s = c .before .before .before .args .s in
     λ buffer. serves-as (ap (λ k. refused (session k (s .refusal) (s .table)) 13) (sym (c .before .counted .ensures))) (c .refuse .ensures buffer)
 
 pub turn-away-spec : {M : Type 1} → statement M
-turn-away-spec = tie.close (tie.spec counted-requires refuse-requires returns)
+turn-away-spec = tie.close (tie.spec (λ c κs. search needs) (λ c κs. search needs) returns)

@@ -7,21 +7,12 @@ use borrow.Author.Needs.{needs}
 use Rattle.session.proofs.unread.Statement.{statement}
 use Rattle.session.proofs.unread.Tie as tie
 
-well-formed-requires : tie.Need-well-formed-requires
-well-formed-requires c κs = search needs
-
-stop-requires : tie.Need-stop-requires
-stop-requires c κs = search needs
-
 returns : tie.Need-returns
 returns c =
     let a = c .before .before .before .before .args in
     let s = sessionOf (a .s) in
     λ buffer. serves-as (ap (λ (b : Bool). cond b (stopped s (a .r)) (illFormed s)) (sym (c .before .before .well-formed .ensures) ∙ c .before .if1 .taken))
     (c .stop .ensures buffer)
-
-turn-away-requires : tie.Need-turn-away-requires
-turn-away-requires c κs = search needs
 
 returns-2 : tie.Need-returns-2
 returns-2 c =
@@ -31,5 +22,5 @@ returns-2 c =
     (c .turn-away .ensures buffer)
 
 pub unread-spec : {M : Type 1} → statement M
-unread-spec =
-    tie.close (tie.spec well-formed-requires stop-requires returns turn-away-requires returns-2)
+unread-spec = tie.close (tie.spec (λ c κs. search needs) (λ c κs. search needs) returns (λ c κs. search needs)
+    returns-2)

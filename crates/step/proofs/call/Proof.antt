@@ -6,18 +6,6 @@ use borrow.Author.Needs.{needs}
 use Rattle.step.proofs.call.Statement.{statement}
 use Rattle.step.proofs.call.Tie as tie
 
-take-apart-requires : tie.Need-take-apart-requires
-take-apart-requires c κs = search needs
-
-step-requires : tie.Need-step-requires
-step-requires c κs = search needs
-
-number-requires : tie.Need-number-requires
-number-requires c κs = search needs
-
-same-length : tie.Need-same-length
-same-length c = search needs
-
 returns : tie.Need-returns
 returns c =
     let i = c in
@@ -72,9 +60,6 @@ element-set-from-record c =
     let z = sym (i .before .number .ensures) ∙ i .if1 .left in
     place-inside _ w _ (p .take-apart .ensures) (s .step .ensures) z (f .place-of .ensures)
 
-same-length-2 : tie.Need-same-length-2
-same-length-2 c = search needs
-
 returns-2 : tie.Need-returns-2
 returns-2 c =
     let f = c .before .before .before .before .before in
@@ -87,17 +72,6 @@ returns-2 c =
     accepted-call _ w _ (p .take-apart .ensures) (s .step .ensures) z (f .place-of .ensures) (c .station-at .ensures 0)
 
 pub call-spec : {M : Type 1} → statement M
-call-spec =
-    tie.close
-    (tie.spec
-    take-apart-requires
-    step-requires
-    number-requires
-    same-length
-    returns
-    place-of-requires
-    station-at-requires
-    mul-record
-    element-set-from-record
-    same-length-2
-    returns-2)
+call-spec = tie.close (tie.spec (λ c κs. search needs) (λ c κs. search needs) (λ c κs. search needs)
+    (λ c. search needs) returns place-of-requires station-at-requires mul-record element-set-from-record
+    (λ c. search needs) returns-2)

@@ -4,14 +4,8 @@ use borrow.Author.Needs.{needs}
 use Rattle.step.proofs.well_formed.Statement.{statement}
 use Rattle.step.proofs.well_formed.Tie as tie
 
-take-apart-requires : tie.Need-take-apart-requires
-take-apart-requires c κs = search needs
-
-well-formed-requires : tie.Need-well-formed-requires
-well-formed-requires c κs = search needs
-
 returns : tie.Need-returns
 returns c = c .well-formed .ensures ∙ ap wellFormed (c .before .before .before .before .before .take-apart .ensures)
 
 pub well-formed-spec : {M : Type 1} → statement M
-well-formed-spec = tie.close (tie.spec take-apart-requires well-formed-requires returns)
+well-formed-spec = tie.close (tie.spec (λ c κs. search needs) (λ c κs. search needs) returns)

@@ -21,33 +21,6 @@ abbrev μ-loop : tie.MeasureT-loop
 loop-holds : tie.Need-loop-holds Inv-loop μ-loop
 loop-holds c = (search needs, filled-none 32 _ 0, filled-none 32 _ 0)
 
-mul-e : tie.Need-mul-e Inv-loop μ-loop
-mul-e c = search needs
-
-array-copy-out-e : tie.Need-array-copy-out-e Inv-loop μ-loop
-array-copy-out-e c = search needs
-
-wide-requires : tie.Need-wide-requires Inv-loop μ-loop
-wide-requires c κs = search needs
-
-mul-stations : tie.Need-mul-stations Inv-loop μ-loop
-mul-stations c = search needs
-
-array-write-stations : tie.Need-array-write-stations Inv-loop μ-loop
-array-write-stations c = search needs
-
-mul-jobs : tie.Need-mul-jobs Inv-loop μ-loop
-mul-jobs c = search needs
-
-array-write-jobs : tie.Need-array-write-jobs Inv-loop μ-loop
-array-write-jobs c = search needs
-
-add-p : tie.Need-add-p Inv-loop μ-loop
-add-p c = search needs
-
-loop-less : tie.Need-loop-less Inv-loop μ-loop
-loop-less c = search needs
-
 loop-again : tie.Need-loop-again Inv-loop μ-loop
 loop-again c =
     let l = c .before .before .before .loop in (
@@ -62,20 +35,6 @@ returns c =
     ap₂ (λ (x y : Lists.List ℕ). x ∷ y ∷ []) (l .inv .1 ∙ filled-end _ 0 (l .p) (omega arith)) (l .inv .2 ∙ filled-end _ 0 (l .p) (omega arith))
 
 pub rows-of-spec : {M : Type 1} → statement M
-rows-of-spec =
-    tie.close
-    (tie.spec
-    Inv-loop
-    μ-loop
-    loop-holds
-    mul-e
-    array-copy-out-e
-    wide-requires
-    mul-stations
-    array-write-stations
-    mul-jobs
-    array-write-jobs
-    add-p
-    loop-less
-    loop-again
-    returns)
+rows-of-spec = tie.close (tie.spec Inv-loop μ-loop loop-holds (λ c. search needs) (λ c. search needs)
+    (λ c κs. search needs) (λ c. search needs) (λ c. search needs) (λ c. search needs) (λ c. search needs)
+    (λ c. search needs) (λ c. search needs) loop-again returns)

@@ -34,57 +34,6 @@ loop-holds c = (
   filled-none 32 _ (replicate 2 (replicate 32 0)),
 )
 
-mul-s : tie.Need-mul-s Inv-loop μ-loop
-mul-s c = search needs
-
-element-copy-out-s : tie.Need-element-copy-out-s Inv-loop μ-loop
-element-copy-out-s c = search needs
-
-mul-current : tie.Need-mul-current Inv-loop μ-loop
-mul-current c = search needs
-
-array-set-from-current : tie.Need-array-set-from-current Inv-loop μ-loop
-array-set-from-current c = search needs
-
-mul-pending : tie.Need-mul-pending Inv-loop μ-loop
-mul-pending c = search needs
-
-array-set-from-pending : tie.Need-array-set-from-pending Inv-loop μ-loop
-array-set-from-pending c = search needs
-
-mul-current-jobs : tie.Need-mul-current-jobs Inv-loop μ-loop
-mul-current-jobs c = search needs
-
-array-write-current-jobs : tie.Need-array-write-current-jobs Inv-loop μ-loop
-array-write-current-jobs c = search needs
-
-mul-pending-jobs : tie.Need-mul-pending-jobs Inv-loop μ-loop
-mul-pending-jobs c = search needs
-
-array-write-pending-jobs : tie.Need-array-write-pending-jobs Inv-loop μ-loop
-array-write-pending-jobs c = search needs
-
-phase-number-requires : tie.Need-phase-number-requires Inv-loop μ-loop
-phase-number-requires c κs = search needs
-
-array-write-phases : tie.Need-array-write-phases Inv-loop μ-loop
-array-write-phases c = search needs
-
-rows-of-requires : tie.Need-rows-of-requires Inv-loop μ-loop
-rows-of-requires c κs = search needs
-
-mul-rows : tie.Need-mul-rows Inv-loop μ-loop
-mul-rows c = search needs
-
-array-set-from-rows : tie.Need-array-set-from-rows Inv-loop μ-loop
-array-set-from-rows c = search needs
-
-add-i : tie.Need-add-i Inv-loop μ-loop
-add-i c = search needs
-
-loop-less : tie.Need-loop-less Inv-loop μ-loop
-loop-less c = search needs
-
 loop-again : tie.Need-loop-again Inv-loop μ-loop
 loop-again c =
     let l = c .before .before .before .before .before .before .before .loop in (
@@ -109,28 +58,8 @@ returns c =
     ((l .inv .6 ∙ filled-end _ (replicate 2 (replicate 32 0)) _ e) x)
 
 pub take-apart-spec : {M : Type 1} → statement M
-take-apart-spec =
-    tie.close
-    (tie.spec
-    Inv-loop
-    μ-loop
-    loop-holds
-    mul-s
-    element-copy-out-s
-    mul-current
-    array-set-from-current
-    mul-pending
-    array-set-from-pending
-    mul-current-jobs
-    array-write-current-jobs
-    mul-pending-jobs
-    array-write-pending-jobs
-    phase-number-requires
-    array-write-phases
-    rows-of-requires
-    mul-rows
-    array-set-from-rows
-    add-i
-    loop-less
-    loop-again
+take-apart-spec = tie.close (tie.spec Inv-loop μ-loop loop-holds (λ c. search needs) (λ c. search needs)
+    (λ c. search needs) (λ c. search needs) (λ c. search needs) (λ c. search needs) (λ c. search needs)
+    (λ c. search needs) (λ c. search needs) (λ c. search needs) (λ c κs. search needs) (λ c. search needs)
+    (λ c κs. search needs) (λ c. search needs) (λ c. search needs) (λ c. search needs) (λ c. search needs) loop-again
     returns)

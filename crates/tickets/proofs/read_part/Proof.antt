@@ -9,25 +9,10 @@ use borrow.Author.Needs.{needs}
 use Rattle.tickets.proofs.read_part.Statement.{statement}
 use Rattle.tickets.proofs.read_part.Tie as tie
 
-read-schedule-requires : tie.Need-read-schedule-requires
-read-schedule-requires c κs = search needs
-
-slice-reshare-prefix-serve-part : tie.Need-slice-reshare-prefix-serve-part
-slice-reshare-prefix-serve-part c = search needs
-
-slice-aggregate-serve-part : tie.Need-slice-aggregate-serve-part
-slice-aggregate-serve-part c = search needs
-
 serve-part-requires : tie.Need-serve-part-requires
 serve-part-requires c κs =
     let given = c .before .before .before .before .before .before .before .before .before .before .before .before .before .pre in
     (given .0, (given .1 .0, given .1 .1 .1))
-
-same-length : tie.Need-same-length
-same-length c = search needs
-
-same-length-2 : tie.Need-same-length-2
-same-length-2 c = search needs
 
 returns : tie.Need-returns
 returns c =
@@ -43,26 +28,10 @@ returns c =
           (omega (arith, full, counted, long, read .read-schedule .kept .0, read .before .before .before .before .pre .1 .1 .0), counted .1),
     )
 
-same-length-3 : tie.Need-same-length-3
-same-length-3 c = search needs
-
-same-length-4 : tie.Need-same-length-4
-same-length-4 c = search needs
-
 returns-2 : tie.Need-returns-2
 returns-2 c = (c .before .before .before .serve-part .ensures .0, λ e. absurd (true≢false (sym e ∙ c .if1 .left)))
 
 pub read-part-spec : {M : Type 1} → statement M
-read-part-spec =
-    tie.close
-    (tie.spec
-    read-schedule-requires
-    slice-reshare-prefix-serve-part
-    slice-aggregate-serve-part
-    serve-part-requires
-    same-length
-    same-length-2
-    returns
-    same-length-3
-    same-length-4
+read-part-spec = tie.close (tie.spec (λ c κs. search needs) (λ c. search needs) (λ c. search needs)
+    serve-part-requires (λ c. search needs) (λ c. search needs) returns (λ c. search needs) (λ c. search needs)
     returns-2)

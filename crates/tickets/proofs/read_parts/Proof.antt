@@ -40,9 +40,6 @@ loop-less c =
 loop-again : tie.Need-loop-again Inv-loop μ-loop
 loop-again c = (c .read-part .ensures .0, λ e. c .read-part .ensures .1 e .1)
 
-returns : tie.Need-returns Inv-loop μ-loop
-returns c = search needs
-
 pub read-parts-spec : {M : Type 1} → statement M
-read-parts-spec =
-    tie.close (tie.spec Inv-loop μ-loop loop-holds read-part-requires loop-less loop-again returns)
+read-parts-spec = tie.close (tie.spec Inv-loop μ-loop loop-holds read-part-requires loop-less loop-again
+    (λ c. search needs))

@@ -3,12 +3,6 @@ use borrow.Author.Needs.{needs}
 use Rattle.tickets.proofs.run.Statement.{statement}
 use Rattle.tickets.proofs.run.Tie as tie
 
-refresh-requires : tie.Need-refresh-requires
-refresh-requires c κs = search needs
-
-index-1-order : tie.Need-index-1-order
-index-1-order c = search needs
-
 order-requires : tie.Need-order-requires
 order-requires c κs =
     let s = c .before .before .before .before .before .before in
@@ -20,9 +14,6 @@ read-parts-requires c κs =
     let s = o .before .before .before .before .before .before .before in
     fresh-runnable (s .args .n) (s .pre .0) (s .pre .1) (o .before .before .refresh .ensures) (o .order .ensures)
 
-returns : tie.Need-returns
-returns c = search needs
-
 pub run-spec : {M : Type 1} → statement M
-run-spec =
-    tie.close (tie.spec refresh-requires index-1-order order-requires read-parts-requires returns)
+run-spec = tie.close (tie.spec (λ c κs. search needs) (λ c. search needs) order-requires read-parts-requires
+    (λ c. search needs))

@@ -25,15 +25,6 @@ abbrev μ-loop : tie.MeasureT-loop
 loop-holds : tie.Need-loop-holds Inv-loop μ-loop
 loop-holds c = (c .before .before .pre .0, refl, omega arith, omega arith, c .before .before .pre .1 .0)
 
-sub-report-lines : tie.Need-sub-report-lines Inv-loop μ-loop
-sub-report-lines c = omega arith
-
-part-report-lines-start : tie.Need-part-report-lines-start Inv-loop μ-loop
-part-report-lines-start c = omega arith
-
-part-report-lines-end : tie.Need-part-report-lines-end Inv-loop μ-loop
-part-report-lines-end c = omega arith
-
 report-lines-requires : tie.Need-report-lines-requires Inv-loop μ-loop
 report-lines-requires c κs = c .before .before .before .before .before .before .before .before .loop .inv .0
 
@@ -43,9 +34,6 @@ slice-reshare-prefix-write-report c = reports-inside (c .before .before .report-
 slice-aggregate-write-report : tie.Need-slice-aggregate-write-report Inv-loop μ-loop
 slice-aggregate-write-report c = sym (length-take-le _ _ (reports-inside (c .before .before .before .report-lines .ensures .0)))
 
-write-report-requires : tie.Need-write-report-requires Inv-loop μ-loop
-write-report-requires c κs = search needs
-
 same-length : tie.Need-same-length Inv-loop μ-loop
 same-length c =
     let y = c .before .before .before .before .before in
@@ -53,9 +41,6 @@ same-length c =
 
 returns : tie.Need-returns Inv-loop μ-loop
 returns c = (c .before .before .before .before .before .report-lines .ensures .1, λ e. absurd (true≢false (sym e)))
-
-number-requires : tie.Need-number-requires Inv-loop μ-loop
-number-requires c κs = search needs
 
 same-length-2 : tie.Need-same-length-2 Inv-loop μ-loop
 same-length-2 c =
@@ -113,26 +98,7 @@ returns-3 c =
     (l .inv .0, λ e. (omega (arith, l .inv .3), l .inv .4))
 
 pub serve-part-spec : {M : Type 1} → statement M
-serve-part-spec =
-    tie.close
-    (tie.spec
-    Inv-loop
-    μ-loop
-    loop-holds
-    sub-report-lines
-    part-report-lines-start
-    part-report-lines-end
-    report-lines-requires
-    slice-reshare-prefix-write-report
-    slice-aggregate-write-report
-    write-report-requires
-    same-length
-    returns
-    number-requires
-    same-length-2
-    returns-2
-    add-at
-    loop-less
-    loop-again
-    same-length-3
-    returns-3)
+serve-part-spec = tie.close (tie.spec Inv-loop μ-loop loop-holds (λ c. omega arith) (λ c. omega arith)
+    (λ c. omega arith) report-lines-requires slice-reshare-prefix-write-report slice-aggregate-write-report
+    (λ c κs. search needs) same-length returns (λ c κs. search needs) same-length-2 returns-2 add-at loop-less
+    loop-again same-length-3 returns-3)

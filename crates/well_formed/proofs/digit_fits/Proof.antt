@@ -3,11 +3,8 @@ use borrow.Author.Needs.{needs}
 use Rattle.well_formed.proofs.digit_fits.Statement.{statement}
 use Rattle.well_formed.proofs.digit_fits.Tie as tie
 
-wrapping-sub-u8-requires : tie.Need-wrapping-sub-u8-requires
-wrapping-sub-u8-requires c κs = search needs
-
 returns : tie.Need-returns
 returns c = from-one (c .before .args .d) (c .before .args .top) (c .«wrapping-sub-u8» .result) (search needs) (search needs) (c .«wrapping-sub-u8» .ensures)
 
 pub digit-fits-spec : {M : Type 1} → statement M
-digit-fits-spec = tie.close (tie.spec wrapping-sub-u8-requires returns)
+digit-fits-spec = tie.close (tie.spec (λ c κs. search needs) returns)

@@ -18,33 +18,6 @@ abbrev μ-loop : tie.MeasureT-loop
 loop-holds : tie.Need-loop-holds Inv-loop μ-loop
 loop-holds c = (search needs, flag-up _)
 
-add-digit-fits : tie.Need-add-digit-fits Inv-loop μ-loop
-add-digit-fits c = search needs
-
-element-copy-out-digit-fits : tie.Need-element-copy-out-digit-fits Inv-loop μ-loop
-element-copy-out-digit-fits c = search needs
-
-sub-digit-fits : tie.Need-sub-digit-fits Inv-loop μ-loop
-sub-digit-fits c = search needs
-
-add-digit-fits-2 : tie.Need-add-digit-fits-2 Inv-loop μ-loop
-add-digit-fits-2 c = search needs
-
-add-digit-fits-3 : tie.Need-add-digit-fits-3 Inv-loop μ-loop
-add-digit-fits-3 c = search needs
-
-element-copy-out-digit-fits-2 : tie.Need-element-copy-out-digit-fits-2 Inv-loop μ-loop
-element-copy-out-digit-fits-2 c = search needs
-
-digit-fits-requires : tie.Need-digit-fits-requires Inv-loop μ-loop
-digit-fits-requires c κs = search needs
-
-add-p : tie.Need-add-p Inv-loop μ-loop
-add-p c = search needs
-
-loop-less : tie.Need-loop-less Inv-loop μ-loop
-loop-less c = search needs
-
 loop-again : tie.Need-loop-again Inv-loop μ-loop
 loop-again c =
     let b = c .before .before .before .before .before in
@@ -58,20 +31,6 @@ returns : tie.Need-returns Inv-loop μ-loop
 returns c = flag-end _ (c .before .loop .inv .1) (omega arith)
 
 pub half-fits-spec : {M : Type 1} → statement M
-half-fits-spec =
-    tie.close
-    (tie.spec
-    Inv-loop
-    μ-loop
-    loop-holds
-    add-digit-fits
-    element-copy-out-digit-fits
-    sub-digit-fits
-    add-digit-fits-2
-    add-digit-fits-3
-    element-copy-out-digit-fits-2
-    digit-fits-requires
-    add-p
-    loop-less
-    loop-again
-    returns)
+half-fits-spec = tie.close (tie.spec Inv-loop μ-loop loop-holds (λ c. search needs) (λ c. search needs)
+    (λ c. search needs) (λ c. search needs) (λ c. search needs) (λ c. search needs) (λ c κs. search needs)
+    (λ c. search needs) (λ c. search needs) loop-again returns)

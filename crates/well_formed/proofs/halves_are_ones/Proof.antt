@@ -21,31 +21,10 @@ abbrev μ-loop : tie.MeasureT-loop
 loop-holds : tie.Need-loop-holds Inv-loop μ-loop
 loop-holds c = (search needs, every-none _)
 
-sub-loop : tie.Need-sub-loop Inv-loop μ-loop
-sub-loop c = search needs
-
-add-half-is-ones : tie.Need-add-half-is-ones Inv-loop μ-loop
-add-half-is-ones c = search needs
-
-mul-half-is-ones : tie.Need-mul-half-is-ones Inv-loop μ-loop
-mul-half-is-ones c = search needs
-
-index-1-half-is-ones : tie.Need-index-1-half-is-ones Inv-loop μ-loop
-index-1-half-is-ones c = search needs
-
-half-is-ones-requires : tie.Need-half-is-ones-requires Inv-loop μ-loop
-half-is-ones-requires c κs = search needs
-
 returns : tie.Need-returns Inv-loop μ-loop
 returns c =
     let b = c .before .before .before .before in
     sym (every-no _ _ (b .loop .i) (search needs) (was-false (c .before .half-is-ones .ensures) (c .if1 .taken)))
-
-add-i : tie.Need-add-i Inv-loop μ-loop
-add-i c = search needs
-
-loop-less : tie.Need-loop-less Inv-loop μ-loop
-loop-less c = search needs
 
 loop-again : tie.Need-loop-again Inv-loop μ-loop
 loop-again c =
@@ -56,19 +35,6 @@ returns-2 : tie.Need-returns-2 Inv-loop μ-loop
 returns-2 c = every-done _ (c .before .loop .inv .1) (omega arith)
 
 pub halves-are-ones-spec : {M : Type 1} → statement M
-halves-are-ones-spec =
-    tie.close
-    (tie.spec
-    Inv-loop
-    μ-loop
-    loop-holds
-    sub-loop
-    add-half-is-ones
-    mul-half-is-ones
-    index-1-half-is-ones
-    half-is-ones-requires
-    returns
-    add-i
-    loop-less
-    loop-again
-    returns-2)
+halves-are-ones-spec = tie.close (tie.spec Inv-loop μ-loop loop-holds (λ c. search needs) (λ c. search needs)
+    (λ c. search needs) (λ c. search needs) (λ c κs. search needs) returns (λ c. search needs) (λ c. search needs)
+    loop-again returns-2)

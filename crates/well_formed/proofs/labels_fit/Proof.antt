@@ -11,21 +11,12 @@ use borrow.Author.Needs.{needs}
 use Rattle.well_formed.proofs.labels_fit.Statement.{statement}
 use Rattle.well_formed.proofs.labels_fit.Tie as tie
 
-tops-requires : tie.Need-tops-requires
-tops-requires c κs = search needs
-
-halves-fit-requires : tie.Need-halves-fit-requires
-halves-fit-requires c κs = search needs
-
 returns : tie.Need-returns
 returns c =
     let t = c .before .before .before in
     let a = t .before .args in
     sym (left-no _ (left-no _ (was-false (c .before .halves-fit .ensures) (c .if1 .taken))))
     ∙ plane-fits (a .n) (a .rows .now) (search needs) (search needs) (t .before .pre .1) (t .tops .ensures)
-
-halves-fit-requires-2 : tie.Need-halves-fit-requires-2
-halves-fit-requires-2 c κs = search needs
 
 returns-2 : tie.Need-returns-2
 returns-2 c =
@@ -34,12 +25,6 @@ returns-2 c =
     let first = every (a .n) (λ i. halfFits (a .n) (t .tops .result) (getD (a .rows .now) i []) 0) in
     sym (left-no _ (right-no first (was-false (c .before .halves-fit2 .ensures) (c .if2 .taken))))
     ∙ plane-fits (a .n) (a .rows .now) (search needs) (search needs) (t .before .pre .1) (t .tops .ensures)
-
-halves-are-ones-requires : tie.Need-halves-are-ones-requires
-halves-are-ones-requires c κs = search needs
-
-halves-are-ones-requires-2 : tie.Need-halves-are-ones-requires-2
-halves-are-ones-requires-2 c κs = search needs
 
 returns-3 : tie.Need-returns-3
 returns-3 c =
@@ -63,15 +48,5 @@ returns-4 c =
     ∙ plane-fits (a .n) (a .rows .now) (search needs) (search needs) (t .before .pre .1) (t .tops .ensures)
 
 pub labels-fit-spec : {M : Type 1} → statement M
-labels-fit-spec =
-    tie.close
-    (tie.spec
-    tops-requires
-    halves-fit-requires
-    returns
-    halves-fit-requires-2
-    returns-2
-    halves-are-ones-requires
-    halves-are-ones-requires-2
-    returns-3
-    returns-4)
+labels-fit-spec = tie.close (tie.spec (λ c κs. search needs) (λ c κs. search needs) returns (λ c κs. search needs)
+    returns-2 (λ c κs. search needs) (λ c κs. search needs) returns-3 returns-4)

@@ -19,29 +19,8 @@ Inv-loop n phases most r₀ i₀ r i = (i ≤ 32) × (r ≡ every i (λ k. leb (
 abbrev μ-loop : tie.MeasureT-loop
 μ-loop n phases most r₀ i₀ r i = 32 - i
 
-tops-requires : tie.Need-tops-requires Inv-loop μ-loop
-tops-requires c κs = search needs
-
 loop-holds : tie.Need-loop-holds Inv-loop μ-loop
 loop-holds c = (search needs, flag-up _)
-
-sub-if1 : tie.Need-sub-if1 Inv-loop μ-loop
-sub-if1 c = search needs
-
-add-if1 : tie.Need-add-if1 Inv-loop μ-loop
-add-if1 c = search needs
-
-array-read-if1 : tie.Need-array-read-if1 Inv-loop μ-loop
-array-read-if1 c = search needs
-
-element-copy-out-if1 : tie.Need-element-copy-out-if1 Inv-loop μ-loop
-element-copy-out-if1 c = search needs
-
-add-i : tie.Need-add-i Inv-loop μ-loop
-add-i c = search needs
-
-loop-less : tie.Need-loop-less Inv-loop μ-loop
-loop-less c = search needs
 
 loop-again : tie.Need-loop-again Inv-loop μ-loop
 loop-again c =
@@ -61,18 +40,6 @@ returns : tie.Need-returns Inv-loop μ-loop
 returns c = flag-end _ (c .before .loop .inv .1) (omega arith)
 
 pub phases-fit-spec : {M : Type 1} → statement M
-phases-fit-spec =
-    tie.close
-    (tie.spec
-    Inv-loop
-    μ-loop
-    tops-requires
-    loop-holds
-    sub-if1
-    add-if1
-    array-read-if1
-    element-copy-out-if1
-    add-i
-    loop-less
-    loop-again
+phases-fit-spec = tie.close (tie.spec Inv-loop μ-loop (λ c κs. search needs) loop-holds (λ c. search needs)
+    (λ c. search needs) (λ c. search needs) (λ c. search needs) (λ c. search needs) (λ c. search needs) loop-again
     returns)

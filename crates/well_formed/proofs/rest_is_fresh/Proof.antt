@@ -10,21 +10,6 @@ use borrow.Author.Needs.{needs}
 use Rattle.well_formed.proofs.rest_is_fresh.Statement.{statement}
 use Rattle.well_formed.proofs.rest_is_fresh.Tie as tie
 
-fresh-result-requires : tie.Need-fresh-result-requires
-fresh-result-requires c κs = search needs
-
-index-1-rows-are : tie.Need-index-1-rows-are
-index-1-rows-are c = search needs
-
-rows-are-requires : tie.Need-rows-are-requires
-rows-are-requires c κs = search needs
-
-index-1-rows-are-2 : tie.Need-index-1-rows-are-2
-index-1-rows-are-2 c = search needs
-
-rows-are-requires-2 : tie.Need-rows-are-requires-2
-rows-are-requires-2 c κs = search needs
-
 returns : tie.Need-returns
 returns c =
     let b = c .before .before .before in
@@ -42,13 +27,5 @@ returns-2 c =
     ∙ fresh-results (a .n) (a .results .now) (f .fresh-result .ensures)
 
 pub rest-is-fresh-spec : {M : Type 1} → statement M
-rest-is-fresh-spec =
-    tie.close
-    (tie.spec
-    fresh-result-requires
-    index-1-rows-are
-    rows-are-requires
-    index-1-rows-are-2
-    rows-are-requires-2
-    returns
-    returns-2)
+rest-is-fresh-spec = tie.close (tie.spec (λ c κs. search needs) (λ c. search needs) (λ c κs. search needs)
+    (λ c. search needs) (λ c κs. search needs) returns returns-2)

@@ -6,18 +6,6 @@ use borrow.Author.Needs.{needs}
 use Rattle.well_formed.proofs.result_fits.Statement.{statement}
 use Rattle.well_formed.proofs.result_fits.Tie as tie
 
-index-1-tally : tie.Need-index-1-tally
-index-1-tally c = search needs
-
-tally-requires : tie.Need-tally-requires
-tally-requires c κs = search needs
-
-all-once-requires : tie.Need-all-once-requires
-all-once-requires c κs = search needs
-
-none-from-requires : tie.Need-none-from-requires
-none-from-requires c κs = search needs
-
 returns : tie.Need-returns
 returns c =
     let t = c .before .before .before in
@@ -33,6 +21,5 @@ returns-2 c =
     ∙ result-rows (a .n) (a .rows .now) (t .tally .result) (search needs) (t .tally .ensures)
 
 pub result-fits-spec : {M : Type 1} → statement M
-result-fits-spec =
-    tie.close
-    (tie.spec index-1-tally tally-requires all-once-requires none-from-requires returns returns-2)
+result-fits-spec = tie.close (tie.spec (λ c. search needs) (λ c κs. search needs) (λ c κs. search needs)
+    (λ c κs. search needs) returns returns-2)

@@ -21,37 +21,10 @@ abbrev μ-loop : tie.MeasureT-loop
 loop-holds : tie.Need-loop-holds Inv-loop μ-loop
 loop-holds c = (search needs, every-none _)
 
-sub-loop : tie.Need-sub-loop Inv-loop μ-loop
-sub-loop c = search needs
-
-add-same-row : tie.Need-add-same-row Inv-loop μ-loop
-add-same-row c = search needs
-
-mul-same-row : tie.Need-mul-same-row Inv-loop μ-loop
-mul-same-row c = search needs
-
-mul-same-row-2 : tie.Need-mul-same-row-2 Inv-loop μ-loop
-mul-same-row-2 c = search needs
-
-index-1-same-row : tie.Need-index-1-same-row Inv-loop μ-loop
-index-1-same-row c = search needs
-
-index-2-same-row : tie.Need-index-2-same-row Inv-loop μ-loop
-index-2-same-row c = search needs
-
-same-row-requires : tie.Need-same-row-requires Inv-loop μ-loop
-same-row-requires c κs = search needs
-
 returns : tie.Need-returns Inv-loop μ-loop
 returns c =
     let b = c .before .before .before .before in
     sym (every-no _ _ (b .loop .i) (search needs) (was-false (c .before .same-row .ensures) (c .if1 .taken)))
-
-add-i : tie.Need-add-i Inv-loop μ-loop
-add-i c = search needs
-
-loop-less : tie.Need-loop-less Inv-loop μ-loop
-loop-less c = search needs
 
 loop-again : tie.Need-loop-again Inv-loop μ-loop
 loop-again c =
@@ -62,21 +35,6 @@ returns-2 : tie.Need-returns-2 Inv-loop μ-loop
 returns-2 c = every-done _ (c .before .loop .inv .1) (omega arith)
 
 pub rows-are-spec : {M : Type 1} → statement M
-rows-are-spec =
-    tie.close
-    (tie.spec
-    Inv-loop
-    μ-loop
-    loop-holds
-    sub-loop
-    add-same-row
-    mul-same-row
-    mul-same-row-2
-    index-1-same-row
-    index-2-same-row
-    same-row-requires
-    returns
-    add-i
-    loop-less
-    loop-again
-    returns-2)
+rows-are-spec = tie.close (tie.spec Inv-loop μ-loop loop-holds (λ c. search needs) (λ c. search needs)
+    (λ c. search needs) (λ c. search needs) (λ c. search needs) (λ c. search needs) (λ c κs. search needs) returns
+    (λ c. search needs) (λ c. search needs) loop-again returns-2)

@@ -22,15 +22,6 @@ loop-holds : tie.Need-loop-holds Inv-loop μ-loop
 unfolding count
 loop-holds c = (search needs, search needs, λ q h. getD-replicate 33 q 0 0 h)
 
-mul-slot : tie.Need-mul-slot Inv-loop μ-loop
-mul-slot c = search needs
-
-element-copy-out-slot : tie.Need-element-copy-out-slot Inv-loop μ-loop
-element-copy-out-slot c = search needs
-
-slot-requires : tie.Need-slot-requires Inv-loop μ-loop
-slot-requires c κs = search needs
-
 array-read-r : tie.Need-array-read-r Inv-loop μ-loop
 array-read-r c =
     let b = c .before .before .before in
@@ -48,12 +39,6 @@ array-write-r c =
     let b = c .before .before .before in
     rw (c .slot .ensures) (slot-bound (getD (b .before .args .stations .now) (b .loop .p) 0))
 
-add-p : tie.Need-add-p Inv-loop μ-loop
-add-p c = search needs
-
-loop-less : tie.Need-loop-less Inv-loop μ-loop
-loop-less c = search needs
-
 loop-again : tie.Need-loop-again Inv-loop μ-loop
 loop-again c =
     let b = c .before .before .before in
@@ -69,19 +54,5 @@ returns c = λ i h.
     ∙ ap (λ k. count k (λ p. eqb (f p) (suc i))) {x = c .before .loop .p} {y = c .before .before .args .n} (omega arith)
 
 pub tally-spec : {M : Type 1} → statement M
-tally-spec =
-    tie.close
-    (tie.spec
-    Inv-loop
-    μ-loop
-    loop-holds
-    mul-slot
-    element-copy-out-slot
-    slot-requires
-    array-read-r
-    add-r
-    array-write-r
-    add-p
-    loop-less
-    loop-again
-    returns)
+tally-spec = tie.close (tie.spec Inv-loop μ-loop loop-holds (λ c. search needs) (λ c. search needs)
+    (λ c κs. search needs) array-read-r add-r array-write-r (λ c. search needs) (λ c. search needs) loop-again returns)

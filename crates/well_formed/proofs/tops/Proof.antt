@@ -15,15 +15,6 @@ abbrev μ-loop : tie.MeasureT-loop
 loop-holds : tie.Need-loop-holds Inv-loop μ-loop
 loop-holds c = (search needs, filled-none 64 _ _)
 
-array-write-r : tie.Need-array-write-r Inv-loop μ-loop
-array-write-r c = search needs
-
-add-p : tie.Need-add-p Inv-loop μ-loop
-add-p c = search needs
-
-loop-less : tie.Need-loop-less Inv-loop μ-loop
-loop-less c = search needs
-
 loop-again : tie.Need-loop-again Inv-loop μ-loop
 loop-again c = (search needs, rw (c .before .loop .inv .1) (filled-more 64 _ _ (c .before .loop .p) _ (search needs) refl))
 
@@ -33,6 +24,5 @@ returns c =
     c .before .loop .inv .1 ∙ ap (λ k. filled 64 k (λ _. a .high) (a .low)) {x = c .before .loop .p} {y = 32} (omega arith)
 
 pub tops-spec : {M : Type 1} → statement M
-tops-spec =
-    tie.close
-    (tie.spec Inv-loop μ-loop loop-holds array-write-r add-p loop-less loop-again returns)
+tops-spec = tie.close (tie.spec Inv-loop μ-loop loop-holds (λ c. search needs) (λ c. search needs) (λ c. search needs)
+    loop-again returns)

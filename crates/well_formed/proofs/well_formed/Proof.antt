@@ -14,12 +14,6 @@ returns c = wrong-count _ (left-no _ (lt-leb 2 _ (c .if1 .taken)))
 returns-2 : tie.Need-returns-2
 returns-2 c = wrong-count _ (right-no (leb 2 (c .before .before .args .count)) (lt-leb _ 32 (c .if2 .taken)))
 
-shaped-requires : tie.Need-shaped-requires
-shaped-requires c κs = search needs
-
-index-1-labels-fit : tie.Need-index-1-labels-fit
-index-1-labels-fit c = search needs
-
 labels-fit-requires : tie.Need-labels-fit-requires
 labels-fit-requires c κs = (search needs, λ i h. c .before .shaped .ensures 0 .label 0 (omega arith) .each i h)
 
@@ -27,9 +21,6 @@ returns-3 : tie.Need-returns-3
 returns-3 c =
     failed _ (c .before .before .before .shaped .ensures 0 .results .long) (search needs) _ (λ p. p .labels)
     (was-false (c .before .labels-fit .ensures) (c .if3 .taken))
-
-index-1-labels-fit-2 : tie.Need-index-1-labels-fit-2
-index-1-labels-fit-2 c = search needs
 
 labels-fit-requires-2 : tie.Need-labels-fit-requires-2
 labels-fit-requires-2 c κs = (search needs, λ i h. c .before .before .before .before .shaped .ensures 0 .label 1 (omega arith) .each i h)
@@ -39,20 +30,11 @@ returns-4 c =
     failed _ (c .before .before .before .before .before .before .shaped .ensures 0 .results .long) (search needs) _ (λ p. p .pending)
     (was-false (c .before .labels-fit2 .ensures) (c .if4 .taken))
 
-index-1-phases-fit : tie.Need-index-1-phases-fit
-index-1-phases-fit c = search needs
-
-phases-fit-requires : tie.Need-phases-fit-requires
-phases-fit-requires c κs = search needs
-
 returns-5 : tie.Need-returns-5
 returns-5 c =
     let b = c .before .before .before in
     failed _ (b .before .before .before .before .before .before .shaped .ensures 0 .results .long) (search needs) _ (λ p. p .phases)
     (was-false (c .before .phases-fit .ensures) (c .if5 .taken))
-
-none-from-requires : tie.Need-none-from-requires
-none-from-requires c κs = search needs
 
 returns-6 : tie.Need-returns-6
 returns-6 c =
@@ -60,29 +42,17 @@ returns-6 c =
     failed _ (b .before .before .before .before .before .before .shaped .ensures 0 .results .long) (search needs) _ (λ p. p .jobs)
     (was-false (c .before .none-from .ensures) (c .if6 .taken))
 
-results-fit-requires : tie.Need-results-fit-requires
-results-fit-requires c κs = search needs
-
 returns-7 : tie.Need-returns-7
 returns-7 c =
     let b = c .before .before .before .before .before .before .before in
     failed _ (b .before .before .before .before .before .before .shaped .ensures 0 .results .long) (search needs) _ (λ p. p .results)
     (was-false (c .before .results-fit .ensures) (c .if7 .taken))
 
-rest-is-fresh-requires : tie.Need-rest-is-fresh-requires
-rest-is-fresh-requires c κs = search needs
-
 returns-8 : tie.Need-returns-8
 returns-8 c =
     let b = c .before .before .before .before .before .before .before .before .before in
     failed _ (b .before .before .before .before .before .before .shaped .ensures 0 .results .long) (search needs) _ (λ p. p .rest)
     (was-false (c .before .rest-is-fresh .ensures) (c .if8 .taken))
-
-index-1-no-ring : tie.Need-index-1-no-ring
-index-1-no-ring c = search needs
-
-no-ring-requires : tie.Need-no-ring-requires
-no-ring-requires c κs = search needs
 
 returns-9 : tie.Need-returns-9
 returns-9 c =
@@ -106,27 +76,7 @@ returns-9 c =
     (c .no-ring .ensures)
 
 pub well-formed-spec : {M : Type 1} → statement M
-well-formed-spec =
-    tie.close
-    (tie.spec
-    returns
-    returns-2
-    shaped-requires
-    index-1-labels-fit
-    labels-fit-requires
-    returns-3
-    index-1-labels-fit-2
-    labels-fit-requires-2
-    returns-4
-    index-1-phases-fit
-    phases-fit-requires
-    returns-5
-    none-from-requires
-    returns-6
-    results-fit-requires
-    returns-7
-    rest-is-fresh-requires
-    returns-8
-    index-1-no-ring
-    no-ring-requires
-    returns-9)
+well-formed-spec = tie.close (tie.spec returns returns-2 (λ c κs. search needs) (λ c. search needs)
+    labels-fit-requires returns-3 (λ c. search needs) labels-fit-requires-2 returns-4 (λ c. search needs)
+    (λ c κs. search needs) returns-5 (λ c κs. search needs) returns-6 (λ c κs. search needs) returns-7
+    (λ c κs. search needs) returns-8 (λ c. search needs) (λ c κs. search needs) returns-9)

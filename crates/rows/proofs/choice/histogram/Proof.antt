@@ -23,12 +23,6 @@ loop-holds : tie.Need-loop-holds Inv-loop μ-loop
 unfolding count
 loop-holds c = (search needs, search needs, λ q h. getD-replicate 32 q 0 0 h)
 
-mul-q : tie.Need-mul-q Inv-loop μ-loop
-mul-q c = search needs
-
-element-copy-out-q : tie.Need-element-copy-out-q Inv-loop μ-loop
-element-copy-out-q c = search needs
-
 mul-r : tie.Need-mul-r Inv-loop μ-loop
 mul-r c = omega (arith, c .before .before .before .before .pre .1 (c .before .before .before .loop .j) (omega arith))
 
@@ -53,12 +47,6 @@ mul-r-2 c = omega (arith, c .before .before .before .before .pre .1 (c .before .
 array-write-r : tie.Need-array-write-r Inv-loop μ-loop
 array-write-r c = omega (arith, c .before .before .before .before .pre .1 (c .before .before .before .loop .j) (omega arith))
 
-add-j : tie.Need-add-j Inv-loop μ-loop
-add-j c = search needs
-
-loop-less : tie.Need-loop-less Inv-loop μ-loop
-loop-less c = search needs
-
 loop-again : tie.Need-loop-again Inv-loop μ-loop
 loop-again c =
     let s = c .before .before .before .args .shared .now in
@@ -82,20 +70,5 @@ returns c = λ q h. c .before .loop .inv .2 q h ∙ ap (λ (n : ℕ). count n (�
     (getD (c .before .before .args .shared .now) i 0) q)) (omega arith)
 
 pub histogram-spec : {M : Type 1} → statement M
-histogram-spec =
-    tie.close
-    (tie.spec
-    Inv-loop
-    μ-loop
-    loop-holds
-    mul-q
-    element-copy-out-q
-    mul-r
-    array-read-r
-    add-r
-    mul-r-2
-    array-write-r
-    add-j
-    loop-less
-    loop-again
-    returns)
+histogram-spec = tie.close (tie.spec Inv-loop μ-loop loop-holds (λ c. search needs) (λ c. search needs) mul-r
+    array-read-r add-r mul-r-2 array-write-r (λ c. search needs) (λ c. search needs) loop-again returns)

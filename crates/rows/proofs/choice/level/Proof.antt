@@ -14,20 +14,8 @@ Inv-loop shared n k exact m few₀ p₀ few p = (p ≤ m) × (few ≡ upto exact
 abbrev μ-loop : tie.MeasureT-loop
 μ-loop shared n k exact m few₀ p₀ few p = m - p
 
-histogram-requires : tie.Need-histogram-requires Inv-loop μ-loop
-histogram-requires c κs = search needs
-
-sub-m : tie.Need-sub-m Inv-loop μ-loop
-sub-m c = search needs
-
 loop-holds : tie.Need-loop-holds Inv-loop μ-loop
 loop-holds c = (search needs, upto-none _, λ q h. absurd (omega arith))
-
-mul-few : tie.Need-mul-few Inv-loop μ-loop
-mul-few c = search needs
-
-array-read-few : tie.Need-array-read-few Inv-loop μ-loop
-array-read-few c = search needs
 
 add-few : tie.Need-add-few Inv-loop μ-loop
 add-few c =
@@ -49,12 +37,6 @@ returns c =
     level-is (a .n) (a .k) (λ j. getD (a .shared .now) j 0) 32 r (c .before .before .before .histogram .ensures) (omega arith) p (omega arith) (omega arith)
     (c .before .before .loop .inv .2) (λ h. omega (arith, upto-more r p))
 
-add-p : tie.Need-add-p Inv-loop μ-loop
-add-p c = search needs
-
-loop-less : tie.Need-loop-less Inv-loop μ-loop
-loop-less c = search needs
-
 loop-again : tie.Need-loop-again Inv-loop μ-loop
 loop-again c =
     let r = c .before .before .before .histogram .result in
@@ -69,19 +51,6 @@ returns-2 c =
     (c .before .loop .inv .2) (λ h. absurd (omega arith))
 
 pub level-spec : {M : Type 1} → statement M
-level-spec =
-    tie.close
-    (tie.spec
-    Inv-loop
-    μ-loop
-    histogram-requires
-    sub-m
-    loop-holds
-    mul-few
-    array-read-few
-    add-few
-    returns
-    add-p
-    loop-less
-    loop-again
+level-spec = tie.close (tie.spec Inv-loop μ-loop (λ c κs. search needs) (λ c. search needs) loop-holds
+    (λ c. search needs) (λ c. search needs) add-few returns (λ c. search needs) (λ c. search needs) loop-again
     returns-2)

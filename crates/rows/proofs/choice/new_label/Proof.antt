@@ -9,15 +9,6 @@ use borrow.Author.Needs.{needs}
 use Rattle.rows.proofs.choice.new_label.Statement.{statement}
 use Rattle.rows.proofs.choice.new_label.Tie as tie
 
-mul-top : tie.Need-mul-top
-mul-top c = search needs
-
-element-copy-out-top : tie.Need-element-copy-out-top
-element-copy-out-top c = search needs
-
-shared-prefixes-requires : tie.Need-shared-prefixes-requires
-shared-prefixes-requires c κs = search needs
-
 level-requires : tie.Need-level-requires
 level-requires c κs =
     let a = c .before .before .before .args in (
@@ -45,12 +36,5 @@ returns c =
     (c .before .level .result) (c .before .level .ensures) (omega arith))
 
 pub new-label-spec : {M : Type 1} → statement M
-new-label-spec =
-    tie.close
-    (tie.spec
-    mul-top
-    element-copy-out-top
-    shared-prefixes-requires
-    level-requires
-    next-label-requires
-    returns)
+new-label-spec = tie.close (tie.spec (λ c. search needs) (λ c. search needs) (λ c κs. search needs) level-requires
+    next-label-requires returns)

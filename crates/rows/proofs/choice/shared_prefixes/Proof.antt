@@ -15,32 +15,8 @@ Inv-loop rows n top m shared₀ j₀ shared j = (j ≤ n) × (shared ≡ filled 
 abbrev μ-loop : tie.MeasureT-loop
 μ-loop rows n top m shared₀ j₀ shared j = n - j
 
-sub-m : tie.Need-sub-m Inv-loop μ-loop
-sub-m c = search needs
-
 loop-holds : tie.Need-loop-holds Inv-loop μ-loop
 loop-holds c = (search needs, filled-none 32 _ 0)
-
-mul-first-difference : tie.Need-mul-first-difference Inv-loop μ-loop
-mul-first-difference c = search needs
-
-element-copy-out-first-difference : tie.Need-element-copy-out-first-difference Inv-loop μ-loop
-element-copy-out-first-difference c = search needs
-
-first-difference-requires : tie.Need-first-difference-requires Inv-loop μ-loop
-first-difference-requires c κs = search needs
-
-mul-shared : tie.Need-mul-shared Inv-loop μ-loop
-mul-shared c = search needs
-
-array-write-shared : tie.Need-array-write-shared Inv-loop μ-loop
-array-write-shared c = search needs
-
-add-j : tie.Need-add-j Inv-loop μ-loop
-add-j c = search needs
-
-loop-less : tie.Need-loop-less Inv-loop μ-loop
-loop-less c = search needs
 
 loop-again : tie.Need-loop-again Inv-loop μ-loop
 loop-again c = (search needs, rw (c .before .before .before .loop .inv .1) (filled-more 32 _ 0 _ _ (search needs) (c .first-difference .ensures)))
@@ -51,19 +27,6 @@ returns c =
     c .before .loop .inv .1 ∙ ap (λ (j : ℕ). filled 32 j (λ q. firstDifference (a .n - 1) (held (a .rows .now) q) (digit (a .top))) 0) (omega arith)
 
 pub shared-prefixes-spec : {M : Type 1} → statement M
-shared-prefixes-spec =
-    tie.close
-    (tie.spec
-    Inv-loop
-    μ-loop
-    sub-m
-    loop-holds
-    mul-first-difference
-    element-copy-out-first-difference
-    first-difference-requires
-    mul-shared
-    array-write-shared
-    add-j
-    loop-less
-    loop-again
-    returns)
+shared-prefixes-spec = tie.close (tie.spec Inv-loop μ-loop (λ c. search needs) loop-holds (λ c. search needs)
+    (λ c. search needs) (λ c κs. search needs) (λ c. search needs) (λ c. search needs) (λ c. search needs)
+    (λ c. search needs) loop-again returns)

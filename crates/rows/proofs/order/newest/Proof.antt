@@ -19,31 +19,10 @@ abbrev μ-loop : tie.MeasureT-loop
 loop-holds : tie.Need-loop-holds Inv-loop μ-loop
 loop-holds c = (search needs, search needs, search needs, λ i h. newest-one (orderly-total _ _ (c .pre)) i h (omega arith))
 
-mul-label-before : tie.Need-mul-label-before Inv-loop μ-loop
-mul-label-before c = search needs
-
-element-copy-out-label-before : tie.Need-element-copy-out-label-before Inv-loop μ-loop
-element-copy-out-label-before c = search needs
-
-mul-label-before-2 : tie.Need-mul-label-before-2 Inv-loop μ-loop
-mul-label-before-2 c = search needs
-
-element-copy-out-label-before-2 : tie.Need-element-copy-out-label-before-2 Inv-loop μ-loop
-element-copy-out-label-before-2 c = search needs
-
-sub-label-before : tie.Need-sub-label-before Inv-loop μ-loop
-sub-label-before c = search needs
-
 label-before-requires : tie.Need-label-before-requires Inv-loop μ-loop
 label-before-requires c κs =
     let valid = c .before .before .before .before .pre .valid in
     (search needs, (valid _ (omega arith), valid _ (omega arith)))
-
-add-j : tie.Need-add-j Inv-loop μ-loop
-add-j c = search needs
-
-loop-less : tie.Need-loop-less Inv-loop μ-loop
-loop-less c = search needs
 
 loop-again : tie.Need-loop-again Inv-loop μ-loop
 loop-again c =
@@ -60,19 +39,6 @@ returns c =
     newest-only _ _ (orderly-total _ _ (c .before .before .pre)) _ (omega arith) (λ i h. c .before .loop .inv .3 i (omega arith))
 
 pub newest-spec : {M : Type 1} → statement M
-newest-spec =
-    tie.close
-    (tie.spec
-    Inv-loop
-    μ-loop
-    loop-holds
-    mul-label-before
-    element-copy-out-label-before
-    mul-label-before-2
-    element-copy-out-label-before-2
-    sub-label-before
-    label-before-requires
-    add-j
-    loop-less
-    loop-again
-    returns)
+newest-spec = tie.close (tie.spec Inv-loop μ-loop loop-holds (λ c. search needs) (λ c. search needs)
+    (λ c. search needs) (λ c. search needs) (λ c. search needs) label-before-requires (λ c. search needs)
+    (λ c. search needs) loop-again returns)

@@ -40,12 +40,6 @@ insert-at-requires c κs =
     let at = c .before .before .before .before .loop in
     (omega arith, omega (arith, order-long 32 _ _ _ (at .inv .1) (omega arith)))
 
-add-k : tie.Need-add-k Inv-loop μ-loop
-add-k c = search needs
-
-loop-less : tie.Need-loop-less Inv-loop μ-loop
-loop-less c = search needs
-
 loop-again : tie.Need-loop-again Inv-loop μ-loop
 loop-again c =
     let start = c .before .before .before .before .before .before .before in
@@ -65,17 +59,5 @@ returns c =
     c .before .loop .inv .1 ∙ ap (orderIn 32 (standsIn (args .n) (args .rows .now))) e
 
 pub order-spec : {M : Type 1} → statement M
-order-spec =
-    tie.close
-    (tie.spec
-    Inv-loop
-    μ-loop
-    loop-holds
-    slice-aggregate-position
-    position-requires
-    slice-aggregate-insert-at
-    insert-at-requires
-    add-k
-    loop-less
-    loop-again
-    returns)
+order-spec = tie.close (tie.spec Inv-loop μ-loop loop-holds slice-aggregate-position position-requires
+    slice-aggregate-insert-at insert-at-requires (λ c. search needs) (λ c. search needs) loop-again returns)

@@ -17,23 +17,8 @@ Inv-loop rows n order m k row low₀ high₀ low high =
 abbrev μ-loop : tie.MeasureT-loop
 μ-loop rows n order m k row low₀ high₀ low high = high - low
 
-mul-row : tie.Need-mul-row Inv-loop μ-loop
-mul-row c = search needs
-
-element-copy-out-row : tie.Need-element-copy-out-row Inv-loop μ-loop
-element-copy-out-row c = search needs
-
 loop-holds : tie.Need-loop-holds Inv-loop μ-loop
 loop-holds c = (search needs, search needs, λ p h. absurd (omega arith), λ p h u. absurd (omega arith))
-
-add-middle : tie.Need-add-middle Inv-loop μ-loop
-add-middle c = search needs
-
-mul-i : tie.Need-mul-i Inv-loop μ-loop
-mul-i c = search needs
-
-shared-slice-read-i : tie.Need-shared-slice-read-i Inv-loop μ-loop
-shared-slice-read-i c = search needs
 
 listed : (c : tie.In-loop Inv-loop μ-loop)
     → getD (c .before .before .before .before .args .order .now) ((c .before .loop .low + c .before .loop .high) / 2) 0
@@ -46,20 +31,11 @@ mul-label-before c = let h = listed (c .before) in omega arith
 element-copy-out-label-before : tie.Need-element-copy-out-label-before Inv-loop μ-loop
 element-copy-out-label-before c = let h = listed (c .before) in omega arith
 
-sub-label-before : tie.Need-sub-label-before Inv-loop μ-loop
-sub-label-before c = search needs
-
 label-before-requires : tie.Need-label-before-requires Inv-loop μ-loop
 label-before-requires c κs =
     let valid = c .before .before .before .before .before .before .pre .0 .valid in
     let h = listed (c .before .before) in
     (search needs, (valid _ (omega arith), valid _ (omega arith)))
-
-add-low : tie.Need-add-low Inv-loop μ-loop
-add-low c = search needs
-
-loop-less : tie.Need-loop-less Inv-loop μ-loop
-loop-less c = search needs
 
 loop-again : tie.Need-loop-again Inv-loop μ-loop
 loop-again c =
@@ -70,9 +46,6 @@ loop-again c =
           (omega arith) (c .before .label-before .ensures) (c .if1 .taken),
       c .before .before .before .before .before .loop .inv .3,
     )
-
-loop-less-2 : tie.Need-loop-less-2 Inv-loop μ-loop
-loop-less-2 c = search needs
 
 loop-again-2 : tie.Need-loop-again-2 Inv-loop μ-loop
 loop-again-2 c =
@@ -90,24 +63,7 @@ returns c =
     (search needs, (c .before .loop .inv .2, λ p h. c .before .loop .inv .3 p (omega arith)))
 
 pub position-spec : {M : Type 1} → statement M
-position-spec =
-    tie.close
-    (tie.spec
-    Inv-loop
-    μ-loop
-    mul-row
-    element-copy-out-row
-    loop-holds
-    add-middle
-    mul-i
-    shared-slice-read-i
-    mul-label-before
-    element-copy-out-label-before
-    sub-label-before
-    label-before-requires
-    add-low
-    loop-less
-    loop-again
-    loop-less-2
-    loop-again-2
-    returns)
+position-spec = tie.close (tie.spec Inv-loop μ-loop (λ c. search needs) (λ c. search needs) loop-holds
+    (λ c. search needs) (λ c. search needs) (λ c. search needs) mul-label-before element-copy-out-label-before
+    (λ c. search needs) label-before-requires (λ c. search needs) (λ c. search needs) loop-again (λ c. search needs)
+    loop-again-2 returns)

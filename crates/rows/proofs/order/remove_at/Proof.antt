@@ -16,34 +16,10 @@ abbrev μ-loop : tie.MeasureT-loop
 loop-holds : tie.Need-loop-holds Inv-loop μ-loop
 loop-holds c = (search needs, refl, refl)
 
-add-order : tie.Need-add-order Inv-loop μ-loop
-add-order c = search needs
-
-mul-order : tie.Need-mul-order Inv-loop μ-loop
-mul-order c = search needs
-
-slice-read-order : tie.Need-slice-read-order Inv-loop μ-loop
-slice-read-order c = search needs
-
-mul-order-2 : tie.Need-mul-order-2 Inv-loop μ-loop
-mul-order-2 c = search needs
-
-slice-write-order : tie.Need-slice-write-order Inv-loop μ-loop
-slice-write-order c = search needs
-
-add-p : tie.Need-add-p Inv-loop μ-loop
-add-p c = search needs
-
-loop-less : tie.Need-loop-less Inv-loop μ-loop
-loop-less c = search needs
-
 loop-again : tie.Need-loop-again Inv-loop μ-loop
 loop-again c =
     let at = c .before .before .loop in
     (search needs, search needs, leftOut-moves (at .order) (at .p) 0 (omega arith) ∙ at .inv .2)
-
-same-length : tie.Need-same-length Inv-loop μ-loop
-same-length c = search needs
 
 returns : tie.Need-returns Inv-loop μ-loop
 returns c =
@@ -51,19 +27,6 @@ returns c =
     ap (λ (p : ℕ). leftOut p (c .before .loop .order)) e ∙ c .before .loop .inv .2
 
 pub remove-at-spec : {M : Type 1} → statement M
-remove-at-spec =
-    tie.close
-    (tie.spec
-    Inv-loop
-    μ-loop
-    loop-holds
-    add-order
-    mul-order
-    slice-read-order
-    mul-order-2
-    slice-write-order
-    add-p
-    loop-less
-    loop-again
-    same-length
-    returns)
+remove-at-spec = tie.close (tie.spec Inv-loop μ-loop loop-holds (λ c. search needs) (λ c. search needs)
+    (λ c. search needs) (λ c. search needs) (λ c. search needs) (λ c. search needs) (λ c. search needs) loop-again
+    (λ c. search needs) returns)

@@ -4,9 +4,6 @@ use borrow.Author.Needs.{needs}
 use Rattle.rows.proofs.order.reorder.Statement.{statement}
 use Rattle.rows.proofs.order.reorder.Tie as tie
 
-sub-m : tie.Need-sub-m
-sub-m c = search needs
-
 place-requires : tie.Need-place-requires
 place-requires c κs = let pre = c .before .before .pre in omega (arith, listed-long (pre .0) (pre .1 .0) (pre .1 .1), pre .0 .high)
 
@@ -39,9 +36,6 @@ insert-at-requires c κs =
     let removed = c .before .before .before .before .before .remove-at in
     (c .before .position .ensures .0, omega (arith, listed-long (pre .0) (pre .1 .0) (pre .1 .1), pre .0 .high, removed .kept .0))
 
-same-length : tie.Need-same-length
-same-length c = search needs
-
 returns : tie.Need-returns
 returns c =
     let pre = c .before .before .before .before .before .before .before .before .before .before .before .before .before .pre in
@@ -52,13 +46,5 @@ returns c =
     _ _ (position .0) (position .1 .0) (position .1 .1) (c .before .before .insert-at .ensures)
 
 pub reorder-spec : {M : Type 1} → statement M
-reorder-spec =
-    tie.close
-    (tie.spec
-    sub-m
-    place-requires
-    remove-at-requires
-    position-requires
-    insert-at-requires
-    same-length
-    returns)
+reorder-spec = tie.close (tie.spec (λ c. search needs) place-requires remove-at-requires position-requires
+    insert-at-requires (λ c. search needs) returns)

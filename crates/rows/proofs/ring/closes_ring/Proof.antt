@@ -13,26 +13,11 @@ use borrow.Author.Needs.{needs}
 use Rattle.rows.proofs.ring.closes_ring.Statement.{statement}
 use Rattle.rows.proofs.ring.closes_ring.Tie as tie
 
-mul-if1 : tie.Need-mul-if1
-mul-if1 c = search needs
-
-index-1-if1 : tie.Need-index-1-if1
-index-1-if1 c = search needs
-
-index-2-if1 : tie.Need-index-2-if1
-index-2-if1 c = search needs
-
 returns : tie.Need-returns
 returns c =
     let a = c .before .before .args in
     ap not (sym (left-no _ (left-no _ (ne-eqb _ 3 (λ e. c .if1 .taken (read-else (getD (a .rows .now) (a .i) []) (a .p) 1 0 3 (omega arith)
     (omega arith) e))))))
-
-parts-with-requires : tie.Need-parts-with-requires
-parts-with-requires c κs = search needs
-
-parts-with-requires-2 : tie.Need-parts-with-requires-2
-parts-with-requires-2 c κs = search needs
 
 returns-2 : tie.Need-returns-2
 returns-2 c =
@@ -49,14 +34,5 @@ returns-3 c =
     (right-no (eqb (t (a .i) (a .p)) 3) (sym (c .before .parts-with .ensures) ∙ c .if2 .left))))
 
 pub closes-ring-spec : {M : Type 1} → statement M
-closes-ring-spec =
-    tie.close
-    (tie.spec
-    mul-if1
-    index-1-if1
-    index-2-if1
-    returns
-    parts-with-requires
-    parts-with-requires-2
-    returns-2
-    returns-3)
+closes-ring-spec = tie.close (tie.spec (λ c. search needs) (λ c. search needs) (λ c. search needs) returns
+    (λ c κs. search needs) (λ c κs. search needs) returns-2 returns-3)

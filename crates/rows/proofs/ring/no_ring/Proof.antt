@@ -20,21 +20,9 @@ abbrev μ-loop : tie.MeasureT-loop
 loop-holds : tie.Need-loop-holds Inv-loop μ-loop
 loop-holds c = (search needs, every-none _)
 
-sub-loop : tie.Need-sub-loop Inv-loop μ-loop
-sub-loop c = search needs
-
-no-ring-at-requires : tie.Need-no-ring-at-requires Inv-loop μ-loop
-no-ring-at-requires c κs = search needs
-
 returns : tie.Need-returns Inv-loop μ-loop
 returns c = sym (no-ring-each _ _ (search needs) ∙ every-no _ _ (c .before .before .before .loop .p) (search needs)
     (was-false (c .before .no-ring-at .ensures) (c .if1 .taken)))
-
-add-p : tie.Need-add-p Inv-loop μ-loop
-add-p c = search needs
-
-loop-less : tie.Need-loop-less Inv-loop μ-loop
-loop-less c = search needs
 
 loop-again : tie.Need-loop-again Inv-loop μ-loop
 loop-again c = (search needs, every-more _ _ (c .before .before .before .loop .inv .1) (was-true (c .before .no-ring-at .ensures) (c .if1 .left)))
@@ -43,16 +31,5 @@ returns-2 : tie.Need-returns-2 Inv-loop μ-loop
 returns-2 c = every-done _ (c .before .loop .inv .1) (omega arith) ∙ sym (no-ring-each _ _ (search needs))
 
 pub no-ring-spec : {M : Type 1} → statement M
-no-ring-spec =
-    tie.close
-    (tie.spec
-    Inv-loop
-    μ-loop
-    loop-holds
-    sub-loop
-    no-ring-at-requires
-    returns
-    add-p
-    loop-less
-    loop-again
-    returns-2)
+no-ring-spec = tie.close (tie.spec Inv-loop μ-loop loop-holds (λ c. search needs) (λ c κs. search needs) returns
+    (λ c. search needs) (λ c. search needs) loop-again returns-2)

@@ -26,30 +26,6 @@ abbrev μ-loop : tie.MeasureT-loop
 loop-holds : tie.Need-loop-holds Inv-loop μ-loop
 loop-holds c = (search needs, every-none _)
 
-mul-if1 : tie.Need-mul-if1 Inv-loop μ-loop
-mul-if1 c = search needs
-
-index-1-if1 : tie.Need-index-1-if1 Inv-loop μ-loop
-index-1-if1 c = search needs
-
-index-2-if1 : tie.Need-index-2-if1 Inv-loop μ-loop
-index-2-if1 c = search needs
-
-mul-agree : tie.Need-mul-agree Inv-loop μ-loop
-mul-agree c = search needs
-
-element-copy-out-agree : tie.Need-element-copy-out-agree Inv-loop μ-loop
-element-copy-out-agree c = search needs
-
-mul-agree-2 : tie.Need-mul-agree-2 Inv-loop μ-loop
-mul-agree-2 c = search needs
-
-element-copy-out-agree-2 : tie.Need-element-copy-out-agree-2 Inv-loop μ-loop
-element-copy-out-agree-2 c = search needs
-
-agree-requires : tie.Need-agree-requires Inv-loop μ-loop
-agree-requires c κs = search needs
-
 returns : tie.Need-returns Inv-loop μ-loop
 returns c =
     let b = c .before .before .before .before in
@@ -59,12 +35,6 @@ returns c =
     (search needs)
     (both (eq-eqb _ (a .d) (read-else (getD (a .rows .now) j []) (a .p) 0 1 (a .d) (omega arith) (omega arith) (b .if1 .taken)))
     (sym (c .before .agree .ensures) ∙ c .if2 .taken)))
-
-add-j : tie.Need-add-j Inv-loop μ-loop
-add-j c = search needs
-
-loop-less : tie.Need-loop-less Inv-loop μ-loop
-loop-less c = search needs
 
 loop-again : tie.Need-loop-again Inv-loop μ-loop
 loop-again c =
@@ -82,22 +52,6 @@ returns-2 : tie.Need-returns-2 Inv-loop μ-loop
 returns-2 c = ap not (every-done _ (c .before .loop .inv .1) (omega arith))
 
 pub parts-with-spec : {M : Type 1} → statement M
-parts-with-spec =
-    tie.close
-    (tie.spec
-    Inv-loop
-    μ-loop
-    loop-holds
-    mul-if1
-    index-1-if1
-    index-2-if1
-    mul-agree
-    element-copy-out-agree
-    mul-agree-2
-    element-copy-out-agree-2
-    agree-requires
-    returns
-    add-j
-    loop-less
-    loop-again
-    returns-2)
+parts-with-spec = tie.close (tie.spec Inv-loop μ-loop loop-holds (λ c. search needs) (λ c. search needs)
+    (λ c. search needs) (λ c. search needs) (λ c. search needs) (λ c. search needs) (λ c. search needs)
+    (λ c κs. search needs) returns (λ c. search needs) (λ c. search needs) loop-again returns-2)
