@@ -2,7 +2,7 @@
 use Prim.Native.Nat.{ℕ, _-_, _*_, _≤_, _<_}
 use native.Mathlib.Omega.{arith}
 use mathlib.Core.Path.{_≡_, refl, sym, ap, subst, _∙_}
-use mathlib.Core.Bool.{Bool, true, false, true≢false}
+use mathlib.Core.Bool.{Bool, true, false}
 use mathlib.Core.List as Lists
 use mathlib.Core.List.{[]}
 use lib.ListN.{length, getD}
@@ -11,24 +11,20 @@ use Rattle.basics.specs.Tests.{within, newest}
 use Rattle.rows.specs.Held.{standsIn, Orderly}
 use Rattle.rows.proofs.OrderLaws.{listed-below, order-front}
 use Rattle.simulation.specs.Calls as Calls
-use Rattle.simulation.specs.Calls.{Call, place, judgeIn, judge, reportLines}
-use Rattle.simulation.specs.Machine as Machine
-use Rattle.simulation.specs.Machine.{digits, labelStep, moved, step}
-use Rattle.simulation.proofs.Judged.{Verdict, turned, begins, updates, snaps, ends, judge-stranger, verdict, Inside}
+use Rattle.simulation.specs.Calls.{Call, place, judgeIn, judge}
+use Rattle.simulation.specs.Machine.{step}
+use Rattle.simulation.proofs.Judged.{Verdict, turned, begins, updates, snaps, ends, judge-stranger, verdict}
 use Rattle.transition.specs.Forms.{Answer, refuse, over, answered, stepOf}
 use Rattle.transition.specs.Sequences.{Steps}
 use Rattle.transition.proofs.Theorem.{step-written}
-use Rattle.moves.specs.Moves.{refusalNumber, moveOf, kindOf}
-use Rattle.moves.proofs.MoveLaws.{begun-job, place-below, same-kind}
-use Rattle.arrays.specs.Arrays.{Rows, Planes, Arrays, arrays, cell, phaseFor, restOf, stateOf}
+use Rattle.moves.specs.Moves.{refusalNumber, moveOf}
+use Rattle.moves.proofs.MoveLaws.{begun-job, place-below}
+use Rattle.arrays.specs.Arrays.{Arrays, cell, phaseFor, restOf}
 use Rattle.arrays.specs.WellFormed.{wellFormed}
 use Rattle.arrays.specs.Form.{lent}
-use Rattle.arrays.specs.Sizes.{Shaped}
 use Rattle.arrays.proofs.Passed.{passed, label-digits}
-use Rattle.engine.specs.Stores.{put, orderOf, labelsAfter, jobsAfter, phaseAfter, resultsAfter, handedOut}
-use Rattle.engine.specs.Contracts.{callOf, actionOf, Replies, Ready, doneOf, Carries, Judges}
-use Rattle.engine.proofs.Stays.{by-move, same-labels, same-results, same-phase, same-handed}
-use Rattle.engine.proofs.Carried.{Own, number-told, arrays-written, bytes-told}
+use Rattle.engine.specs.Stores.{orderOf}
+use Rattle.engine.specs.Contracts.{callOf, Ready, answerTo, doneOf, Carries, Judges}
 use Rattle.moves.specs.declared.Move.{Move}
 use Rattle.moves.specs.declared.Move.the-variants.{BeginLabel, SnapLabel, SnapScan, EndScan}
 use Rattle.engine.specs.declared.Reply.{Reply}
@@ -38,28 +34,6 @@ use Rattle.engine.specs.declared.Task.{Task}
 -- the labels of a well-formed table are in order
 pub orderly : (a : Arrays) → wellFormed a ≡ true → Orderly (a .count) (getD (a .labels) 0 [])
 orderly a e = let p = passed a e in record { low = p .low; high = p .high; valid = λ i l q h. label-digits a e false i q l h; free = p .free }
-
--- a declared move is taken by its own process, one of n
-pub own-move : (k job : ℕ) (m : Move) → Own k (moveOf k job m)
-own-move k job = by-move (λ m. Own k (moveOf k job m)) (λ x. tt) refl refl refl refl refl refl refl
-
-pub own-inside : (n k job : ℕ) → k < n → (m : Move) → Inside n (labelStep (moveOf k job m))
-own-inside n k job h = by-move (λ m. Inside n (labelStep (moveOf k job m))) (λ x. tt) tt tt h tt h tt tt
-
--- the one move that is a snap for a scan
-abbrev isScan : Calls.Move → Bool
-isScan (Calls.Move.refused x) = false
-isScan (Calls.Move.begins k job o) = false
-isScan (Calls.Move.updates k) = false
-isScan (Calls.Move.snaps k Calls.Label) = false
-isScan (Calls.Move.snaps k Calls.Scan) = true
-isScan (Calls.Move.ends k o) = false
-
-is-scan : (k job : ℕ) (m : Move) → isScan (moveOf k job m) ≡ true → m ≡ SnapScan
-is-scan k job = by-move (λ m. isScan (moveOf k job m) ≡ true → m ≡ SnapScan) (λ x. no) no no no (λ e. refl) no no no
-  where
-    no : {m : Move} → false ≡ true → m ≡ SnapScan
-    no e = absurd (true≢false (sym e))
 
 -- the end of a scan that is judged so has room for its report
 abbrev Roomy : ℕ → ℕ → Calls.Move → Type 0
@@ -100,6 +74,7 @@ module _ (a : Arrays) (ok : wellFormed a ≡ true) (q : Request) (room top : ℕ
       → (z .action ≡ SnapScan → order ≡ orderOf (a .count) (getD (a .labels) 0 [])) → Ready a z order room
   ready order m k v w o = record {
     passed = ok;
+    high = passed a ok .high;
     inside = omega (arith, k, inside);
     jobFits = λ e. omega (arith, v, job-fits (sym m ∙ e));
     isNewest = w;
@@ -116,14 +91,12 @@ module _ (a : Arrays) (ok : wellFormed a ≡ true) (q : Request) (room top : ℕ
       go false e = let s = judge-stranger (a .count) c e in s .1 ph ∙ sym (s .1 (restOf a .process (place c) .phase))
 
   -- so carrying it out is the step call
-  pub served : {z : Task} → z .action ≡ x .action → z .place ≡ x .place → z .job ≡ x .job → z .line ≡ x .line
-      → {buffer : Lists.List ℕ} {a′ : Arrays} {r : Reply} {buffer′ : Lists.List ℕ} → Carries a z buffer a′ r buffer′
+  pub served : {buffer : Lists.List ℕ} {a′ : Arrays} {r : Reply} {buffer′ : Lists.List ℕ} → Carries a x buffer a′ r buffer′
       → Steps lent a c buffer a′ (refusalNumber (r .refusal)) (r .written) buffer′
   unfolding step
-  served {z} m k v l {buffer} f =
-      let w : actionOf z ≡ judge (a .count) (restOf a) c = (λ y. moveOf (k y) (v y) (m y)) ∙ judged in
-      let s : answered lent (a .count) (doneOf a z) ≡ stepOf lent a c
-      = (λ y. answered lent (a .count) (moved (a .count) (digits (a .count)) (stateOf a) ((l ∙ j .line) y) (w y))) ∙ sym (step-written lent a c ok) in
+  served {buffer} f =
+      let s : answered lent (a .count) (doneOf a x) ≡ stepOf lent a c
+      = (λ y. answered lent (a .count) (answerTo a (j .line y) (judged y))) ∙ sym (step-written lent a c ok) in
       record {
         table = f .table ∙ ap (λ (u : Answer Arrays). u .table) s;
         number = f .number ∙ ap (λ (u : Answer Arrays). u .refusal) s;
@@ -142,56 +115,11 @@ ill-formed a c buffer e =
       report = sym (ap (λ (u : Answer Arrays). over (u .bytes) buffer) s);
     }
 
--- WHAT THE PARTS OF A TASK ASK FOR, and that a task whose parts are done is carried out
-module _ {a : Arrays} {x : Task} {order : Lists.List ℕ} {room : ℕ} (s : Ready a x order room) where
-  pub in-arrays : (x .place < 32) × (a .count ≤ 32)
-  in-arrays = (omega (arith, s .inside, passed a (s .passed) .high), passed a (s .passed) .high)
-
-  pub in-table : (x .place < a .count) × (a .count ≤ 32)
-  in-table = (s .inside, passed a (s .passed) .high)
-
-  pub snap-asks : x .action ≡ SnapLabel
-      → Orderly (a .count) (getD (a .labels) 0 []) × (x .newest ≡ newest (a .count) (standsIn (a .count) (getD (a .labels) 0 [])))
-  snap-asks e = (orderly a (s .passed), s .isNewest e)
-
-  pub scan-asks : x .action ≡ SnapScan → (p : ℕ) → p < a .count → getD order p 0 < 32
-  scan-asks e p h = omega (
-    arith,
-    in-arrays,
-    listed-below _ _ _ (order-front 32 (standsIn (a .count) (getD (a .labels) 0 [])) (a .count) order
-        (s .isOrder e)) p h,
-  )
-
-  scans : actionOf x ≡ Calls.Move.snaps (x .place) Calls.Scan → order ≡ orderOf (a .count) (getD (a .labels) 0 [])
-  scans e = s .isOrder (is-scan (x .place) (x .job) (x .action) (ap isScan e))
-
-  pub carried : Shaped a → {buffer buffer′ : Lists.List ℕ} {r : Reply} → Replies (a .count) (x .line) (kindOf (x .action))
-      (getD (a .results) (x .place) []) buffer r buffer′
-      → {l s′ : Planes} {j : Rows} {v : ℕ} → l ≡ labelsAfter (a .count) (a .labels) (labelStep (moveOf (x .place) 0 (x .action)))
-      → j ≡ jobsAfter (a .jobs) (actionOf x) → v ≡ phaseAfter (cell (a .control) 0 (x .place) 0) (kindOf (x .action))
-      → s′ ≡ resultsAfter (a .count) order (getD (a .jobs) 0 []) (a .results) (moveOf (x .place) 0 (x .action))
-      → Carries a x buffer (arrays (a .count) l j (put (a .control) 0 (x .place) v) s′) r buffer′
-  carried g {buffer} told el ej ev es =
-      let k = x .place in
-      let w = actionOf x in
-      let n = a .count in
-      let bytes : reportLines (x .line) 1 (handedOut n (getD (a .results) k []) (kindOf (x .action))) ≡ doneOf a x .bytes
-      = ap (reportLines (x .line) 1) (same-handed k (x .job) n (getD (a .results) k []) (x .action))
-      ∙ bytes-told a g (s .passed) k (s .inside) w own within order scans (x .line) in
-      record {
-        table = (λ i. arrays n
-            ((el ∙ ap (labelsAfter n (a .labels)) (same-labels k (x .job) (x .action))) i)
-            (ej i)
-            (put (a .control) 0 k ((ev ∙ same-phase k (x .job) (cell (a .control) 0 k 0) (x .action)) i))
-            ((es ∙ same-results k (x .job) n order (getD (a .jobs) 0 []) (a .results) (x .action)) i))
-            ∙ arrays-written a g (s .passed) k (s .inside) w own within order scans (x .line);
-        number = told .number ∙ same-kind k (x .job) (x .action) ∙ number-told a g (s .passed) w;
-        count = told .count ∙ ap length bytes;
-        report = told .report ∙ ap (λ b. over b buffer) bytes;
-      }
-    where
-      own : Own (x .place) (actionOf x)
-      own = own-move (x .place) (x .job) (x .action)
-
-      within : Inside (a .count) (labelStep (actionOf x))
-      within = own-inside (a .count) (x .place) (x .job) (s .inside) (x .action)
+-- the order that a scan is given has stations in it
+pub order-inside : {a : Arrays} {x : Task} {order : Lists.List ℕ} {room : ℕ} → Ready a x order room → x .action ≡ SnapScan
+    → (p : ℕ) → p < a .count → getD order p 0 < 32
+order-inside {a} {order = order} s e p h = omega (
+  arith,
+  s .high,
+  listed-below _ _ _ (order-front 32 (standsIn (a .count) (getD (a .labels) 0 [])) (a .count) order (s .isOrder e)) p h,
+)

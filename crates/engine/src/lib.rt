@@ -2,22 +2,21 @@
 ghost use mathlib.Core.Path.{_≡_};
 ghost use mathlib.Core.Logic.{_≢_};
 ghost use mathlib.Core.Bool.{true};
-ghost use mathlib.Core.List.{[]};
 ghost use Prim.Native.Nat.{ℕ, _*_, _≤_, _<_};
 ghost use lib.ListN.{length, getD, replicate};
 ghost use Rattle.basics.specs.Tests.{newest};
 ghost use Rattle.rows.specs.Held.{standsIn, Orderly};
 ghost use Rattle.simulation.specs.Calls.{reportLines};
-ghost use Rattle.simulation.specs.Machine.{labelStep};
 ghost use Rattle.transition.specs.Forms.{over};
 ghost use Rattle.transition.specs.Sequences.{Steps};
-ghost use Rattle.moves.specs.Moves.{refusalNumber, moveOf, kindOf};
-ghost use Rattle.moves.specs.declared.Move.the-variants.{BeginLabel, SnapLabel, SnapScan, EndScan};
+ghost use Rattle.moves.specs.Moves.{refusalNumber};
+ghost use Rattle.moves.specs.declared.Move.the-variants.{SnapLabel, SnapScan};
+ghost use Rattle.moves.specs.declared.Refusal.the-variants.{Accepted};
 ghost use Rattle.arrays.specs.Arrays.{arrays, resultOf};
 ghost use Rattle.arrays.specs.WellFormed.{wellFormed};
 ghost use Rattle.arrays.specs.Form.{lent};
-ghost use Rattle.engine.specs.Stores.{orderOf, scanRows, labelsAfter, jobsAfter, resultsAfter, phaseAfter};
-ghost use Rattle.engine.specs.Contracts.{callOf, Replies, Ready, Carries, Judges};
+ghost use Rattle.engine.specs.Stores.{orderOf, scanRows};
+ghost use Rattle.engine.specs.Contracts.{callOf, Ready, Carries, Judges};
 use arrays::Control;
 use arrays::END_LABEL;
 use arrays::END_SCAN;
@@ -101,104 +100,13 @@ fn write_result(rows: &[[u32; 32]; 2], n: usize, line: u64, out: &mut [u8])
     }
 }
 
-// A move's change to the labels at a place.
-fn store_labels(m: Move, place: usize, n: usize, top: usize, labels: &mut Labels)
-    requires { ⌜ (place < n) × (n ≤ 32) ⌝ }
-    requires { ⌜ (m ≡ SnapLabel → Orderly n (getD (now labels) 0 []) × (top ≡ newest n (standsIn n (getD (now labels) 0 [])))) ⌝ }
-    ensures { λ _. ⌜ now (labels .exit) ≡ labelsAfter n (now (labels .entry)) (labelStep (moveOf place 0 m)) ⌝ }
+// The reply to a call that is served.
+fn done(written: usize) -> Reply
+    ensures { λ r. ⌜ r ≡ record { refusal = Accepted; written = written } ⌝ }
 {
-    match m {
-        Move::SnapLabel => {
-            let own = labels[PENDING][place];
-            labels[PENDING][place] = rows::choice::pending_by(&labels[CURRENT], n, top, place, own);
-        }
-        Move::Update => {
-            labels[CURRENT][place] = labels[PENDING][place];
-        }
-        _ => {}
-    }
-}
-
-// Its change to the jobs.
-fn store_jobs(m: Move, place: usize, job: u64, jobs: &mut Jobs)
-    requires { ⌜ place < 32 ⌝ }
-    requires { ⌜ (m ≡ BeginLabel → job ≤ 4294967295) ⌝ }
-    ensures { λ _. ⌜ now (jobs .exit) ≡ jobsAfter (now (jobs .entry)) (moveOf place job m) ⌝ }
-{
-    match m {
-        Move::BeginLabel => {
-            jobs[PENDING][place] = job as u32;
-        }
-        Move::Update => {
-            jobs[CURRENT][place] = jobs[PENDING][place];
-        }
-        _ => {}
-    }
-}
-
-// Its change to the scan results.
-fn store_result(
-    m: Move,
-    place: usize,
-    n: usize,
-    order: &[usize; 32],
-    jobs: &Jobs,
-    results: &mut Results,
-)
-    requires { ⌜ (place < 32) × (n ≤ 32) ⌝ }
-    requires { ⌜ (m ≡ SnapScan → (p : ℕ) → p < n → getD (now order) p 0 < 32) ⌝ }
-    ensures { λ _. ⌜ now (results .exit)
-        ≡ resultsAfter n (now (order .entry)) (getD (now (jobs .entry)) 0 []) (now (results .entry)) (moveOf place 0 m) ⌝ }
-{
-    match m {
-        Move::SnapScan => {
-            results[place] = scan_result(order, &jobs[CURRENT], n);
-        }
-        _ => {}
-    }
-}
-
-// The number of the phase after a move; a refused call leaves it.
-fn phase_after(m: Move, old: u8) -> u8
-    ensures { λ r. ⌜ r ≡ phaseAfter old (kindOf m) ⌝ }
-{
-    match m {
-        Move::Refused(_) => old,
-        Move::BeginLabel => SNAP_LABEL,
-        Move::BeginScan => SNAP_SCAN,
-        Move::SnapLabel => UPDATE,
-        Move::SnapScan => END_SCAN,
-        Move::Update => END_LABEL,
-        Move::EndLabel => IDLE,
-        Move::EndScan => IDLE,
-    }
-}
-
-// The reply to a move; the end of a scan writes its report.
-fn report_due(
-    m: Move,
-    place: usize,
-    n: usize,
-    line: u64,
-    results: &Results,
-    report: &mut [u8],
-) -> Reply
-    requires { ⌜ (place < 32) × (n ≤ 32) ⌝ }
-    requires { ⌜ (m ≡ EndScan → n * 29 ≤ length (now report)) ⌝ }
-    ensures { λ r. ⌜ Replies n line (kindOf m) (getD (now (results .entry)) place []) (now (report .entry)) r (now (report .exit)) ⌝ }
-{
-    match m {
-        Move::EndScan => {
-            write_result(&results[place], n, line, report);
-            Reply {
-                refusal: Refusal::Accepted,
-                written: n * 29,
-            }
-        }
-        _ => Reply {
-            refusal: moves::refusal_of(m),
-            written: 0,
-        },
+    Reply {
+        refusal: Refusal::Accepted,
+        written,
     }
 }
 
@@ -220,12 +128,53 @@ pub fn carry_out(
     arrays::shaped(*labels, *jobs, *control, *results);
     let m = task.action;
     let place = task.place;
-    let reply = report_due(m, place, n, task.line, results, report);
-    store_labels(m, place, n, task.newest, labels);
-    store_result(m, place, n, order, jobs, results);
-    store_jobs(m, place, task.job, jobs);
-    control[PHASE][place] = phase_after(m, control[PHASE][place]);
-    reply
+    match m {
+        Move::Refused(refusal) => Reply {
+            refusal,
+            written: 0,
+        },
+        Move::BeginLabel => {
+            jobs[PENDING][place] = task.job as u32;
+            control[PHASE][place] = SNAP_LABEL;
+            done(0)
+        }
+        Move::BeginScan => {
+            control[PHASE][place] = SNAP_SCAN;
+            done(0)
+        }
+        Move::SnapLabel => {
+            let own = labels[PENDING][place];
+            labels[PENDING][place] = rows::choice::pending_by(
+                &labels[CURRENT],
+                n,
+                task.newest,
+                place,
+                own,
+            );
+            control[PHASE][place] = UPDATE;
+            done(0)
+        }
+        Move::SnapScan => {
+            results[place] = scan_result(order, &jobs[CURRENT], n);
+            control[PHASE][place] = END_SCAN;
+            done(0)
+        }
+        Move::Update => {
+            labels[CURRENT][place] = labels[PENDING][place];
+            jobs[CURRENT][place] = jobs[PENDING][place];
+            control[PHASE][place] = END_LABEL;
+            done(0)
+        }
+        Move::EndLabel => {
+            control[PHASE][place] = IDLE;
+            done(0)
+        }
+        Move::EndScan => {
+            control[PHASE][place] = IDLE;
+            write_result(&results[place], n, task.line, report);
+            done(n * 29)
+        }
+    }
 }
 
 // Judges a call on a table of n stations with this room for its report; `top` is the newest station, as far as it is known.

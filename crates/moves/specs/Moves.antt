@@ -55,18 +55,6 @@ moveOf k job Moves.Update = Calls.Move.updates k
 moveOf k job EndLabel = Calls.Move.ends k Calls.Label
 moveOf k job EndScan = Calls.Move.ends k Calls.Scan
 
--- the same for what depends neither on the process nor on the job
-abbrev pub kindOf : Move → Calls.Move
-kindOf m = moveOf 0 0 m
-
--- the refusal number of a move
-abbrev pub numberOf : Calls.Move → ℕ
-numberOf (Calls.Move.refused x) = x
-numberOf (Calls.Move.begins k job o) = 0
-numberOf (Calls.Move.updates k) = 0
-numberOf (Calls.Move.snaps k o) = 0
-numberOf (Calls.Move.ends k o) = 0
-
 -- a call from its parts
 abbrev pub called : ℕ → ℕ → ℕ → ℕ → ℕ → Call
 called line code station job room = record { line = line; code = code; station = station; job = job; room = room }

@@ -2,7 +2,7 @@
 ghost use mathlib.Core.Path.{_≡_};
 ghost use Prim.Native.Nat.{ℕ, _-_, _≤_};
 ghost use Rattle.simulation.specs.Calls.{snaps, ends, unless, jobFits, roomFor, byPhase, judgeIn};
-ghost use Rattle.moves.specs.Moves.{operationOf, phaseOf, refusalNumber, moveOf, kindOf, numberOf, called, placeOf};
+ghost use Rattle.moves.specs.Moves.{operationOf, phaseOf, refusalNumber, moveOf, called, placeOf};
 
 // What a process is doing: it takes a label, or it scans (document 01: mark, list).
 pub enum Operation {
@@ -202,22 +202,6 @@ pub fn judge(n: usize, p: Phase, code: u64, station: u64, job: u64, room: usize)
         return Move::Refused(Refusal::UnknownStation);
     }
     by_code(n, code, job, room, p)
-}
-
-// The refusal of a move.
-pub fn refusal_of(m: Move) -> Refusal
-    ensures { λ r. ⌜ refusalNumber r ≡ numberOf (kindOf m) ⌝ }
-{
-    match m {
-        Move::Refused(r) => r,
-        Move::BeginLabel => Refusal::Accepted,
-        Move::BeginScan => Refusal::Accepted,
-        Move::SnapLabel => Refusal::Accepted,
-        Move::SnapScan => Refusal::Accepted,
-        Move::Update => Refusal::Accepted,
-        Move::EndLabel => Refusal::Accepted,
-        Move::EndScan => Refusal::Accepted,
-    }
 }
 
 // The place of a station of n, from 0; that of the first if there is no such station.

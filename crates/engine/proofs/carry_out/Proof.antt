@@ -1,49 +1,98 @@
--- Each part keeps the contract for its array; `carried` puts them together.
-use Rattle.engine.proofs.Served.{in-arrays, in-table, snap-asks, scan-asks, carried}
+-- Each arm is a move of its own, and Carried has a law for it.
+use Rattle.engine.proofs.Served.{orderly, order-inside}
+use Rattle.engine.proofs.Carried.{refused, begins-label, begins-scan, snaps-label, snaps-scan, updates, ends-label, ends-scan}
+use native.Mathlib.Omega.{arith}
+use mathlib.Core.Path.{refl}
 use borrow.Author.Needs.{needs}
 use Rattle.engine.proofs.carry_out.Statement.{statement}
 use Rattle.engine.proofs.carry_out.Tie as tie
 
-report-due-requires : tie.Need-report-due-requires
-report-due-requires c κs = let s = c .before .before .before .before .before .before .before .before in (in-arrays (s .pre), s .pre .hasRoom)
+cast-jobs : tie.Need-cast-jobs
+cast-jobs c =
+    let t = c .before in
+    let s = t .before .before .before .before .before .before .before .before in
+    omega (arith, s .pre .jobFits (t .enum-told .given .1))
 
-store-labels-requires : tie.Need-store-labels-requires
-store-labels-requires c κs = let s = c .before .before .before .before .before .before .before .before .before .before .before .before in
-    (in-table (s .pre), snap-asks (s .pre))
+pending-by-requires : tie.Need-pending-by-requires
+pending-by-requires c κs =
+    let t = c .before .before in
+    let s = t .before .before .before .before .before .before .before .before in
+    (orderly _ (s .pre .passed), (s .pre .isNewest (t .enum-told3 .given .1), s .pre .inside))
 
-store-result-requires : tie.Need-store-result-requires
-store-result-requires c κs =
-    let z = c .before .before .before .before .before .before .before .before .before in
-    let s = z .before .before .before .before .before .before in
-    (in-arrays (s .pre), scan-asks (s .pre))
+scan-result-requires : tie.Need-scan-result-requires
+scan-result-requires c κs =
+    let t = c .before in
+    let s = t .before .before .before .before .before .before .before .before in
+    (s .pre .high, order-inside (s .pre) (t .enum-told4 .given .1))
 
-store-jobs-requires : tie.Need-store-jobs-requires
-store-jobs-requires c κs =
-    let s = c .before .before .before .before .before .before .before .before .before .before .before .before .before .before .before .before .before in
-    (in-arrays (s .pre) .0, s .pre .jobFits)
-
-index-2-phase-after : tie.Need-index-2-phase-after
-index-2-phase-after c =
-    let z = c .before .before .before .before .before .before .before .before .before .before .before .before in
-    in-arrays (z .before .before .before .before .before .before .pre) .0
-
-index-2-control : tie.Need-index-2-control
-index-2-control c =
-    let z = c .before .before .before .before .before .before .before .before .before .before .before .before .before .before in
-    in-arrays (z .before .before .before .before .before .before .pre) .0
+write-result-requires : tie.Need-write-result-requires
+write-result-requires c κs =
+    let t = c .before .before in
+    let s = t .before .before .before .before .before .before .before .before in
+    (s .pre .high, s .pre .hasRoom (t .enum-told7 .given .1))
 
 returns : tie.Need-returns
 returns c =
-    let jobs = c .before .before in
-    let result = jobs .before .before in
-    let labels = result .before .before .before in
-    let told = labels .before .before .before .before in
-    let z = told .before .before .before in
-    let s = z .before .before .before .before .before .before in
-    carried (s .pre) (z .shaped .ensures _) (told .report-due .ensures) (labels .store-labels .ensures) (jobs .store-jobs .ensures) (c .phase-after .ensures)
-    (result .store-result .ensures)
+    let s = c .before .before .before in
+    refused (s .before .before .before .before .before .before .pre) (s .shaped .ensures _) (c .before .m .given .1) refl
+
+returns-2 : tie.Need-returns-2
+returns-2 c =
+    let t = c .before .before in
+    let s = t .before .before in
+    begins-label (s .before .before .before .before .before .before .pre) (s .shaped .ensures _) _ _ (t .enum-told .given .1) (c .done .ensures)
+
+returns-3 : tie.Need-returns-3
+returns-3 c =
+    let t = c .before in
+    let s = t .before .before in
+    begins-scan (s .before .before .before .before .before .before .pre) (s .shaped .ensures _) _ _ (t .enum-told2 .given .1) (c .done2 .ensures)
+
+returns-4 : tie.Need-returns-4
+returns-4 c =
+    let t = c .before .before .before .before in
+    let s = t .before .before in
+    snaps-label (s .before .before .before .before .before .before .pre) (s .shaped .ensures _)
+    (c .before .pending-by .ensures) _ _ (t .enum-told3 .given .1) (c .done3 .ensures)
+
+returns-5 : tie.Need-returns-5
+returns-5 c =
+    let t = c .before .before .before in
+    let s = t .before .before in
+    snaps-scan (s .before .before .before .before .before .before .pre) (s .shaped .ensures _)
+    (c .before .scan-result .ensures) _ _ (t .enum-told4 .given .1) (c .done4 .ensures)
+
+returns-6 : tie.Need-returns-6
+returns-6 c =
+    let t = c .before .before .before in
+    let s = t .before .before in
+    updates (s .before .before .before .before .before .before .pre) (s .shaped .ensures _) _ _ (t .enum-told5 .given .1) (c .done5 .ensures)
+
+returns-7 : tie.Need-returns-7
+returns-7 c =
+    let t = c .before in
+    let s = t .before .before in
+    ends-label (s .before .before .before .before .before .before .pre) (s .shaped .ensures _) _ _ (t .enum-told6 .given .1) (c .done6 .ensures)
+
+returns-8 : tie.Need-returns-8
+returns-8 c =
+    let t = c .before .before .before .before .before .before in
+    let s = t .before .before in
+    ends-scan (s .before .before .before .before .before .before .pre) (s .shaped .ensures _)
+    (c .before .before .before .write-result .ensures) (t .enum-told7 .given .1) (c .done7 .ensures)
 
 pub carry-out-spec : {M : Type 1} → statement M
-carry-out-spec = tie.close (tie.spec (λ c κs. search needs) report-due-requires store-labels-requires
-    store-result-requires store-jobs-requires (λ c. search needs) index-2-phase-after (λ c κs. search needs)
-    (λ c. search needs) index-2-control (λ c. search needs) returns)
+carry-out-spec = tie.close (tie.spec (λ c κs. search needs) (λ c. search needs) (λ c. search needs) cast-jobs
+    (λ c. search needs) (λ c. search needs) (λ c. search needs) (λ c. search needs) (λ c. search needs)
+    (λ c κs. search needs) (λ c. search needs) (λ c. search needs) (λ c. search needs) (λ c κs. search needs)
+    (λ c. search needs) (λ c. search needs) (λ c. search needs) (λ c. search needs) (λ c. search needs)
+    pending-by-requires (λ c. search needs) (λ c. search needs) (λ c. search needs) (λ c. search needs)
+    (λ c. search needs) (λ c κs. search needs) (λ c. search needs) (λ c. search needs) scan-result-requires
+    (λ c. search needs) (λ c. search needs) (λ c. search needs) (λ c. search needs) (λ c κs. search needs)
+    (λ c. search needs) (λ c. search needs) (λ c. search needs) (λ c. search needs) (λ c. search needs)
+    (λ c. search needs) (λ c. search needs) (λ c. search needs) (λ c. search needs) (λ c. search needs)
+    (λ c. search needs) (λ c. search needs) (λ c. search needs) (λ c. search needs) (λ c. search needs)
+    (λ c κs. search needs) (λ c. search needs) (λ c. search needs) (λ c. search needs) (λ c κs. search needs)
+    (λ c. search needs) (λ c. search needs) (λ c. search needs) (λ c. search needs) (λ c. search needs)
+    write-result-requires (λ c. search needs) (λ c κs. search needs) returns returns-2 returns-3 returns-4 returns-5
+    returns-6 returns-7 (λ c. search needs) returns-8)

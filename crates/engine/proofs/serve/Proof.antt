@@ -28,7 +28,7 @@ returns : tie.Need-returns
 returns c =
     let j = c .before .before .before .before .before .before .before .before .before .before .before .before .before in
     let s = j .before .before .before in
-    served _ (s .pre) (s .args .request) _ 0 (j .judge .result) (j .judge .ensures) refl refl refl refl (c .before .before .carry-out .ensures)
+    served _ (s .pre) (s .args .request) _ 0 (j .judge .result) (j .judge .ensures) (c .before .before .carry-out .ensures)
 
 pub serve-spec : {M : Type 1} → statement M
 serve-spec = tie.close (tie.spec judge-requires (λ c. search needs) newest-for-requires (λ c. search needs)
