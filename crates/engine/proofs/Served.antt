@@ -13,7 +13,7 @@ use Rattle.rows.proofs.OrderLaws.{listed-below, order-front}
 use Rattle.simulation.specs.Calls as Calls
 use Rattle.simulation.specs.Calls.{Call, place, judgeIn, judge}
 use Rattle.simulation.specs.Machine.{step}
-use Rattle.simulation.proofs.Judged.{Verdict, turned, begins, updates, snaps, ends, judge-stranger, verdict}
+use Rattle.simulation.proofs.Judged.{Verdict, turned, begins, updates, snaps, ends, judge-unknown-station, verdict}
 use Rattle.transition.specs.Forms.{Answer, refuse, over, answered, stepOf}
 use Rattle.transition.specs.Sequences.{Steps}
 use Rattle.transition.proofs.Theorem.{step-written}
@@ -88,7 +88,7 @@ module _ (a : Arrays) (ok : wellFormed a ≡ true) (q : Request) (room top : ℕ
     where
       go : (b : Bool) → within 1 (a .count) (q .station) ≡ b → judgeIn (a .count) ph c ≡ judge (a .count) (restOf a) c
       go true e = ap (λ k. judgeIn (a .count) (phaseFor (cell (a .control) 0 k 0)) c) (j .place ∙ rw e refl)
-      go false e = let s = judge-stranger (a .count) c e in s .1 ph ∙ sym (s .1 (restOf a .process (place c) .phase))
+      go false e = let s = judge-unknown-station (a .count) c e in s .1 ph ∙ sym (s .1 (restOf a .process (place c) .phase))
 
   -- so carrying it out is the step call
   pub served : {buffer : Lists.List ℕ} {a′ : Arrays} {r : Reply} {buffer′ : Lists.List ℕ} → Carries a x buffer a′ r buffer′

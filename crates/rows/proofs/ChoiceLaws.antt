@@ -11,7 +11,7 @@ use lib.ListN.{getD}
 use lib.Dec.{eqb, leb, ltb}
 use borrow.Author.Tests.{eq-eqb, ne-eqb, le-leb, lt-leb, lt-ltb, le-ltb}
 use Rattle.basics.specs.Tests.{count, firstFrom, newest}
-use Rattle.label.specs.Labels.{Label, agrees, firstDifference, nextLabel, others, level, newLabel}
+use Rattle.label.specs.Labels.{Label, agrees, firstDifference, others, level, newLabel}
 use Rattle.label.specs.Rows.{row}
 use Rattle.rows.specs.Held.{held, standsIn, pendingIn}
 use Rattle.basics.proofs.Facts.{right-no, first-is, firstFrom-same, count-bound}
@@ -97,17 +97,6 @@ module _ (n k : ℕ) (s : ℕ → ℕ) where
         (λ b. enough-yes p l (rw (upto-fewer (p + 1) (omega arith)) at (found b)))
 
 -- THE LABELS
-
--- the new label is that of other labels which are the same for the m + 1 stations
-module _ (m : ℕ) (t u : ℕ → Label) (e : (j : ℕ) → j < suc m → t j ≡ u j) where
-  level-same : (top : Label) (k : ℕ) → level m t top k ≡ level m u top k
-  unfolding level others
-  level-same top k = firstFrom-same m 0 _ _ (λ p l. ap (leb (m - p)) (count-same (suc m) _ _
-      (λ j h. ap (λ (a : Label). not (eqb j k) && agrees (suc p) a top) (e j h))))
-
-  pub new-label-same : (fill z k : ℕ) → z < suc m → newLabel m fill t z k ≡ newLabel m fill u z k
-  unfolding newLabel
-  new-label-same fill z k h = ap₂ (λ (a : Label) (p : ℕ). nextLabel fill a p) (e z h) (level-same (t z) k ∙ ap (λ (a : Label). level m u a k) (e z h))
 
 -- the level, by how many digits each of the n stations shares with the label `top`
 pub level-shared : (n : ℕ) (t : ℕ → Label) (top : Label) (s : ℕ → ℕ) (k : ℕ) → 1 ≤ n → ((j : ℕ) → j < n → s j ≡ firstDifference (n - 1) (t j) top)

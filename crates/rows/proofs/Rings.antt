@@ -54,13 +54,6 @@ alike true b p q = sym (p refl)
 alike false true p q = q refl
 alike false false p q = refl
 
--- the test sees only the first m + 1 labels
-pub no-ring-same : (m : ℕ) (t u : ℕ → Label) → ((i : ℕ) → i < suc m → t i ≡ u i) → noRing m t ≡ noRing m u
-unfolding noRing
-no-ring-same m t u e =
-    every-same m _ _ (λ p lp. every-same (suc m) _ _ (λ i li. every-same (suc m) _ _ (λ j lj. every-same (suc m) _ _ (λ k lk.
-    λ x. not (agrees p (e i li x) (e j lj x) && agrees p (e j lj x) (e k lk x) && eqb (e i li x p) 3 && eqb (e j lj x p) 4 && eqb (e k lk x p) 5)))))
-
 module _ (n : ℕ) (t : ℕ → Label) (p i : ℕ) where
   abbrev parting : ℕ → ℕ → Bool
   parting d j = eqb (t j p) d && agrees p (t i) (t j)

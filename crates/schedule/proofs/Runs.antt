@@ -1,5 +1,5 @@
 -- What a line adds to a run, what a whole file comes to, and what printed bytes leave in a buffer: for the code that serves a file's lines one by one.
-use Prim.Native.Nat.{ℕ, _+_, _*_, _≤_}
+use Prim.Native.Nat.{ℕ, _+_, _≤_}
 use native.Mathlib.Omega.{arith}
 use mathlib.Core.Path.{_≡_, refl, sym, ap, _∙_}
 use mathlib.Core.Logic.{_≢_}
@@ -20,7 +20,7 @@ use Rattle.moves.specs.declared.Refusal.{Refusal}
 use Rattle.moves.specs.declared.Refusal.the-variants.{Accepted}
 use Rattle.schedule.specs.Lines.{nextLine, headerRead}
 use Rattle.schedule.specs.Sessions.{Session, session, isFinal, standing, ended, stepLine, serveOf}
-use Rattle.schedule.specs.Files.{pieces, stepLines, refusalLine, printed, behind, runLines, fileRun}
+use Rattle.schedule.specs.Files.{stepLines, refusalLine, printed, behind, runLines, fileRun}
 use Rattle.schedule.proofs.SessionLaws.{header-refused, serve-next}
 use Rattle.schedule.specs.declared.Line.the-variants.{Step, Refused}
 use Rattle.schedule.specs.declared.Header.the-variants as Headers
@@ -96,9 +96,6 @@ rest-after bs l p = ap (λ (x : Lists.List ℕ). drop (length x) bs) p ∙ go (l
     go false e = let h = leb-false 18 (length bs) e in
         ap (λ (k : ℕ). drop k bs) (ap length (take-all 18 bs (omega arith)))
         ∙ drop-of-length-le bs {i = length bs} (omega arith) ∙ sym (drop-of-length-le bs {i = 18} (omega arith))
-
-pub rest-room : (bs : Lists.List ℕ) (k room : ℕ) {rest : Lists.List ℕ} → rest ≡ drop k bs → 928 * pieces bs + 928 ≤ room → 928 * pieces rest ≤ room
-rest-room bs k room e h = omega (arith, ap length e ∙ length-drop k bs)
 
 -- BUFFERS
 
