@@ -28,7 +28,10 @@ fn changed(s: Station, other: Station, letter: u8, p: usize, v: u8, job: u32) ->
             next.pending_label[p % 31] = v;
         }
         b'e' => {
-            next.scan_result[p] = Entry { station: v, job };
+            next.scan_result[p] = Entry {
+                station: v as u32,
+                job,
+            };
         }
         b'j' => {
             next.job = job;

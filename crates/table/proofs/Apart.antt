@@ -26,7 +26,7 @@ use Rattle.arrays.specs.Arrays.{Rows, Arrays, arrays, cell, phaseNumber, phaseF
 use Rattle.arrays.specs.WellFormed.{wellFormed}
 use Rattle.arrays.specs.Sizes.{Sized, Shaped}
 use Rattle.arrays.proofs.States.{tabulate-is, two-lists, one-list, phase-back, phase-low, number-back, lent-lawful, written-held}
-use Rattle.table.specs.Tables.{declaredOperation, declaredPhase, entry, blank, rowsOf, entriesOf, Bytes, at, apart, stationOf, together, declared}
+use Rattle.table.specs.Tables.{declaredOperation, declaredPhase, entry, blank, rowsOf, entriesOf, at, apart, stationOf, together, declared}
 use Rattle.table.specs.declared.Entry.{Entry}
 use Rattle.table.specs.declared.Station.{Station}
 use Rattle.table.specs.declared.Table.{Table}
@@ -172,7 +172,6 @@ pub record Long (s : Station) : Type 0 where
   pub label : length (s .label) ≡ 31
   pub pending : length (s .«pending_label») ≡ 31
   pub result : length (s .«scan_result») ≡ 32
-  pub stations : (p : ℕ) → p < 32 → getD (s .«scan_result») p blank .station ≤ 255
 
 pub record Whole (t : Table) : Type 0 where
   pub places : length (t .stations) ≡ 32
@@ -224,8 +223,3 @@ module _ (t : Table) (w : Whole t) where
   pub declared-written : wellFormed (apart t) ≡ true → together (arraysOf (t .count) (stateOf (apart t))) ≡ t
   unfolding apart
   declared-written e = ap together (written-held (apart t) apart-shaped e) ∙ together-apart
-
-  pub apart-bytes : (i : ℕ) → i < 32 → Bytes (getD (apart t .results) i [])
-  unfolding apart
-  apart-bytes i h p l = rw (element (λ k. rowsOf (at t k .«scan_result»)) [] i h)
-      (rw (element (λ q. getD (at t i .«scan_result») q blank .station) 0 p l) (w .each i h .stations p l))

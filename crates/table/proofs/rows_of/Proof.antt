@@ -23,9 +23,9 @@ loop-holds c = (search needs, filled-none 32 _ 0, filled-none 32 _ 0)
 
 loop-again : tie.Need-loop-again Inv-loop μ-loop
 loop-again c =
-    let l = c .before .before .before .loop in (
+    let l = c .before .before .loop in (
       search needs,
-      rw (l .inv .1) (filled-more 32 _ 0 (l .p) _ (search needs) (c .wide .ensures)),
+      rw (l .inv .1) (filled-more 32 _ 0 (l .p) _ (search needs) refl),
       rw (l .inv .2) (filled-more 32 _ 0 (l .p) _ (search needs) refl),
     )
 
@@ -36,5 +36,5 @@ returns c =
 
 pub rows-of-spec : {M : Type 1} → statement M
 rows-of-spec = tie.close (tie.spec Inv-loop μ-loop loop-holds (λ c. search needs) (λ c. search needs)
-    (λ c κs. search needs) (λ c. search needs) (λ c. search needs) (λ c. search needs) (λ c. search needs)
-    (λ c. search needs) (λ c. search needs) loop-again returns)
+    (λ c. search needs) (λ c. search needs) (λ c. search needs) (λ c. search needs) (λ c. search needs)
+    (λ c. search needs) loop-again returns)
