@@ -8,7 +8,7 @@ use Prim.Native.Nat.{ℕ, _+_, _-_, _*_, _/_, _≤_, _<_, min}
 use native.Mathlib.Decide.{decLt}
 use native.Mathlib.Omega.{arith}
 use lib.ListN.{length, take, drop, length-append, length-take, length-drop, drop-of-length-le}
-use lib.Seq.{length-take-le}
+use lib.Seq.{take-at, length-take-le}
 use borrow.Rule.Slice.PartMut.{midOf, putMid}
 use Rattle.simulation.specs.Calls.{Call}
 use Rattle.transition.specs.Forms.{over}
@@ -237,6 +237,9 @@ module _ {s : Session Arrays} {chunk : Lists.List ℕ} {a : Arrays} {r : Progres
 
   pub reports-inside : r .written ≤ length buffer′
   reports-inside = omega (arith, f .written, ap length (f .report) ∙ length-append (f .bytes) (drop (length (f .bytes)) buffer))
+
+  pub reports-shown : take (r .written) buffer′ ≡ f .bytes
+  reports-shown = rw (f .report, f .written) (take-at (f .bytes) (drop (length (f .bytes)) buffer) (length (f .bytes)) refl)
 
   -- with room for a line, something is read
   pub reports-on : 0 < length chunk → 928 ≤ length buffer → refusalNumber (r .refusal) ≡ 0 → 0 < r .read
