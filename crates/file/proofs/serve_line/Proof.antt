@@ -40,6 +40,5 @@ returns-2 c =
     )
 
 pub serve-line-spec : {M : Type 1} → statement M
-serve-line-spec = tie.close (tie.spec (λ c. search needs) (λ c. search needs) (λ c. search needs)
-    (λ c κs. search needs) carry-out-requires (λ c. search needs) refresh-order-requires (λ c κs. search needs)
-    (λ c. search needs) returns (λ c κs. search needs) (λ c. search needs) returns-2)
+serve-line-spec = tie.close (tie.spec (λ c. search needs) (λ c. search needs) (λ c. search needs) (λ c κs. search needs) carry-out-requires
+    (λ c. search needs) refresh-order-requires (λ c κs. search needs) (λ c. search needs) returns (λ c κs. search needs) (λ c. search needs) returns-2)
