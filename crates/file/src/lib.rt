@@ -113,10 +113,7 @@ fn serve_line(
     let m = task.action;
     refresh_order(m, task.place, &labels[0], n, order);
     let refusal = reply.refusal;
-    if refusal.number() == 0 {
-        return reply.written;
-    }
-    print_refusal(request.line, refusal, out)
+    reply.written + print_refusal(request.line, refusal, out)
 }
 
 // Serves the lines of a part of the file after `lines` others, and writes what they print: up to a final refusal, or until there is no room for the report
