@@ -46,28 +46,27 @@ Starts chunk at = at ≡ min (18 * readLines at) (length chunk)
 start-ahead : (chunk : Lists.List ℕ) (at : ℕ) → Starts chunk at → readLines at + ahead chunk at ≡ pieces chunk
 start-ahead chunk at w = omega (arith, w)
 
-module _ (chunk : Lists.List ℕ) (at : ℕ) (h : at < length chunk) where
-  abbrev line : Lists.List ℕ
-  line = take 18 (drop at chunk)
+-- the line that starts there
+module _ (chunk : Lists.List ℕ) {at : ℕ} (h : at < length chunk) {l : Lists.List ℕ} (p : l ≡ take 18 (drop at chunk)) where
+  line-long : length l ≡ min 18 (length chunk - at)
+  line-long = ap length p ∙ length-take 18 (drop at chunk) ∙ ap (min 18) (length-drop at chunk)
 
-  line-long : length line ≡ min 18 (length chunk - at)
-  line-long = length-take 18 (drop at chunk) ∙ ap (min 18) (length-drop at chunk)
-
-  line-within : (at + length line ≤ length chunk) × (0 < length line)
+  pub line-within : (at + length l ≤ length chunk) × (0 < length l)
   line-within = (omega (arith, line-long), omega (arith, line-long))
 
   module _ (w : Starts chunk at) where
-    line-next : readLines (at + length line) ≡ readLines at + 1
+    line-next : readLines (at + length l) ≡ readLines at + 1
     line-next = omega (arith, line-long, w)
 
-    line-starts : Starts chunk (at + length line)
+    line-starts : Starts chunk (at + length l)
     line-starts = omega (arith, line-long, w)
 
-    line-cut : cut (readLines (at + length line)) chunk ≡ cut (readLines at) chunk ++ (line ∷ [])
+    line-cut : cut (readLines (at + length l)) chunk ≡ cut (readLines at) chunk ++ (l ∷ [])
     unfolding cut
     line-cut =
         let e : 18 * readLines at ≡ at = omega (arith, w) in
         ap (λ k. cut k chunk) line-next ∙ cut-add (readLines at) 1 chunk ∙ ap (λ k. cut (readLines at) chunk ++ (take 18 (drop k chunk) ∷ [])) e
+        ∙ ap (λ x. cut (readLines at) chunk ++ (x ∷ [])) (sym p)
 
 -- THE LOOP
 
@@ -107,9 +106,6 @@ module _ {s : Session Arrays} {chunk out₀ : Lists.List ℕ} {a : Arrays} {line
   pub as-long : length out ≡ length out₀
   as-long = rw (f .area) (length-over (f .bytes) out₀ (omega (arith, f .long, f .room)))
 
-  pub inside : written ≤ length out
-  inside = omega (arith, as-long, f .room)
-
   pub place-within : at ≤ length chunk
   place-within = omega (arith, f .whole)
 
@@ -130,10 +126,7 @@ module _ {s : Session Arrays} {chunk out₀ : Lists.List ℕ} {a : Arrays} {line
 
   module _ (h : at < length chunk) (free : 928 ≤ length out - written) where
     pub room-here : written + 928 ≤ length out
-    room-here = omega (arith, inside)
-
-    pub at-next : (l : Lists.List ℕ) → l ≡ take 18 (drop at chunk) → (at + length l ≤ length chunk) × (0 < length l)
-    at-next l p = rw p (line-within chunk at h)
+    room-here = omega (arith, as-long, f .room)
 
     module _ (ok : wellFormed a ≡ true) (l : Lists.List ℕ) (p : l ≡ take 18 (drop at chunk)) (k : ℕ) (e : k ≡ 928) where
       -- what is put in behind the bytes so far
@@ -141,23 +134,17 @@ module _ {s : Session Arrays} {chunk out₀ : Lists.List ℕ} {a : Arrays} {line
       put x short = rw (f .area, e, f .long) (put-over (f .bytes) x out₀ 928 short (omega (arith, f .long, as-long, room-here)))
 
       -- one line more
-      starts-on : Starts chunk (at + length l)
-      starts-on = rw p (line-starts chunk at h (f .whole))
-
-      lines-on : readLines (at + length l) ≡ readLines at + 1
-      lines-on = rw p (line-next chunk at h (f .whole))
-
       runs-on : (o : Served Arrays) → runLines lent (session lines Accepted a) (l ∷ []) ≡ o
           → runLines lent s (cut (readLines (at + length l)) chunk) ≡ behind (f .bytes) o
       runs-on o q =
-          ap (runLines lent s) (rw p (line-cut chunk at h (f .whole)))
+          ap (runLines lent s) (line-cut chunk h p (f .whole))
           ∙ run-append lent (cut (readLines at) chunk) (l ∷ []) s
           ∙ ap (λ x. behind (x .bytes) (runLines lent (x .session) (l ∷ []))) (f .runs)
           ∙ ap (behind (f .bytes)) q
 
       goes-on : (j : ℕ) → j < readLines (at + length l) → Goes s chunk (length out₀) j
       goes-on j b = by-cases (decLt j (readLines at)) (f .goes j)
-          (λ n. let q : j ≡ readLines at = omega (arith, b, n, lines-on) in
+          (λ n. let q : j ≡ readLines at = omega (arith, b, n, line-next chunk h p (f .whole)) in
           rw (q, f .runs) (refl, omega (arith, f .long, as-long, room-here)))
 
       -- a line that is refused for good
@@ -169,14 +156,14 @@ module _ {s : Session Arrays} {chunk out₀ : Lists.List ℕ} {a : Arrays} {line
           let d = next-refused lines l r q in
           let low : length bytes ≤ 29 = printed-refusal (lines + 1) (refusalNumber r) in
           record {
-            whole = rw y starts-on;
+            whole = rw y (line-starts chunk h p (f .whole));
             bytes = f .bytes ++ bytes;
             runs = rw (u, v, y) (runs-on _ (run-refused lent (session lines Accepted a) l refl ok r q));
             written = omega (arith, w, b, f .long, length-append (f .bytes) bytes);
             report = rw c (put bytes (omega (arith, low)));
             goes = rw y goes-on;
             stops = inl (λ z. d (sym (ap refusalNumber v) ∙ z));
-            short = rw y (omega (arith, w, b, low, f .short, lines-on));
+            short = rw y (omega (arith, w, b, low, f .short, line-next chunk h p (f .whole)));
             counted = λ z. absurd (d (sym (ap refusalNumber v) ∙ z));
           }
 
@@ -189,10 +176,10 @@ module _ {s : Session Arrays} {chunk out₀ : Lists.List ℕ} {a : Arrays} {line
           let mid : length (midOf written k out) ≡ 928 = length-take-le k (drop written out) (rw length-drop (omega (arith, e, room-here))) ∙ e in
           let few : length b ≤ 928 = omega (arith, over-short b (midOf written k out) x (g .report) y, mid) in
           record {
-            whole = starts-on;
+            whole = line-starts chunk h p (f .whole);
             room = omega (arith, g .count, few, as-long, room-here);
-            short = omega (arith, g .count, few, f .short, lines-on);
-            counted = omega (arith, f .counted, lines-on);
+            short = omega (arith, g .count, few, f .short, line-next chunk h p (f .whole));
+            counted = omega (arith, f .counted, line-next chunk h p (f .whole));
             low = λ _. omega (arith, next-within lines l station code job q);
             bytes = f .bytes ++ b;
             long = omega (arith, g .count, f .long, length-append (f .bytes) b);

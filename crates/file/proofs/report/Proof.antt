@@ -19,10 +19,13 @@ accepted x = sym (x .before .before .read-header .ensures) ∙ x .n .given .1
 returns : tie.Need-returns
 returns c =
     let x = c .before .before in
-    refused-short (x .before .before .before .before .before .before .args .file .now) (x .before .before .before .line-at .ensures) (refused x) (x .before .before .before .before .before .before .args .out .now) (c .if1 .taken)
+    let a = x .before .before .before .before .before .before .args in
+    refused-short (a .file .now) (x .before .before .before .line-at .ensures) (refused x) (a .out .now) (c .if1 .taken)
 
 from-requires : tie.Need-from-requires
-from-requires c κs = header-within (c .before .before .before .before .before .before .before .args .file .now) _ (c .before .before .before .before .line-at .ensures)
+from-requires c κs =
+    let y = c .before .before .before .before in
+    header-within (y .before .before .before .args .file .now) _ (y .line-at .ensures)
 
 report-size-requires : tie.Need-report-size-requires
 report-size-requires c κs = header-stations _ _ (accepted (c .before .before))
@@ -30,8 +33,9 @@ report-size-requires c κs = header-stations _ _ (accepted (c .before .before))
 returns-2 : tie.Need-returns-2
 returns-2 c =
     let x = c .before .before .before .before in
-    steps-short (x .before .before .before .before .before .before .args .file .now) (x .before .before .before .line-at .ensures) (accepted x) (c .before .before .from .ensures) (x .before .before .before .before .before .before .args .out .now)
-    (c .before .report-size .ensures) (c .if2 .taken)
+    let a = x .before .before .before .before .before .before .args in
+    steps-short (a .file .now) (x .before .before .before .line-at .ensures) (accepted x) (c .before .before .from .ensures) (a .out .now)
+        (c .before .report-size .ensures) (c .if2 .taken)
 
 report-steps-requires : tie.Need-report-steps-requires
 report-steps-requires c κs = header-stations _ _ (accepted (c .before .before .before .before .before))
@@ -39,15 +43,18 @@ report-steps-requires c κs = header-stations _ _ (accepted (c .before .before .
 returns-3 : tie.Need-returns-3
 returns-3 c =
     let x = c .before .before .before .before .before .before in
+    let a = x .before .before .before .before .before .before .args in
     let told = c .before .before .print-refusal .ensures in
-    refused-told (x .before .before .before .before .before .before .args .file .now) (x .before .before .before .line-at .ensures) (refused x) (x .before .before .before .before .before .before .args .out .now) _ (c .before .before .before .before .if1 .left) refl (told .0) (told .1)
+    refused-told (a .file .now) (x .before .before .before .line-at .ensures) (refused x) (a .out .now) _
+        (c .before .before .before .before .if1 .left) refl (told .0) (told .1)
 
 returns-4 : tie.Need-returns-4
 returns-4 c =
     let y = c .before .before .before .before in
     let x = y .before .before .before .before in
-    steps-told (x .before .before .before .before .before .before .args .file .now) (x .before .before .before .line-at .ensures) (accepted x) (y .before .before .from .ensures) (x .before .before .before .before .before .before .args .out .now)
-    (y .before .report-size .ensures) (y .if2 .left) (c .before .before .report-steps .ensures)
+    let a = x .before .before .before .before .before .before .args in
+    steps-told (a .file .now) (x .before .before .before .line-at .ensures) (accepted x) (y .before .before .from .ensures) (a .out .now)
+        (y .before .report-size .ensures) (y .if2 .left) (c .before .before .report-steps .ensures)
 
 pub report-spec : {M : Type 1} → statement M
 report-spec = tie.close (tie.spec (λ c κs. search needs) (λ c κs. search needs) (λ c. search needs) returns (λ c κs. search needs) (λ c. search needs)

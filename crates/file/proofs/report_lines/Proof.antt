@@ -14,7 +14,7 @@ use Rattle.schedule.proofs.SessionLaws.{next-within}
 use Rattle.schedule.proofs.Runs.{printed-refusal}
 use Rattle.file.specs.Contracts.{Runnable}
 use Rattle.file.proofs.LineLaws.{run-passes}
-use Rattle.file.proofs.ChunkLaws.{Sofar, sofar-start, sofar-end, sofar-more, sofar-stop, as-long, inside, place-within, room-here, at-next, prints-short}
+use Rattle.file.proofs.ChunkLaws.{Sofar, sofar-start, sofar-end, sofar-more, sofar-stop, as-long, place-within, room-here, line-within, prints-short}
 use Rattle.file.proofs.report_lines.Statement.{statement}
 use Rattle.file.proofs.report_lines.Tie as tie
 
@@ -31,7 +31,7 @@ loop-holds : tie.Need-loop-holds Inv-loop μ-loop
 loop-holds c = (sofar-start _ _ _ _, c .before .before .pre)
 
 sub-if1 : tie.Need-sub-if1 Inv-loop μ-loop
-sub-if1 c = inside (c .before .loop .inv .0)
+sub-if1 c = let f = c .before .loop .inv .0 in omega (arith, as-long f, f .room)
 
 same-length : tie.Need-same-length Inv-loop μ-loop
 same-length c = as-long (c .before .before .loop .inv .0)
@@ -46,20 +46,20 @@ line-at-requires c κs = place-within (c .before .before .loop .inv .0)
 
 -- the line lies within the part, and what it prints within the output buffer
 here : (x : tie.After-line-at Inv-loop μ-loop) → let l = x .before .before .before .loop in let end = l .at + length (x .line-at .result .now) in
-    (l .written + 928 ≤ length (l .out)) × (l .written + 928 ≤ 18446744073709551615) × (l .at < end) × (end ≤ length (x .before .before .before .before .before .before .args .chunk .now))
-    × (end ≤ 18446744073709551615)
+    (l .written + 928 ≤ length (l .out)) × (l .written + 928 ≤ 18446744073709551615)
+    × (l .at < end) × (end ≤ length (x .before .before .before .before .before .before .args .chunk .now)) × (end ≤ 18446744073709551615)
 here x =
     let f = x .before .before .before .loop .inv .0 in
     let room = room-here f (x .before .before .loop-test .taken) (x .before .if1 .left) in
-    let next = at-next f (x .before .before .loop-test .taken) (x .before .if1 .left) (x .line-at .result .now) (x .line-at .ensures) in
+    let next = line-within (x .before .before .before .before .before .before .args .chunk .now) (x .before .before .loop-test .taken) (x .line-at .ensures) in
     let fits = x .before .before .before .before .before .before .good .1 .1 .1 .1 .1 .1 .1 in
     (room, omega (arith, room, as-long f, fits .1 .0 .0), omega (arith, next), next .0, omega (arith, next, fits .0 .0))
 
 add-t33 : tie.Need-add-t33 Inv-loop μ-loop
 add-t33 c =
-    let told = c .before .before .print-refusal .ensures .0 in
-    let few = printed-refusal (c .before .before .before .before .before .before .before .before .before .before .before .loop .count + 1) (refusalNumber (c .before .before .before .before .before .refusal .given .0 .0)) in
-    omega (arith, here (c .before .before .before .before .before .before .before .before), told, few)
+    let x = c .before .before .before .before .before .before .before .before in
+    let few = printed-refusal (x .before .before .before .loop .count + 1) (refusalNumber (c .before .before .before .before .before .refusal .given .0 .0)) in
+    omega (arith, here x, c .before .before .print-refusal .ensures .0, few)
 
 same-length-2 : tie.Need-same-length-2 Inv-loop μ-loop
 same-length-2 c =
@@ -80,19 +80,23 @@ returns-2 c =
     )
 
 serve-line-requires : tie.Need-serve-line-requires Inv-loop μ-loop
-serve-line-requires c κs = (c .before .before .before .before .before .before .before .before .before .before .before .before .before .loop .inv .1, simp (length-take, length-drop) (omega (arith, here (c .before .before .before .before .before .before .before .before .before .before))))
+serve-line-requires c κs =
+    let x = c .before .before .before .before .before .before .before .before .before .before in
+    (x .before .before .before .loop .inv .1, simp (length-take, length-drop) (omega (arith, here x)))
 
 add-count : tie.Need-add-count Inv-loop μ-loop
 add-count c =
     let read = c .before .before .before .before .before .before .before .before .before .before in
-    omega (arith, next-within (c .before .before .before .before .before .before .before .before .before .before .before .before .before .before .before .before .loop .count) _ _ _ _ (sym (read .before .before .next-line .ensures) ∙ read .station .given .1))
+    let said = sym (read .before .before .next-line .ensures) ∙ read .station .given .1 in
+    omega (arith, next-within (read .before .before .before .before .before .before .loop .count) _ _ _ _ said)
 
 add-written : tie.Need-add-written Inv-loop μ-loop
 add-written c =
-    let l = c .before .before .before .before .before .before .before .before .before .before .before .before .before .before .before .before .loop in
+    let x = c .before .before .before .before .before .before .before .before .before .before .before .before .before in
+    let l = x .before .before .before .loop in
     let served = c .before .before .serve-line in
     let few = prints-short (served .ensures .0) (served .kept .1 .1 .1 .1 .1 .1 .1 .0) in
-    omega (arith, here (c .before .before .before .before .before .before .before .before .before .before .before .before .before), few, length-take (l .written + 928 - l .written) (drop (l .written) (l .out)))
+    omega (arith, here x, few, length-take (l .written + 928 - l .written) (drop (l .written) (l .out)))
 
 loop-again : tie.Need-loop-again Inv-loop μ-loop
 loop-again c =

@@ -1,3 +1,5 @@
+-- The invariant is `Gathered` of FileLaws: what the lines before `at` printed, and that the run goes on behind that. `y` is what is known after a part,
+-- and `t` before it.
 use mathlib.Core.Path.{_≡_, refl, sym, _∙_}
 use Prim.Native.Nat.{_-_}
 use native.Mathlib.Omega.{arith}
@@ -15,22 +17,14 @@ use Rattle.file.proofs.ChunkLaws.{reports-inside}
 use Rattle.file.proofs.FileLaws.{Gathered, gathered-start, gathered-end, gathered-more, part-within, part-few, part-less}
 use Rattle.file.proofs.report_steps.Statement.{statement}
 use Rattle.file.proofs.report_steps.Tie as tie
-use Rattle.file.proofs.report_steps.Reads as reads
-use Rattle.file.proofs.report_steps.Lts as lts
-use Rattle.arrays.proofs.refresh.Reads as refresh-reads
-use Rattle.file.proofs.from.Reads as from-reads
-use Rattle.file.proofs.next.Reads as next-reads
-use Rattle.file.proofs.put.Reads as put-reads
-use Rattle.file.proofs.report_lines.Reads as report-lines-reads
-use Rattle.rows.proofs.order.order.Reads as order-reads
 
 abbrev Inv-loop : tie.InvT-loop
-Inv-loop n rest out₀ labels₀ jobs₀ control₀ results₀ order₀ scratch₀ count₀ refusal₀ written₀ at₀ out labels jobs control results order scratch count refusal written at =
+Inv-loop n rest out₀ _ _ _ _ _ _ _ _ _ _ out labels jobs control results order scratch count refusal written at =
     Gathered (session 1 Accepted (freshTable lent n)) rest out₀ (arrays n labels jobs control results) count refusal written at out
     × Runnable (arrays n labels jobs control results) order × (length scratch ≡ 4096)
 
 abbrev μ-loop : tie.MeasureT-loop
-μ-loop n rest out₀ labels₀ jobs₀ control₀ results₀ order₀ scratch₀ count₀ refusal₀ written₀ at₀ out labels jobs control results order scratch count refusal written at =
+μ-loop n rest out₀ _ _ _ _ _ _ _ _ _ _ out labels jobs control results order scratch count refusal written at =
     length rest - at
 
 order-requires : tie.Need-order-requires Inv-loop μ-loop
@@ -44,12 +38,6 @@ loop-holds c =
     let fresh = c .before .before .refresh .ensures in
     (rw (← fresh) (gathered-start _ _ _), fresh-runnable (s .args .n) (s .pre .0) (s .pre .1) fresh (c .order .ensures), search needs)
 
-from-requires : tie.Need-from-requires Inv-loop μ-loop
-from-requires c κs = omega arith
-
-slice-aggregate-report-lines : tie.Need-slice-aggregate-report-lines Inv-loop μ-loop
-slice-aggregate-report-lines c = search needs
-
 report-lines-requires : tie.Need-report-lines-requires Inv-loop μ-loop
 report-lines-requires c κs = c .before .before .before .before .before .before .before .before .loop .inv .1
 
@@ -62,33 +50,33 @@ slice-aggregate-put c = sym (length-take-le _ _ (reports-inside (c .before .befo
 put-requires : tie.Need-put-requires Inv-loop μ-loop
 put-requires c κs =
     let y = c .before .before .before in
-    let l = y .before .before .before .before .before .before .before .before .before .loop in
-    let few = part-few (l .inv .0) (y .before .before .before .before .before .before .before .before .loop-test .taken) (y .before .before .from .ensures) (y .report-lines .ensures .0) in
-    simp length-take (omega (arith, few, y .report-lines .kept .1 .1 .1 .1 .1 .1 .1 .1 .0, l .inv .2))
+    let t = y .before .before .before .before .before .before .before .before in
+    let few = part-few (t .before .loop .inv .0) (t .loop-test .taken) (y .before .before .from .ensures) (y .report-lines .ensures .0) in
+    simp length-take (omega (arith, few, y .report-lines .kept .1 .1 .1 .1 .1 .1 .1 .1 .0, t .before .loop .inv .2))
 
 next-requires : tie.Need-next-requires Inv-loop μ-loop
 next-requires c κs =
     let y = c .before .before .before .before .before .before in
-    let l = y .before .before .before .before .before .before .before .before .before .loop in
-    part-within (l .inv .0) (y .before .before .before .before .before .before .before .before .loop-test .taken) (y .before .before .from .ensures) (y .report-lines .ensures .0)
+    let t = y .before .before .before .before .before .before .before .before in
+    part-within (t .before .loop .inv .0) (t .loop-test .taken) (y .before .before .from .ensures) (y .report-lines .ensures .0)
 
 loop-less : tie.Need-loop-less Inv-loop μ-loop
 loop-less c =
     let y = c .before .before .before .before .before .before .before in
-    let l = y .before .before .before .before .before .before .before .before .before .loop in
-    let less = part-less (l .inv .0) (y .before .before .before .before .before .before .before .before .loop-test .taken) (y .before .before .from .ensures) (y .report-lines .ensures .0)
-    (omega (arith, l .inv .2)) (c .next .ensures) in
+    let t = y .before .before .before .before .before .before .before .before in
+    let less = part-less (t .before .loop .inv .0) (t .loop-test .taken) (y .before .before .from .ensures) (y .report-lines .ensures .0)
+    (omega (arith, t .before .loop .inv .2)) (c .next .ensures) in
     omega (arith, less)
 
 loop-again : tie.Need-loop-again Inv-loop μ-loop
 loop-again c =
     let y = c .before .before .before .before .before .before .before in
-    let l = y .before .before .before .before .before .before .before .before .before .loop in
+    let t = y .before .before .before .before .before .before .before .before in
     let put = c .before .before .before .put in (
-      gathered-more (l .inv .0) (y .before .before .before .before .before .before .before .before .loop-test .taken) (y .before .before .from .ensures) (y .report-lines .ensures .0) (put .ensures)
+      gathered-more (t .before .loop .inv .0) (t .loop-test .taken) (y .before .before .from .ensures) (y .report-lines .ensures .0) (put .ensures)
           (put .kept .1 .0) (c .next .ensures),
       y .report-lines .ensures .1,
-      y .report-lines .kept .1 .1 .1 .1 .1 .1 .1 .1 .0 ∙ l .inv .2,
+      y .report-lines .kept .1 .1 .1 .1 .1 .1 .1 .1 .0 ∙ t .before .loop .inv .2,
     )
 
 same-length : tie.Need-same-length Inv-loop μ-loop
@@ -98,6 +86,6 @@ returns : tie.Need-returns Inv-loop μ-loop
 returns c = gathered-end (c .before .loop .inv .0) (c .loop-test .left)
 
 pub report-steps-spec : {M : Type 1} → statement M
-report-steps-spec = tie.close (tie.spec Inv-loop μ-loop (λ c κs. search needs) (λ c. search needs) order-requires loop-holds from-requires
-    slice-aggregate-report-lines report-lines-requires array-share-prefix-scratch slice-aggregate-put put-requires next-requires loop-less loop-again
-    same-length returns)
+report-steps-spec = tie.close (tie.spec Inv-loop μ-loop (λ c κs. search needs) (λ c. search needs) order-requires loop-holds (λ c κs. omega arith)
+    (λ c. search needs) report-lines-requires array-share-prefix-scratch slice-aggregate-put put-requires next-requires loop-less loop-again same-length
+    returns)

@@ -14,27 +14,27 @@ carry-out-requires c κs =
 refresh-order-requires : tie.Need-refresh-order-requires
 refresh-order-requires c κs =
     let y = c .before .before .before .before in
-    let x = y .before .before .before .before .before .before .before in
-    let f = x .before .before .before .before .pre .0 in
+    let j = y .before .before .before .before .before .before .before .judge .ensures in
+    let f = y .before .before .before .before .before .before .before .before .before .before .before .pre .0 in
     let g = y .carry-out .ensures in
-    (line-orderly f (x .judge .ensures) g, (line-place f (x .judge .ensures), (line-before f (x .judge .ensures) g, line-kept f (x .judge .ensures) g)))
+    (line-orderly f j g, (line-place f j, (line-before f j g, line-kept f j g)))
 
 add-result : tie.Need-add-result
 add-result c =
     let y = c .before .before .before .before .before .before .before .before .before .before in
     let x = y .before .before .before .before .before .before .before in
     let s = x .before .before .before .before in
-    let fits = line-fits (s .pre .0) (x .judge .ensures) (y .carry-out .ensures) (y .carry-out .kept .1 .1 .1 .1 .1 .1 .1 .0) (c .before .before .before .print-refusal .ensures .0) in
-    omega (arith, fits, s .pre .1)
+    let same = y .carry-out .kept .1 .1 .1 .1 .1 .1 .1 .0 in
+    omega (arith, line-fits (s .pre .0) (x .judge .ensures) (y .carry-out .ensures) same (c .before .before .before .print-refusal .ensures .0), s .pre .1)
 
 returns : tie.Need-returns
 returns c =
     let y = c .before .before .before .before .before .before .before .before .before .before in
-    let x = y .before .before .before .before .before .before .before in
-    let f = x .before .before .before .before .pre .0 in
+    let j = y .before .before .before .before .before .before .before .judge .ensures in
+    let f = y .before .before .before .before .before .before .before .before .before .before .before .pre .0 in
     let g = y .carry-out .ensures in
     let told = c .before .before .before .print-refusal .ensures in
-    (line-prints f (x .judge .ensures) g (told .0) (told .1), line-runnable f (x .judge .ensures) g (c .before .before .before .before .before .refresh-order .ensures))
+    (line-prints f j g (told .0) (told .1), line-runnable f j g (c .before .before .before .before .before .refresh-order .ensures))
 
 pub serve-line-spec : {M : Type 1} → statement M
 serve-line-spec = tie.close (tie.spec (λ c. search needs) (λ c. search needs) (λ c. search needs) (λ c κs. search needs) carry-out-requires
