@@ -43,9 +43,6 @@ ahead chunk at = (length chunk - at + 17) / 18
 abbrev Starts : Lists.List ℕ → ℕ → Type 0
 Starts chunk at = at ≡ min (18 * readLines at) (length chunk)
 
-start-ahead : (chunk : Lists.List ℕ) (at : ℕ) → Starts chunk at → readLines at + ahead chunk at ≡ pieces chunk
-start-ahead chunk at w = omega (arith, w)
-
 -- the line that starts there
 module _ (chunk : Lists.List ℕ) {at : ℕ} (h : at < length chunk) {l : Lists.List ℕ} (p : l ≡ take 18 (drop at chunk)) where
   line-long : length l ≡ min 18 (length chunk - at)
@@ -110,18 +107,18 @@ module _ {s : Session Arrays} {chunk out₀ : Lists.List ℕ} {a : Arrays} {line
   place-within = omega (arith, f .whole)
 
   -- all lines are served, or there is no room for another
-  pub sofar-end : (r : Progress) → r .lines ≡ lines → r .refusal ≡ Accepted → r .read ≡ at → r .written ≡ written
-      → (length chunk ≤ at) ⊎ (length out - written < 928) → Reports s chunk a r out₀ out
-  sofar-end r e v u w h = record {
-    whole = rw u (f .whole);
+  pub sofar-end : (length chunk ≤ at) ⊎ (length out - written < 928)
+      → Reports s chunk a (record { lines = lines; refusal = Accepted; read = at; written = written }) out₀ out
+  sofar-end h = record {
+    whole = f .whole;
     bytes = f .bytes;
-    runs = rw (e, v, u) (f .runs);
-    written = w ∙ f .long;
+    runs = f .runs;
+    written = f .long;
     report = f .area;
-    goes = rw u (f .goes);
-    stops = inr (⊎-elim (λ x. inl (omega (arith, u, place-within))) (λ x. inr (omega (arith, w, as-long, f .room))) h);
-    short = rw (u, w) (f .short);
-    counted = λ z. rw (u, e) (f .counted, f .low);
+    goes = f .goes;
+    stops = inr (⊎-elim (λ x. inl (omega (arith, place-within))) (λ x. inr (omega (arith, as-long, f .room))) h);
+    short = f .short;
+    counted = λ _. (f .counted, f .low);
   }
 
   module _ (h : at < length chunk) (free : 928 ≤ length out - written) where
@@ -148,23 +145,22 @@ module _ {s : Session Arrays} {chunk out₀ : Lists.List ℕ} {a : Arrays} {line
           rw (q, f .runs) (refl, omega (arith, f .long, as-long, room-here)))
 
       -- a line that is refused for good
-      pub sofar-stop : (r : Refusal) (n : ℕ) (x : Lists.List ℕ) (o : Progress) → nextLine lines l ≡ Refused r
-          → n ≡ length (printed (lines + 1) (refusalNumber r) []) → x ≡ over (printed (lines + 1) (refusalNumber r) []) (midOf written k out)
-          → o .lines ≡ lines → o .refusal ≡ r → o .read ≡ at + length l → o .written ≡ written + n → Reports s chunk a o out₀ (putMid written k out x)
-      sofar-stop r n x o q b c u v y w =
-          let bytes = printed (lines + 1) (refusalNumber r) [] in
-          let d = next-refused lines l r q in
-          let low : length bytes ≤ 29 = printed-refusal (lines + 1) (refusalNumber r) in
+      pub sofar-stop : (r : Refusal) {n : ℕ} {x : Lists.List ℕ} → nextLine lines l ≡ Refused r → let told = printed (lines + 1) (refusalNumber r) [] in
+          n ≡ length told → x ≡ over told (midOf written k out)
+          → Reports s chunk a (record { lines = lines; refusal = r; read = at + length l; written = written + n }) out₀ (putMid written k out x)
+      sofar-stop r q b c =
+          let told = printed (lines + 1) (refusalNumber r) [] in
+          let low : length told ≤ 29 = printed-refusal (lines + 1) (refusalNumber r) in
           record {
-            whole = rw y (line-starts chunk h p (f .whole));
-            bytes = f .bytes ++ bytes;
-            runs = rw (u, v, y) (runs-on _ (run-refused lent (session lines Accepted a) l refl ok r q));
-            written = omega (arith, w, b, f .long, length-append (f .bytes) bytes);
-            report = rw c (put bytes (omega (arith, low)));
-            goes = rw y goes-on;
-            stops = inl (λ z. d (sym (ap refusalNumber v) ∙ z));
-            short = rw y (omega (arith, w, b, low, f .short, line-next chunk h p (f .whole)));
-            counted = λ z. absurd (d (sym (ap refusalNumber v) ∙ z));
+            whole = line-starts chunk h p (f .whole);
+            bytes = f .bytes ++ told;
+            runs = runs-on _ (run-refused lent (session lines Accepted a) l refl ok r q);
+            written = omega (arith, b, f .long, length-append (f .bytes) told);
+            report = rw c (put told (omega (arith, low)));
+            goes = goes-on;
+            stops = inl (next-refused lines l r q);
+            short = omega (arith, b, low, f .short, line-next chunk h p (f .whole));
+            counted = λ z. absurd (next-refused lines l r q z);
           }
 
       -- a line that is served
@@ -196,7 +192,7 @@ module _ {s : Session Arrays} {chunk : Lists.List ℕ} {a : Arrays} {r : Progres
   reports-within = omega (arith, f .whole)
 
   reports-ahead : readLines (r .read) + ahead chunk (r .read) ≡ pieces chunk
-  reports-ahead = start-ahead chunk (r .read) (f .whole)
+  reports-ahead = omega (arith, f .whole)
 
   -- what is left to read
   abbrev left : Lists.List ℕ

@@ -1,17 +1,17 @@
 -- All lines of a file, however much room there is for what they print, and the whole file.
 use mathlib.Core.Path.{_≡_, refl, sym, ap, subst, _∙_}
-use mathlib.Core.Logic.{_⊎_, ⊎-elim}
+use mathlib.Core.Logic.{⊎-elim}
 use mathlib.Core.Bool.{cond}
 use mathlib.Core.List as Lists
 use mathlib.Core.List.{[], _++_, append-assoc, append-nil}
-use Prim.Native.Nat.{ℕ, _+_, _-_, _*_, _/_, _≤_, _<_}
+use Prim.Native.Nat.{ℕ, _+_, _*_, _≤_, _<_}
 use native.Mathlib.Numerals.{add-one}
 use native.Mathlib.Omega.{arith}
 use lib.ListN.{length, getD, take, drop, set, length-append, length-drop}
-use lib.Seq.{take-at, drop-at, drop-drop, take-suc, take-suc-set, length-take-le}
+use lib.Seq.{take-at, drop-at, drop-drop, take-suc, take-suc-set}
 use lib.Dec.{leb}
 use borrow.Author.Tests.{le-leb, lt-leb, ne-eqb}
-use borrow.Rule.Slice.PartMut.{midOf, putMid}
+use borrow.Rule.Slice.PartMut.{putMid}
 use Rattle.columns.proofs.ColumnLaws.{length-report-line}
 use Rattle.transition.specs.Forms.{over, freshTable}
 use Rattle.moves.specs.Moves.{refusalNumber}
@@ -25,7 +25,7 @@ use Rattle.schedule.specs.Lines.{headerRead}
 use Rattle.schedule.specs.Sessions.{Session, session, Served, standing}
 use Rattle.schedule.specs.Files.{cut, pieces, refusalLine, printed, behind, runLines, fileRun}
 use Rattle.schedule.proofs.SessionLaws.{header-refused}
-use Rattle.schedule.proofs.Runs.{final-run, file-refused, file-served, rest-after, put-over, over-short}
+use Rattle.schedule.proofs.Runs.{final-run, file-refused, file-served, rest-after}
 use Rattle.schedule.specs.declared.Header.the-variants as Headers
 use Rattle.schedule.specs.declared.Header.the-variants.{Stations}
 use Rattle.file.specs.Contracts.{Reports, Follows, ReportsAll, Sizes, ReportsFile}
@@ -200,12 +200,11 @@ module _ (bs : Lists.List ℕ) {l : Lists.List ℕ} (e : l ≡ take 18 bs) {x : 
   pub refused-short : (buffer : Lists.List ℕ) → length buffer < 29 → ReportsFile bs buffer 7 0 buffer
   refused-short buffer s = file-short bs buffer only (omega (arith, long))
 
-  pub refused-told : (buffer : Lists.List ℕ) (r : Reply) {buffer′ : Lists.List ℕ} → 29 ≤ length buffer → r .refusal ≡ x
-      → let line = printed 1 (refusalNumber x) [] in r .written ≡ length line → buffer′ ≡ over line buffer
-      → ReportsFile bs buffer (refusalNumber (r .refusal)) (r .written) buffer′
-  refused-told buffer r s n w p =
+  pub refused-told : (buffer : Lists.List ℕ) {w : ℕ} {buffer′ : Lists.List ℕ} → 29 ≤ length buffer → let line = printed 1 (refusalNumber x) [] in
+      w ≡ length line → buffer′ ≡ over line buffer → ReportsFile bs buffer (refusalNumber x) w buffer′
+  refused-told buffer s w p =
       let q : printed 1 (refusalNumber x) [] ≡ refusalLine 1 (refusalNumber x) = rw (ne-eqb _ _ (header-refused l x h)) refl in
-      file-fits bs buffer only (ap refusalNumber n) (w ∙ ap length q) (omega (arith, long)) (p ∙ ap (λ b. over b buffer) q)
+      file-fits bs buffer only refl (w ∙ ap length q) (omega (arith, long)) (p ∙ ap (λ b. over b buffer) q)
 
 -- an accepted header: the lines after it give the report
 module _ (bs : Lists.List ℕ) {l : Lists.List ℕ} (e : l ≡ take 18 bs) {n : ℕ} (h : headerRead l ≡ Stations n)

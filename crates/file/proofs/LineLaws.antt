@@ -170,23 +170,23 @@ module _ {a : Arrays} {order : Lists.List ℕ} (f : Runnable a order) where
           k ≡ length told → buffer″ ≡ over told buffer′ → Prints a c buffer a′ (r .written + k) buffer″
       line-prints e b = by-cases (ℕ-discrete (refusalNumber (r .refusal)) 0)
           (λ z.
-            let y : stepOf lent a c .refusal ≡ 0 = sym (steps .number) ∙ z in
-            let none = printed-accepted (q .line) (refusalNumber (r .refusal)) buffer′ z in
-            record {
-              table = steps .table;
-              count = rw (eq-eqb _ 0 y) (omega (arith, e, none .0, steps .count));
-              report = rw (eq-eqb _ 0 y) (b ∙ sym (none .1) ∙ steps .report);
-            })
+          let y : stepOf lent a c .refusal ≡ 0 = sym (steps .number) ∙ z in
+          let none = printed-accepted (q .line) (refusalNumber (r .refusal)) buffer′ z in
+          record {
+            table = steps .table;
+            count = rw (eq-eqb _ 0 y) (omega (arith, e, none .0, steps .count));
+            report = rw (eq-eqb _ 0 y) (b ∙ sym (none .1) ∙ steps .report);
+          })
           (λ z.
-            let y : stepOf lent a c .refusal ≢ 0 = λ w. z (steps .number ∙ w) in
-            let none : doneOf a x .bytes ≡ [] = nothing-told _ _ (x .line) (x .place) (x .job) (x .action) (λ w. z (g .number ∙ w)) in
-            let short : printed (q .line) (refusalNumber (r .refusal)) [] ≡ printed (q .line) (stepOf lent a c .refusal) (stepOf lent a c .bytes)
-            = ap (λ (w : ℕ). printed (q .line) w []) (steps .number) ∙ rw (ne-eqb _ 0 y) refl in
-            record {
-              table = steps .table;
-              count = omega (arith, e, g .count, ap length none, ap length short);
-              report = b ∙ (λ i. over (short i) ((g .report ∙ ap (λ l. over l buffer) none) i));
-            })
+          let y : stepOf lent a c .refusal ≢ 0 = λ w. z (steps .number ∙ w) in
+          let none : doneOf a x .bytes ≡ [] = nothing-told _ _ (x .line) (x .place) (x .job) (x .action) (λ w. z (g .number ∙ w)) in
+          let short : printed (q .line) (refusalNumber (r .refusal)) [] ≡ printed (q .line) (stepOf lent a c .refusal) (stepOf lent a c .bytes)
+          = ap (λ (w : ℕ). printed (q .line) w []) (steps .number) ∙ rw (ne-eqb _ 0 y) refl in
+          record {
+            table = steps .table;
+            count = omega (arith, e, g .count, ap length none, ap length short);
+            report = b ∙ (λ i. over (short i) ((g .report ∙ ap (λ l. over l buffer) none) i));
+          })
 
 -- the fresh table is one
 module _ (n : ℕ) (low : 2 ≤ n) (high : n ≤ 32) {a : Arrays} (e : a ≡ freshTable lent n) where

@@ -1,5 +1,5 @@
 -- The header is read, and then the lines after it are served; `x` is what is known when the header has been read.
-use mathlib.Core.Path.{_≡_, refl, sym, _∙_}
+use mathlib.Core.Path.{_≡_, sym, _∙_}
 use Rattle.schedule.specs.Lines.{headerRead}
 use Rattle.schedule.proofs.SessionLaws.{header-stations}
 use Rattle.schedule.proofs.Runs.{header-within}
@@ -35,7 +35,7 @@ returns-2 c =
     let x = c .before .before .before .before in
     let a = x .before .before .before .before .before .before .args in
     steps-short (a .file .now) (x .before .before .before .line-at .ensures) (accepted x) (c .before .before .from .ensures) (a .out .now)
-        (c .before .report-size .ensures) (c .if2 .taken)
+    (c .before .report-size .ensures) (c .if2 .taken)
 
 report-steps-requires : tie.Need-report-steps-requires
 report-steps-requires c κs = header-stations _ _ (accepted (c .before .before .before .before .before))
@@ -45,8 +45,8 @@ returns-3 c =
     let x = c .before .before .before .before .before .before in
     let a = x .before .before .before .before .before .before .args in
     let told = c .before .before .print-refusal .ensures in
-    refused-told (a .file .now) (x .before .before .before .line-at .ensures) (refused x) (a .out .now) _
-        (c .before .before .before .before .if1 .left) refl (told .0) (told .1)
+    refused-told (a .file .now) (x .before .before .before .line-at .ensures) (refused x) (a .out .now) (c .before .before .before .before .if1 .left)
+    (told .0) (told .1)
 
 returns-4 : tie.Need-returns-4
 returns-4 c =
@@ -54,7 +54,7 @@ returns-4 c =
     let x = y .before .before .before .before in
     let a = x .before .before .before .before .before .before .args in
     steps-told (a .file .now) (x .before .before .before .line-at .ensures) (accepted x) (y .before .before .from .ensures) (a .out .now)
-        (y .before .report-size .ensures) (y .if2 .left) (c .before .before .report-steps .ensures)
+    (y .before .report-size .ensures) (y .if2 .left) (c .before .before .report-steps .ensures)
 
 pub report-spec : {M : Type 1} → statement M
 report-spec = tie.close (tie.spec (λ c κs. search needs) (λ c κs. search needs) (λ c. search needs) returns (λ c κs. search needs) (λ c. search needs)

@@ -1,5 +1,5 @@
 -- The invariant is `Sofar` of ChunkLaws: what the lines before `at` left and printed. At a line, `x` is what is known when it has been found.
-use mathlib.Core.Path.{_≡_, refl, sym, _∙_}
+use mathlib.Core.Path.{sym, _∙_}
 use mathlib.Core.Logic.{inl, inr}
 use Prim.Native.Nat.{_+_, _-_, _≤_, _<_}
 use native.Mathlib.Omega.{arith}
@@ -39,7 +39,7 @@ same-length c = as-long (c .before .before .loop .inv .0)
 returns : tie.Need-returns Inv-loop μ-loop
 returns c =
     let l = c .before .before .loop in
-    (sofar-end (l .inv .0) _ refl refl refl refl (inr (c .if1 .taken)), l .inv .1)
+    (sofar-end (l .inv .0) (inr (c .if1 .taken)), l .inv .1)
 
 line-at-requires : tie.Need-line-at-requires Inv-loop μ-loop
 line-at-requires c κs = place-within (c .before .before .loop .inv .0)
@@ -75,7 +75,7 @@ returns-2 c =
     let read = c .before .before .before .before .before in
     let said = sym (read .before .before .next-line .ensures) ∙ read .refusal .given .1 in (
       sofar-stop (l .inv .0) (x .before .before .loop-test .taken) (x .before .if1 .left) (run-passes (l .inv .1)) _ (x .line-at .ensures)
-          (l .written + 928 - l .written) (omega arith) _ _ _ _ said (told .0) (told .1) refl refl refl refl,
+          (l .written + 928 - l .written) (omega arith) _ said (told .0) (told .1),
       l .inv .1,
     )
 
@@ -116,7 +116,7 @@ same-length-3 : tie.Need-same-length-3 Inv-loop μ-loop
 same-length-3 c = as-long (c .before .loop .inv .0)
 
 returns-3 : tie.Need-returns-3 Inv-loop μ-loop
-returns-3 c = (sofar-end (c .before .loop .inv .0) _ refl refl refl refl (inl (c .loop-test .left)), c .before .loop .inv .1)
+returns-3 c = (sofar-end (c .before .loop .inv .0) (inl (c .loop-test .left)), c .before .loop .inv .1)
 
 pub report-lines-spec : {M : Type 1} → statement M
 report-lines-spec = tie.close (tie.spec Inv-loop μ-loop loop-holds sub-if1 same-length returns line-at-requires (λ c. search needs) (λ c. omega arith)

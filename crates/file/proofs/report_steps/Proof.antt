@@ -1,6 +1,6 @@
 -- The invariant is `Gathered` of FileLaws: what the lines before `at` printed, and that the run goes on behind that. `y` is what is known after a part,
 -- and `t` before it.
-use mathlib.Core.Path.{_≡_, refl, sym, _∙_}
+use mathlib.Core.Path.{_≡_, sym, _∙_}
 use Prim.Native.Nat.{_-_}
 use native.Mathlib.Omega.{arith}
 use borrow.Author.Needs.{needs}
