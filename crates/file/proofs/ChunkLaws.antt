@@ -8,7 +8,7 @@ use Prim.Native.Nat.{ℕ, _+_, _-_, _*_, _/_, _≤_, _<_, min}
 use native.Mathlib.Decide.{decLt}
 use native.Mathlib.Omega.{arith}
 use lib.ListN.{length, take, drop, length-append, length-take, length-drop, drop-of-length-le}
-use lib.Seq.{length-take-le}
+use lib.Seq.{take-at, length-take-le}
 use borrow.Rule.Slice.PartMut.{midOf, putMid}
 use Rattle.simulation.specs.Calls.{Call}
 use Rattle.transition.specs.Forms.{over}
@@ -43,31 +43,27 @@ ahead chunk at = (length chunk - at + 17) / 18
 abbrev Starts : Lists.List ℕ → ℕ → Type 0
 Starts chunk at = at ≡ min (18 * readLines at) (length chunk)
 
-start-ahead : (chunk : Lists.List ℕ) (at : ℕ) → Starts chunk at → readLines at + ahead chunk at ≡ pieces chunk
-start-ahead chunk at w = omega (arith, w)
+-- the line that starts there
+module _ (chunk : Lists.List ℕ) {at : ℕ} (h : at < length chunk) {l : Lists.List ℕ} (p : l ≡ take 18 (drop at chunk)) where
+  line-long : length l ≡ min 18 (length chunk - at)
+  line-long = ap length p ∙ length-take 18 (drop at chunk) ∙ ap (min 18) (length-drop at chunk)
 
-module _ (chunk : Lists.List ℕ) (at : ℕ) (h : at < length chunk) where
-  abbrev line : Lists.List ℕ
-  line = take 18 (drop at chunk)
-
-  line-long : length line ≡ min 18 (length chunk - at)
-  line-long = length-take 18 (drop at chunk) ∙ ap (min 18) (length-drop at chunk)
-
-  line-within : (at + length line ≤ length chunk) × (0 < length line)
+  pub line-within : (at + length l ≤ length chunk) × (0 < length l)
   line-within = (omega (arith, line-long), omega (arith, line-long))
 
   module _ (w : Starts chunk at) where
-    line-next : readLines (at + length line) ≡ readLines at + 1
+    line-next : readLines (at + length l) ≡ readLines at + 1
     line-next = omega (arith, line-long, w)
 
-    line-starts : Starts chunk (at + length line)
+    line-starts : Starts chunk (at + length l)
     line-starts = omega (arith, line-long, w)
 
-    line-cut : cut (readLines (at + length line)) chunk ≡ cut (readLines at) chunk ++ (line ∷ [])
+    line-cut : cut (readLines (at + length l)) chunk ≡ cut (readLines at) chunk ++ (l ∷ [])
     unfolding cut
     line-cut =
         let e : 18 * readLines at ≡ at = omega (arith, w) in
         ap (λ k. cut k chunk) line-next ∙ cut-add (readLines at) 1 chunk ∙ ap (λ k. cut (readLines at) chunk ++ (take 18 (drop k chunk) ∷ [])) e
+        ∙ ap (λ x. cut (readLines at) chunk ++ (x ∷ [])) (sym p)
 
 -- THE LOOP
 
@@ -107,33 +103,27 @@ module _ {s : Session Arrays} {chunk out₀ : Lists.List ℕ} {a : Arrays} {line
   pub as-long : length out ≡ length out₀
   as-long = rw (f .area) (length-over (f .bytes) out₀ (omega (arith, f .long, f .room)))
 
-  pub inside : written ≤ length out
-  inside = omega (arith, as-long, f .room)
-
   pub place-within : at ≤ length chunk
   place-within = omega (arith, f .whole)
 
   -- all lines are served, or there is no room for another
-  pub sofar-end : (r : Progress) → r .lines ≡ lines → r .refusal ≡ Accepted → r .read ≡ at → r .written ≡ written
-      → (length chunk ≤ at) ⊎ (length out - written < 928) → Reports s chunk a r out₀ out
-  sofar-end r e v u w h = record {
-    whole = rw u (f .whole);
+  pub sofar-end : (length chunk ≤ at) ⊎ (length out - written < 928)
+      → Reports s chunk a (record { lines = lines; refusal = Accepted; read = at; written = written }) out₀ out
+  sofar-end h = record {
+    whole = f .whole;
     bytes = f .bytes;
-    runs = rw (e, v, u) (f .runs);
-    written = w ∙ f .long;
+    runs = f .runs;
+    written = f .long;
     report = f .area;
-    goes = rw u (f .goes);
-    stops = inr (⊎-elim (λ x. inl (omega (arith, u, place-within))) (λ x. inr (omega (arith, w, as-long, f .room))) h);
-    short = rw (u, w) (f .short);
-    counted = λ z. rw (u, e) (f .counted, f .low);
+    goes = f .goes;
+    stops = inr (⊎-elim (λ x. inl (omega (arith, place-within))) (λ x. inr (omega (arith, as-long, f .room))) h);
+    short = f .short;
+    counted = λ _. (f .counted, f .low);
   }
 
   module _ (h : at < length chunk) (free : 928 ≤ length out - written) where
     pub room-here : written + 928 ≤ length out
-    room-here = omega (arith, inside)
-
-    pub at-next : (l : Lists.List ℕ) → l ≡ take 18 (drop at chunk) → (at + length l ≤ length chunk) × (0 < length l)
-    at-next l p = rw p (line-within chunk at h)
+    room-here = omega (arith, as-long, f .room)
 
     module _ (ok : wellFormed a ≡ true) (l : Lists.List ℕ) (p : l ≡ take 18 (drop at chunk)) (k : ℕ) (e : k ≡ 928) where
       -- what is put in behind the bytes so far
@@ -141,43 +131,36 @@ module _ {s : Session Arrays} {chunk out₀ : Lists.List ℕ} {a : Arrays} {line
       put x short = rw (f .area, e, f .long) (put-over (f .bytes) x out₀ 928 short (omega (arith, f .long, as-long, room-here)))
 
       -- one line more
-      starts-on : Starts chunk (at + length l)
-      starts-on = rw p (line-starts chunk at h (f .whole))
-
-      lines-on : readLines (at + length l) ≡ readLines at + 1
-      lines-on = rw p (line-next chunk at h (f .whole))
-
       runs-on : (o : Served Arrays) → runLines lent (session lines Accepted a) (l ∷ []) ≡ o
           → runLines lent s (cut (readLines (at + length l)) chunk) ≡ behind (f .bytes) o
       runs-on o q =
-          ap (runLines lent s) (rw p (line-cut chunk at h (f .whole)))
+          ap (runLines lent s) (line-cut chunk h p (f .whole))
           ∙ run-append lent (cut (readLines at) chunk) (l ∷ []) s
           ∙ ap (λ x. behind (x .bytes) (runLines lent (x .session) (l ∷ []))) (f .runs)
           ∙ ap (behind (f .bytes)) q
 
       goes-on : (j : ℕ) → j < readLines (at + length l) → Goes s chunk (length out₀) j
       goes-on j b = by-cases (decLt j (readLines at)) (f .goes j)
-          (λ n. let q : j ≡ readLines at = omega (arith, b, n, lines-on) in
+          (λ n. let q : j ≡ readLines at = omega (arith, b, n, line-next chunk h p (f .whole)) in
           rw (q, f .runs) (refl, omega (arith, f .long, as-long, room-here)))
 
       -- a line that is refused for good
-      pub sofar-stop : (r : Refusal) (n : ℕ) (x : Lists.List ℕ) (o : Progress) → nextLine lines l ≡ Refused r
-          → n ≡ length (printed (lines + 1) (refusalNumber r) []) → x ≡ over (printed (lines + 1) (refusalNumber r) []) (midOf written k out)
-          → o .lines ≡ lines → o .refusal ≡ r → o .read ≡ at + length l → o .written ≡ written + n → Reports s chunk a o out₀ (putMid written k out x)
-      sofar-stop r n x o q b c u v y w =
-          let bytes = printed (lines + 1) (refusalNumber r) [] in
-          let d = next-refused lines l r q in
-          let low : length bytes ≤ 29 = printed-refusal (lines + 1) (refusalNumber r) in
+      pub sofar-stop : (r : Refusal) {n : ℕ} {x : Lists.List ℕ} → nextLine lines l ≡ Refused r → let told = printed (lines + 1) (refusalNumber r) [] in
+          n ≡ length told → x ≡ over told (midOf written k out)
+          → Reports s chunk a (record { lines = lines; refusal = r; read = at + length l; written = written + n }) out₀ (putMid written k out x)
+      sofar-stop r q b c =
+          let told = printed (lines + 1) (refusalNumber r) [] in
+          let low : length told ≤ 29 = printed-refusal (lines + 1) (refusalNumber r) in
           record {
-            whole = rw y starts-on;
-            bytes = f .bytes ++ bytes;
-            runs = rw (u, v, y) (runs-on _ (run-refused lent (session lines Accepted a) l refl ok r q));
-            written = omega (arith, w, b, f .long, length-append (f .bytes) bytes);
-            report = rw c (put bytes (omega (arith, low)));
-            goes = rw y goes-on;
-            stops = inl (λ z. d (sym (ap refusalNumber v) ∙ z));
-            short = rw y (omega (arith, w, b, low, f .short, lines-on));
-            counted = λ z. absurd (d (sym (ap refusalNumber v) ∙ z));
+            whole = line-starts chunk h p (f .whole);
+            bytes = f .bytes ++ told;
+            runs = runs-on _ (run-refused lent (session lines Accepted a) l refl ok r q);
+            written = omega (arith, b, f .long, length-append (f .bytes) told);
+            report = rw c (put told (omega (arith, low)));
+            goes = goes-on;
+            stops = inl (next-refused lines l r q);
+            short = omega (arith, b, low, f .short, line-next chunk h p (f .whole));
+            counted = λ z. absurd (next-refused lines l r q z);
           }
 
       -- a line that is served
@@ -189,10 +172,10 @@ module _ {s : Session Arrays} {chunk out₀ : Lists.List ℕ} {a : Arrays} {line
           let mid : length (midOf written k out) ≡ 928 = length-take-le k (drop written out) (rw length-drop (omega (arith, e, room-here))) ∙ e in
           let few : length b ≤ 928 = omega (arith, over-short b (midOf written k out) x (g .report) y, mid) in
           record {
-            whole = starts-on;
+            whole = line-starts chunk h p (f .whole);
             room = omega (arith, g .count, few, as-long, room-here);
-            short = omega (arith, g .count, few, f .short, lines-on);
-            counted = omega (arith, f .counted, lines-on);
+            short = omega (arith, g .count, few, f .short, line-next chunk h p (f .whole));
+            counted = omega (arith, f .counted, line-next chunk h p (f .whole));
             low = λ _. omega (arith, next-within lines l station code job q);
             bytes = f .bytes ++ b;
             long = omega (arith, g .count, f .long, length-append (f .bytes) b);
@@ -209,7 +192,7 @@ module _ {s : Session Arrays} {chunk : Lists.List ℕ} {a : Arrays} {r : Progres
   reports-within = omega (arith, f .whole)
 
   reports-ahead : readLines (r .read) + ahead chunk (r .read) ≡ pieces chunk
-  reports-ahead = start-ahead chunk (r .read) (f .whole)
+  reports-ahead = omega (arith, f .whole)
 
   -- what is left to read
   abbrev left : Lists.List ℕ
@@ -237,6 +220,9 @@ module _ {s : Session Arrays} {chunk : Lists.List ℕ} {a : Arrays} {r : Progres
 
   pub reports-inside : r .written ≤ length buffer′
   reports-inside = omega (arith, f .written, ap length (f .report) ∙ length-append (f .bytes) (drop (length (f .bytes)) buffer))
+
+  pub reports-shown : take (r .written) buffer′ ≡ f .bytes
+  reports-shown = rw (f .report, f .written) (take-at (f .bytes) (drop (length (f .bytes)) buffer) (length (f .bytes)) refl)
 
   -- with room for a line, something is read
   pub reports-on : 0 < length chunk → 928 ≤ length buffer → refusalNumber (r .refusal) ≡ 0 → 0 < r .read

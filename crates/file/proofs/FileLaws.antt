@@ -1,17 +1,17 @@
 -- All lines of a file, however much room there is for what they print, and the whole file.
 use mathlib.Core.Path.{_≡_, refl, sym, ap, subst, _∙_}
-use mathlib.Core.Logic.{_≢_}
+use mathlib.Core.Logic.{⊎-elim}
 use mathlib.Core.Bool.{cond}
 use mathlib.Core.List as Lists
 use mathlib.Core.List.{[], _++_, append-assoc, append-nil}
-use Prim.Native.Nat.{ℕ, _+_, _-_, _*_, _/_, _≤_, _<_}
+use Prim.Native.Nat.{ℕ, _+_, _*_, _≤_, _<_}
 use native.Mathlib.Numerals.{add-one}
 use native.Mathlib.Omega.{arith}
 use lib.ListN.{length, getD, take, drop, set, length-append, length-drop}
-use lib.Seq.{take-at, drop-at, drop-drop, take-suc, take-suc-set, length-take-le}
+use lib.Seq.{take-at, drop-at, drop-drop, take-suc, take-suc-set}
 use lib.Dec.{leb}
 use borrow.Author.Tests.{le-leb, lt-leb, ne-eqb}
-use borrow.Rule.Slice.PartMut.{midOf, putMid}
+use borrow.Rule.Slice.PartMut.{putMid}
 use Rattle.columns.proofs.ColumnLaws.{length-report-line}
 use Rattle.transition.specs.Forms.{over, freshTable}
 use Rattle.moves.specs.Moves.{refusalNumber}
@@ -24,12 +24,12 @@ use Rattle.engine.specs.declared.Reply.{Reply}
 use Rattle.schedule.specs.Lines.{headerRead}
 use Rattle.schedule.specs.Sessions.{Session, session, Served, standing}
 use Rattle.schedule.specs.Files.{cut, pieces, refusalLine, printed, behind, runLines, fileRun}
-use Rattle.schedule.proofs.SessionLaws.{header-refused, header-stations}
-use Rattle.schedule.proofs.Runs.{final-run, file-refused, file-served, rest-after, put-over, over-short}
+use Rattle.schedule.proofs.SessionLaws.{header-refused}
+use Rattle.schedule.proofs.Runs.{final-run, file-refused, file-served, rest-after}
 use Rattle.schedule.specs.declared.Header.the-variants as Headers
 use Rattle.schedule.specs.declared.Header.the-variants.{Stations}
-use Rattle.file.specs.Contracts.{Reports, ReportsAll, ReportsFile}
-use Rattle.file.proofs.ChunkLaws.{reports-within, reports-left, reports-rest}
+use Rattle.file.specs.Contracts.{Reports, Follows, ReportsAll, Sizes, ReportsFile}
+use Rattle.file.proofs.ChunkLaws.{reports-within, reports-inside, reports-shown, reports-left, reports-rest, reports-on}
 use Rattle.file.specs.declared.Progress.{Progress}
 
 -- 0 is the number of no refusal
@@ -57,9 +57,10 @@ pub copied-more : (out bytes : Lists.List ℕ) (i : ℕ) → length out ≡ leng
 copied-more out bytes i l h e = rw (add-one i, take-suc-set out i (getD bytes i 0) (omega arith), take-suc bytes i 0 (omega arith), e) refl
 
 -- bytes put in behind others
-put-behind : (bytes x buffer : Lists.List ℕ) → putMid (length bytes) (length x) (over bytes buffer) x ≡ over (bytes ++ x) buffer
-put-behind bytes x buffer =
-    rw (take-at bytes (drop (length bytes) buffer) (length bytes) refl, drop-at bytes (drop (length bytes) buffer) (length bytes) refl)
+put-behind : (bytes x buffer : Lists.List ℕ) {out : Lists.List ℕ} {at : ℕ} → out ≡ over bytes buffer → at ≡ length bytes
+    → putMid at (length x) out x ≡ over (bytes ++ x) buffer
+put-behind bytes x buffer e l =
+    rw (e, l, take-at bytes (drop (length bytes) buffer) (length bytes) refl, drop-at bytes (drop (length bytes) buffer) (length bytes) refl)
     (rw (drop-drop (length x) (length bytes) buffer, length-append bytes x) (sym (append-assoc bytes x (drop (length bytes + length x) buffer))))
 
 behind-twice : {T : Type 0} (a b : Lists.List ℕ) (o : Served T) → behind a (behind b o) ≡ behind (a ++ b) o
@@ -67,26 +68,8 @@ behind-twice a b o = ap (λ x. record { session = o .session; refusal = o .refus
 
 -- ALL LINES
 
--- a part of the file that is given under another name
-pub reports-as : {s : Session Arrays} {l l′ : Lists.List ℕ} → l ≡ l′ → {a : Arrays} {r : Progress} {buffer buffer′ : Lists.List ℕ}
-    → Reports s l a r buffer buffer′ → Reports s l′ a r buffer buffer′
-reports-as {s} e {a} {r} {buffer} {buffer′} g = subst (λ x. Reports s x a r buffer buffer′) e g
-
 abbrev runOf : Session Arrays → Lists.List ℕ → Served Arrays
 runOf s rest = runLines lent s (cut (pieces rest) rest)
-
--- a run that has come to its end
-all-told : {o : Served Arrays} (bytes : Lists.List ℕ) (s : Session Arrays) → o ≡ behind bytes (standing s) → {rest out₀ out : Lists.List ℕ} (r : Reply)
-    → r .refusal ≡ s .refusal → r .written ≡ length bytes → (length bytes ≤ length out₀ → out ≡ over bytes out₀) → length bytes ≤ 928 * pieces rest
-    → ReportsAll o rest r out₀ out
-all-told {o} bytes s e {out₀ = out₀} r v w area short =
-    let b : bytes ≡ o .bytes = sym (append-nil bytes) ∙ sym (ap (λ (x : Served Arrays). x .bytes) e) in
-    record {
-      number = ap refusalNumber v ∙ sym (ap (λ (x : Served Arrays). x .refusal) e);
-      count = w ∙ ap length b;
-      report = λ h. area (omega (arith, w)) ∙ ap (λ (x : Lists.List ℕ). over x out₀) b;
-      short = omega (arith, w);
-    }
 
 -- nothing is left to read
 none-left : (s : Session Arrays) (rest : Lists.List ℕ) (at : ℕ) → length rest ≤ at → runOf s (drop at rest) ≡ standing s
@@ -94,127 +77,99 @@ unfolding cut runLines
 none-left s rest at h = let z : pieces (drop at rest) ≡ 0 = omega (arith, length-drop at rest) in rw z refl
 
 -- the lines so far, in any number of parts: what they printed, and that the run goes on from where they left it
-pub record Gathered (s : Session Arrays) (rest out₀ : Lists.List ℕ) (a : Arrays) (lines written at : ℕ) (out : Lists.List ℕ) : Type 0 where
+pub record Gathered (s : Session Arrays) (rest out₀ : Lists.List ℕ) (a : Arrays) (lines : ℕ) (refusal : Refusal) (written at : ℕ) (out : Lists.List ℕ)
+    : Type 0 where
   pub within : at ≤ length rest
+  pub going : at < length rest → (refusal ≡ Accepted) × (written ≤ 928 * lines) × (lines ≤ 1000001)
   pub bytes : Lists.List ℕ
   pub long : written ≡ length bytes
   pub same : length out ≡ length out₀
   pub area : written ≤ length out₀ → out ≡ over bytes out₀
-  pub runs : runOf s rest ≡ behind bytes (runOf (session lines Accepted a) (drop at rest))
+  pub runs : runOf s rest ≡ behind bytes (runOf (session lines refusal a) (drop at rest))
   pub short : written + 928 * pieces (drop at rest) ≤ 928 * pieces rest
-  pub few : written ≤ 928 * lines
-  pub low : lines ≤ 1000001
 
-pub gathered-start : (lines : ℕ) (a : Arrays) (rest out : Lists.List ℕ) → lines ≤ 1000001 → Gathered (session lines Accepted a) rest out a lines 0 0 out
-gathered-start lines a rest out h = record {
+pub gathered-start : (a : Arrays) (rest out : Lists.List ℕ) → Gathered (session 1 Accepted a) rest out a 1 Accepted 0 0 out
+gathered-start a rest out = record {
   within = omega arith;
+  going = λ _. (refl, omega arith, omega arith);
   bytes = [];
   long = refl;
   same = refl;
   area = λ _. refl;
   runs = refl;
   short = omega arith;
-  few = omega arith;
-  low = h;
 }
 
-module _ {s : Session Arrays} {rest out₀ : Lists.List ℕ} {a : Arrays} {lines written at : ℕ} {out : Lists.List ℕ}
-    (f : Gathered s rest out₀ a lines written at out) where
-  -- all lines are served
-  pub gathered-end : length rest ≤ at → (r : Reply) → r .refusal ≡ Accepted → r .written ≡ written → ReportsAll (runOf s rest) rest r out₀ out
-  gathered-end h r v w = all-told (f .bytes) (session lines Accepted a)
-      (f .runs ∙ ap (behind (f .bytes)) (none-left (session lines Accepted a) rest at h)) r v (w ∙ f .long)
-      (λ l. f .area (omega (arith, f .long))) (omega (arith, f .long, f .short))
-
-  module _ {a′ : Arrays} {r : Progress} {buffer buffer′ : Lists.List ℕ}
-      (g : Reports (session lines Accepted a) (drop at rest) a′ r buffer buffer′) where
-    left : drop (r .read) (drop at rest) ≡ drop (at + r .read) rest
-    left = drop-drop (r .read) at rest
-
-    -- the run goes on
-    on : runOf s rest ≡ behind (f .bytes ++ g .bytes) (runOf (session (r .lines) (r .refusal) a′) (drop (at + r .read) rest))
-    on = f .runs ∙ ap (behind (f .bytes)) (reports-rest g) ∙ behind-twice (f .bytes) (g .bytes) _
-        ∙ ap (λ x. behind (f .bytes ++ g .bytes) (runOf (session (r .lines) (r .refusal) a′) x)) left
-
-    long-on : written + r .written ≡ length (f .bytes ++ g .bytes)
-    long-on = omega (arith, f .long, g .written, length-append (f .bytes) (g .bytes))
-
-    short-on : written + r .written + 928 * pieces (drop (at + r .read) rest) ≤ 928 * pieces rest
-    short-on = omega (arith, f .short, g .short, reports-left g, ap pieces left)
-
-    -- what is behind the bytes so far, if it fits
-    module _ {out′ : Lists.List ℕ} (p : let x = take (r .written) buffer′ in written + length x ≤ length out → out′ ≡ putMid written (length x) out x) where
-      area-on : written + r .written ≤ length out₀ → out′ ≡ over (f .bytes ++ g .bytes) out₀
-      area-on h =
-          let b : take (r .written) buffer′ ≡ g .bytes
-          = rw (g .report, g .written) (take-at (g .bytes) (drop (length (g .bytes)) buffer) (length (g .bytes)) refl) in
-          rw b at p (omega (arith, f .same, g .written)) ∙ rw (f .area (omega arith), f .long) (put-behind (f .bytes) (g .bytes) out₀)
-
-      pub gathered-stop : refusalNumber (r .refusal) ≢ 0 → (o : Reply) → o .refusal ≡ r .refusal → o .written ≡ written + r .written
-          → ReportsAll (runOf s rest) rest o out₀ out′
-      gathered-stop d o v w = all-told (f .bytes ++ g .bytes) (session (r .lines) (r .refusal) a′)
-          (on ∙ ap (behind (f .bytes ++ g .bytes)) (final-run lent (session (r .lines) (r .refusal) a′) _ d)) o v (w ∙ long-on)
-          (λ h. area-on (omega (arith, long-on))) (omega (arith, long-on, short-on))
-
-      pub gathered-more : refusalNumber (r .refusal) ≡ 0 → length out′ ≡ length out
-          → Gathered s rest out₀ a′ (r .lines) (written + r .written) (at + r .read) out′
-      gathered-more z q = record {
-        within = omega (arith, f .within, reports-within g, length-drop at rest);
-        bytes = f .bytes ++ g .bytes;
-        long = long-on;
-        same = q ∙ f .same;
-        area = area-on;
-        runs = subst (λ v. runOf s rest ≡ behind (f .bytes ++ g .bytes) (runOf (session (r .lines) v a′) (drop (at + r .read) rest))) (accepted _ z) on;
-        short = short-on;
-        few = omega (arith, f .few, g .short, g .counted z .0);
-        low = g .counted z .1 (f .low);
-      }
-
--- a part that is served straight into the buffer, from the first line on
-module _ {s : Session Arrays} {rest out₀ : Lists.List ℕ} {a : Arrays} {r : Progress} {out : Lists.List ℕ} (g : Reports s rest a r out₀ out) where
-  abbrev now : Session Arrays
-  now = session (r .lines) (r .refusal) a
-
-  straight-told : runOf now (drop (r .read) rest) ≡ standing now → (o : Reply) → o .refusal ≡ r .refusal → o .written ≡ r .written
-      → ReportsAll (runOf s rest) rest o out₀ out
-  straight-told e o v w = all-told (g .bytes) now (reports-rest g ∙ ap (behind (g .bytes)) e) o v (w ∙ g .written) (λ _. g .report)
-      (omega (arith, g .written, g .short, reports-left g))
-
-  pub straight-stop : refusalNumber (r .refusal) ≢ 0 → (o : Reply) → o .refusal ≡ r .refusal → o .written ≡ r .written
-      → ReportsAll (runOf s rest) rest o out₀ out
-  straight-stop d = straight-told (final-run lent now _ d)
-
-  pub straight-end : r .read ≡ length rest → (o : Reply) → o .refusal ≡ r .refusal → o .written ≡ r .written
-      → ReportsAll (runOf s rest) rest o out₀ out
-  straight-end e = straight-told (none-left now rest (r .read) (omega (arith, e)))
-
-  pub straight-few : s .lines ≤ 1000001 → refusalNumber (r .refusal) ≡ 0 → (r .lines ≤ 1000001) × (r .written ≤ 928 * r .lines)
-  straight-few h z = let n = g .counted z in (n .1 h, omega (arith, n .0, g .short))
-
-  -- and the rest of the lines behind it
-  pub straight-more : refusalNumber (r .refusal) ≡ 0 → length out ≡ length out₀ → {l : Lists.List ℕ} → l ≡ drop (r .read) rest
-      → (k : ℕ) → k ≡ length out - r .written → {t : Reply} {x : Lists.List ℕ}
-      → ReportsAll (runOf (session (r .lines) Accepted a) l) l t (midOf (r .written) k out) x
-      → (o : Reply) → o .refusal ≡ t .refusal → o .written ≡ r .written + t .written
-      → ReportsAll (runOf s rest) rest o out₀ (putMid (r .written) k out x)
-  straight-more z q {l} e k w {t} {x} f o u v =
-      let o₂ = runOf (session (r .lines) Accepted a) l in
-      let all : runOf s rest ≡ behind (g .bytes) o₂ = reports-rest g
-      ∙ (λ i. behind (g .bytes) (runOf (session (r .lines) (accepted (r .refusal) z i) a) (sym e i))) in
-      let fit : length (g .bytes) ≤ length out₀ = over-short (g .bytes) out₀ out (g .report) q in
-      let mid : length (midOf (r .written) k out) ≡ k = length-take-le k (drop (r .written) out) (rw length-drop (omega arith)) in
-      let b : length (runOf s rest .bytes) ≡ length (g .bytes) + length (o₂ .bytes)
-      = ap (λ (y : Served Arrays). length (y .bytes)) all ∙ length-append (g .bytes) (o₂ .bytes) in
-      let put : length (o₂ .bytes) ≤ k → length (g .bytes) + k ≤ length out₀
-      → putMid (r .written) k out (over (o₂ .bytes) (midOf (r .written) k out)) ≡ over (g .bytes ++ o₂ .bytes) out₀
-      = λ c d. rw (g .report, g .written) (put-over (g .bytes) (o₂ .bytes) out₀ k c d) in
+module _ {s : Session Arrays} {rest out₀ : Lists.List ℕ} {a : Arrays} {lines : ℕ} {refusal : Refusal} {written at : ℕ} {out : Lists.List ℕ}
+    (f : Gathered s rest out₀ a lines refusal written at out) where
+  -- all lines are served, or one is refused for good
+  pub gathered-end : length rest ≤ at → ReportsAll (runOf s rest) rest (record { refusal = refusal; written = written }) out₀ out
+  gathered-end h =
+      let e = f .runs ∙ ap (behind (f .bytes)) (none-left (session lines refusal a) rest at h) in
+      let b : f .bytes ≡ runOf s rest .bytes = sym (append-nil (f .bytes)) ∙ sym (ap (λ (x : Served Arrays). x .bytes) e) in
       record {
-        number = ap refusalNumber u ∙ f .number ∙ sym (ap (λ (y : Served Arrays). y .refusal) all);
-        count = omega (arith, v, g .written, f .count, b);
-        report = λ h. ap (putMid (r .written) k out) (f .report (omega (arith, mid, v, g .written)))
-            ∙ put (omega (arith, f .count, v, g .written)) (omega (arith, fit, g .written)) ∙ ap (λ (y : Served Arrays). over (y .bytes) out₀) (sym all);
-        short = omega (arith, v, f .short, g .short, reports-left g, ap pieces e);
+        number = sym (ap (λ (x : Served Arrays). x .refusal) e);
+        count = f .long ∙ ap length b;
+        report = λ l. f .area l ∙ ap (λ (x : Lists.List ℕ). over x out₀) b;
+        short = omega (arith, f .short);
       }
+
+  -- one part more
+  module _ (h : at < length rest) {l : Lists.List ℕ} (p : l ≡ drop at rest) {a′ : Arrays} {r : Progress} {buffer buffer′ : Lists.List ℕ}
+      (reported : Reports (session lines Accepted a) l a′ r buffer buffer′) where
+    g : Reports (session lines Accepted a) (drop at rest) a′ r buffer buffer′
+    g = rw p at reported
+
+    pub part-within : at + r .read ≤ length rest
+    part-within = omega (arith, f .within, reports-within g, length-drop at rest)
+
+    pub part-few : written + r .written ≤ 928000928 + length buffer′
+    part-few = omega (arith, f .going h, reports-inside g)
+
+    abbrev left : Session Arrays
+    left = session (r .lines) (r .refusal) a′
+
+    on : runOf s rest ≡ behind (f .bytes ++ g .bytes) (runOf left (drop (at + r .read) rest))
+    on = f .runs ∙ ap (λ x. behind (f .bytes) (runOf (session lines x a) (drop at rest))) (f .going h .0)
+        ∙ ap (behind (f .bytes)) (reports-rest g) ∙ behind-twice (f .bytes) (g .bytes) _
+        ∙ ap (λ x. behind (f .bytes ++ g .bytes) (runOf left x)) (drop-drop (r .read) at rest)
+
+    -- its bytes stand behind those so far, if they fit
+    module _ {w : ℕ} {out′ : Lists.List ℕ} (put : let x = take (r .written) buffer′ in
+        (w ≡ written + length x) × (w ≤ length out → out′ ≡ putMid written (length x) out x)) (q : length out′ ≡ length out) where
+      turn : (k : ℕ) → at + r .read ≤ k → k ≤ length rest → (k < length rest → refusalNumber (r .refusal) ≡ 0)
+          → runOf left (drop (at + r .read) rest) ≡ runOf left (drop k rest) → Gathered s rest out₀ a′ (r .lines) (r .refusal) w k out′
+      turn k low high goes e =
+          let n : w ≡ written + length (g .bytes) = rw (reports-shown g) at put .0 in
+          record {
+            within = high;
+            going = λ l. let z = goes l in (accepted _ z, omega (arith, f .going h, n, g .written, g .short, g .counted z), g .counted z .1 (f .going h .2));
+            bytes = f .bytes ++ g .bytes;
+            long = omega (arith, n, f .long, length-append (f .bytes) (g .bytes));
+            same = q ∙ f .same;
+            area = λ l. rw (reports-shown g) at put .1 (omega (arith, f .same)) ∙ put-behind (f .bytes) (g .bytes) out₀ (f .area (omega (arith, n))) (f .long);
+            runs = on ∙ ap (behind (f .bytes ++ g .bytes)) e;
+            short = omega (
+              arith,
+              n,
+              g .written,
+              f .short,
+              g .short,
+              reports-left g,
+              ap pieces (drop-drop (r .read) at rest),
+              length-drop k rest,
+              length-drop (at + r .read) rest,
+            );
+          }
+
+      pub gathered-more : {k : ℕ} → Follows at r (length rest) k → Gathered s rest out₀ a′ (r .lines) (r .refusal) w k out′
+      gathered-more {k} = ⊎-elim
+          (λ x. turn k (omega (arith, x .1)) (omega (arith, x .1, part-within)) (λ _. x .0) (ap (λ i. runOf left (drop i rest)) (sym (x .1))))
+          (λ x. turn k (omega (arith, x .1, part-within)) (omega (arith, x .1)) (λ l. absurd (omega (arith, x .1)))
+          (final-run lent left _ (x .0) ∙ sym (none-left left rest k (omega (arith, x .1)))))
+
+    pub part-less : 928 ≤ length buffer → {k : ℕ} → Follows at r (length rest) k → at < k
+    part-less m = ⊎-elim (λ x. omega (arith, x .1, reports-on g (rw length-drop (omega arith)) m (x .0))) (λ x. omega (arith, x .1))
 
 -- THE WHOLE FILE
 
@@ -245,36 +200,27 @@ module _ (bs : Lists.List ℕ) {l : Lists.List ℕ} (e : l ≡ take 18 bs) {x : 
   pub refused-short : (buffer : Lists.List ℕ) → length buffer < 29 → ReportsFile bs buffer 7 0 buffer
   refused-short buffer s = file-short bs buffer only (omega (arith, long))
 
-  pub refused-told : (buffer : Lists.List ℕ) (r : Reply) {buffer′ : Lists.List ℕ} → 29 ≤ length buffer → r .refusal ≡ x
-      → let line = printed 1 (refusalNumber x) [] in r .written ≡ length line → buffer′ ≡ over line buffer
-      → ReportsFile bs buffer (refusalNumber (r .refusal)) (r .written) buffer′
-  refused-told buffer r s n w p =
+  pub refused-told : (buffer : Lists.List ℕ) {w : ℕ} {buffer′ : Lists.List ℕ} → 29 ≤ length buffer → let line = printed 1 (refusalNumber x) [] in
+      w ≡ length line → buffer′ ≡ over line buffer → ReportsFile bs buffer (refusalNumber x) w buffer′
+  refused-told buffer s w p =
       let q : printed 1 (refusalNumber x) [] ≡ refusalLine 1 (refusalNumber x) = rw (ne-eqb _ _ (header-refused l x h)) refl in
-      file-fits bs buffer only (ap refusalNumber n) (w ∙ ap length q) (omega (arith, long)) (p ∙ ap (λ b. over b buffer) q)
+      file-fits bs buffer only refl (w ∙ ap length q) (omega (arith, long)) (p ∙ ap (λ b. over b buffer) q)
 
 -- an accepted header: the lines after it give the report
-module _ (bs : Lists.List ℕ) {l : Lists.List ℕ} (e : l ≡ take 18 bs) {n : ℕ} (h : headerRead l ≡ Stations n) where
-  abbrev opened : Session Arrays
-  opened = session 1 Accepted (freshTable lent n)
+module _ (bs : Lists.List ℕ) {l : Lists.List ℕ} (e : l ≡ take 18 bs) {n : ℕ} (h : headerRead l ≡ Stations n)
+    {rest : Lists.List ℕ} (q : rest ≡ drop (length l) bs) (buffer : Lists.List ℕ) where
+  abbrev served : Served Arrays
+  served = runOf (session 1 Accepted (freshTable lent n)) rest
 
-  pub stations : (2 ≤ n) × (n ≤ 32)
-  stations = header-stations l n h
+  whole : fileRun lent bs ≡ served
+  whole = file-served lent bs n (ap headerRead (sym e) ∙ h) ∙ ap (runOf (session 1 Accepted (freshTable lent n))) (sym (q ∙ rest-after bs l e))
 
-  module _ {rest : Lists.List ℕ} (q : rest ≡ drop (length l) bs) (buffer : Lists.List ℕ) where
-    after : rest ≡ drop 18 bs
-    after = q ∙ rest-after bs l e
+  module _ {k : ℕ} (s : Sizes served rest (length buffer) k) where
+    pub steps-short : length buffer < k → ReportsFile bs buffer 7 0 buffer
+    steps-short d = ⊎-elim (λ x. file-short bs buffer whole (omega (arith, x))) (λ x. absurd (omega (arith, x .0))) s
 
-    whole : fileRun lent bs ≡ runOf opened rest
-    whole = file-served lent bs n (ap headerRead (sym e) ∙ h) ∙ ap (runOf opened) (sym after)
-
-    pub steps-told : {r : Reply} {buffer′ : Lists.List ℕ} → ReportsAll (runOf opened rest) rest r buffer buffer′ → r .written ≤ length buffer
+    pub steps-told : k ≤ length buffer → {r : Reply} {buffer′ : Lists.List ℕ} → ReportsAll served rest r buffer buffer′
         → ReportsFile bs buffer (refusalNumber (r .refusal)) (r .written) buffer′
-    steps-told g s = file-fits bs buffer whole (g .number) (g .count) (omega (arith, g .count)) (g .report s)
-
-    pub steps-short : length buffer < length (runOf opened rest .bytes) → ReportsFile bs buffer 7 0 buffer
-    steps-short s = file-short bs buffer whole s
-
-    -- room for 928 bytes for each line is enough
-    pub enough : {r : Reply} {buffer′ : Lists.List ℕ} → ReportsAll (runOf opened rest) rest r buffer buffer′
-        → length bs / 18 ≤ length buffer / 928 → r .written ≤ length buffer
-    enough g s = omega (arith, g .short, ap length after ∙ length-drop 18 bs)
+    steps-told d {r} g =
+        let fit : r .written ≤ length buffer = ⊎-elim (λ x. omega (arith, x, g .count)) (λ x. omega (arith, x .1, g .short)) s in
+        file-fits bs buffer whole (g .number) (g .count) (omega (arith, g .count, fit)) (g .report fit)

@@ -1,9 +1,10 @@
 -- A step line, served on a table that calls leave of the fresh one: carrying out its task is the step call, the table left is such a table again, and its
 -- labels in order are told from those before.
-use Prim.Native.Nat.{ℕ, _-_, _≤_, _<_}
+use Prim.Native.Nat.{ℕ, _+_, _-_, _≤_, _<_}
+use native.Mathlib.Decide.{ℕ-discrete}
 use native.Mathlib.Omega.{arith}
 use mathlib.Core.Path.{_≡_, refl, sym, ap, subst, _∙_}
-use mathlib.Core.Logic.{_≢_}
+use mathlib.Core.Logic.{_≢_, by-cases}
 use mathlib.Core.Bool.{true, false}
 use mathlib.Core.List as Lists
 use mathlib.Core.List.{[], _∷_, _++_}
@@ -40,6 +41,7 @@ use Rattle.engine.specs.declared.Reply.{Reply}
 use Rattle.engine.specs.declared.Request.{Request}
 use Rattle.engine.specs.declared.Task.{Task}
 use Rattle.schedule.specs.Files.{printed}
+use Rattle.schedule.proofs.Runs.{over-short, printed-accepted, printed-refusal}
 use Rattle.file.specs.Contracts.{Runnable, Prints}
 
 -- one call more
@@ -157,20 +159,34 @@ module _ {a : Arrays} {order : Lists.List ℕ} (f : Runnable a order) where
         isOrder = e;
       }
 
-      -- what an accepted line prints, and a refused one
-      pub line-accepted : refusalNumber (r .refusal) ≡ 0 → Prints a c buffer a′ (r .written) buffer′
-      line-accepted z = let y : stepOf lent a c .refusal ≡ 0 = sym (steps .number) ∙ z in
-          record { table = steps .table; count = rw (eq-eqb _ 0 y) (steps .count); report = rw (eq-eqb _ 0 y) (steps .report) }
+      pub line-fits : length buffer′ ≡ length buffer → {k : ℕ} → k ≡ length (printed (q .line) (refusalNumber (r .refusal)) [])
+          → r .written + k ≤ length buffer + 29
+      line-fits h e =
+          let few = over-short (doneOf a x .bytes) buffer buffer′ (g .report) h in
+          omega (arith, few, e, printed-refusal (q .line) (refusalNumber (r .refusal)), g .count)
 
-      pub line-refused : refusalNumber (r .refusal) ≢ 0 → {m : ℕ} {buffer″ : Lists.List ℕ} → m ≡ length (printed (q .line) (refusalNumber (r .refusal)) [])
-          → buffer″ ≡ over (printed (q .line) (refusalNumber (r .refusal)) []) buffer′ → Prints a c buffer a′ m buffer″
-      line-refused z e b =
+      -- what the line prints: its report, or one line with its refusal
+      pub line-prints : {k : ℕ} {buffer″ : Lists.List ℕ} → let told = printed (q .line) (refusalNumber (r .refusal)) [] in
+          k ≡ length told → buffer″ ≡ over told buffer′ → Prints a c buffer a′ (r .written + k) buffer″
+      line-prints e b = by-cases (ℕ-discrete (refusalNumber (r .refusal)) 0)
+          (λ z.
+          let y : stepOf lent a c .refusal ≡ 0 = sym (steps .number) ∙ z in
+          let none = printed-accepted (q .line) (refusalNumber (r .refusal)) buffer′ z in
+          record {
+            table = steps .table;
+            count = rw (eq-eqb _ 0 y) (omega (arith, e, none .0, steps .count));
+            report = rw (eq-eqb _ 0 y) (b ∙ sym (none .1) ∙ steps .report);
+          })
+          (λ z.
           let y : stepOf lent a c .refusal ≢ 0 = λ w. z (steps .number ∙ w) in
           let none : doneOf a x .bytes ≡ [] = nothing-told _ _ (x .line) (x .place) (x .job) (x .action) (λ w. z (g .number ∙ w)) in
-          let same : buffer′ ≡ buffer = g .report ∙ ap (λ l. over l buffer) none in
           let short : printed (q .line) (refusalNumber (r .refusal)) [] ≡ printed (q .line) (stepOf lent a c .refusal) (stepOf lent a c .bytes)
           = ap (λ (w : ℕ). printed (q .line) w []) (steps .number) ∙ rw (ne-eqb _ 0 y) refl in
-          record { table = steps .table; count = e ∙ ap length short; report = b ∙ (λ i. over (short i) (same i)) }
+          record {
+            table = steps .table;
+            count = omega (arith, e, g .count, ap length none, ap length short);
+            report = b ∙ (λ i. over (short i) ((g .report ∙ ap (λ l. over l buffer) none) i));
+          })
 
 -- the fresh table is one
 module _ (n : ℕ) (low : 2 ≤ n) (high : n ≤ 32) {a : Arrays} (e : a ≡ freshTable lent n) where

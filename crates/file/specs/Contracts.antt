@@ -52,12 +52,20 @@ pub record Reports (s : Session Arrays) (chunk : Lists.List ℕ) (a : Arrays) (r
   pub short : r .written ≤ 928 * readLines (r .read)
   pub counted : refusalNumber (r .refusal) ≡ 0 → (r .lines ≡ s .lines + readLines (r .read)) × (s .lines ≤ 1000001 → r .lines ≤ 1000001)
 
+-- the place k where the lines go on after a part: the end after a final refusal
+abbrev pub Follows : ℕ → Progress → ℕ → ℕ → Type 0
+Follows at r end k = ((refusalNumber (r .refusal) ≡ 0) × (k ≡ at + r .read)) ⊎ ((refusalNumber (r .refusal) ≢ 0) × (k ≡ end))
+
 -- the run o of all lines of `rest`: its final refusal, and how many bytes it prints, at most 928 for each line; if they fit, they are written
 pub record ReportsAll (o : Served Arrays) (rest : Lists.List ℕ) (r : Reply) (buffer buffer′ : Lists.List ℕ) : Type 0 where
   pub number : refusalNumber (r .refusal) ≡ o .refusal
   pub count : r .written ≡ length (o .bytes)
   pub report : r .written ≤ length buffer → buffer′ ≡ over (o .bytes) buffer
   pub short : r .written ≤ 928 * pieces rest
+
+-- how many bytes the run o of all lines of `rest` prints; or 0 where there is room for 928 bytes for each line
+abbrev pub Sizes : Served Arrays → Lists.List ℕ → ℕ → ℕ → Type 0
+Sizes o rest room k = (k ≡ length (o .bytes)) ⊎ ((k ≡ 0) × (928 * pieces rest ≤ room))
 
 -- a whole file: its final refusal and its report; 7, and nothing is written, exactly if that report does not fit
 abbrev pub fits : Lists.List ℕ → Lists.List ℕ → Bool

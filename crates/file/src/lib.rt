@@ -16,7 +16,7 @@ ghost use Rattle.engine.specs.Stores.{orderOf};
 ghost use Rattle.engine.specs.Contracts.{callOf};
 ghost use Rattle.schedule.specs.Sessions.{session};
 ghost use Rattle.schedule.specs.Files.{cut, pieces, printed, runLines};
-ghost use Rattle.file.specs.Contracts.{Runnable, Prints, Reports, ReportsAll, ReportsFile};
+ghost use Rattle.file.specs.Contracts.{Runnable, Prints, Reports, Follows, ReportsAll, Sizes, ReportsFile};
 use arrays::Control;
 use arrays::Jobs;
 use arrays::Labels;
@@ -113,10 +113,7 @@ fn serve_line(
     let m = task.action;
     refresh_order(m, task.place, &labels[0], n, order);
     let refusal = reply.refusal;
-    if refusal.number() == 0 {
-        return reply.written;
-    }
-    print_refusal(request.line, refusal, out)
+    reply.written + print_refusal(request.line, refusal, out)
 }
 
 // Serves the lines of a part of the file after `lines` others, and writes what they print: up to a final refusal, or until there is no room for the report
@@ -205,72 +202,34 @@ fn copy(bytes: &[u8], out: &mut [u8])
     }
 }
 
-// Writes bytes to `out` from a place on, if they fit.
-fn put(bytes: &[u8], out: &mut [u8], at: usize)
-    ensures { λ _. ⌜ (at + length (now (bytes .entry)) ≤ length (now (out .entry))
-        → now (out .exit) ≡ putMid at (length (now (bytes .entry))) (now (out .entry)) (now (bytes .entry))) ⌝ }
+// Writes bytes to `out` from a place on, if they fit; hands back the place behind them.
+fn put(bytes: &[u8], out: &mut [u8], at: usize) -> usize
+    requires { ⌜ at + length (now bytes) ≤ 1000000000 ⌝ }
+    ensures { λ r. ⌜ r ≡ at + length (now (bytes .entry)) ⌝ }
+    ensures { λ r. ⌜ (r ≤ length (now (out .entry)) → now (out .exit) ≡ putMid at (length (now (bytes .entry))) (now (out .entry)) (now (bytes .entry))) ⌝ }
 {
-    if out.len() < at {
-        return;
+    let end = at + bytes.len();
+    if out.len() < end {
+        return end;
     }
-    if out.len() - at < bytes.len() {
-        return;
-    }
-    copy(bytes, &mut out[at..at + bytes.len()]);
+    copy(bytes, &mut out[at..end]);
+    end
 }
 
-// Serves all lines of the rest of a file after `lines` others, whatever the room: hands back the final refusal, and how many bytes they print.
-fn report_rest(
-    lines: u32,
-    n: usize,
-    order: &mut [usize; 32],
-    labels: &mut Labels,
-    jobs: &mut Jobs,
-    control: &mut Control,
-    results: &mut Results,
-    rest: &[u8],
-    out: &mut [u8],
-) -> Reply
-    requires { ⌜ Runnable (arrays n (now labels) (now jobs) (now control) (now results)) (now order) ⌝ }
-    requires { ⌜ lines ≤ 1000001 ⌝ }
-    ensures { λ r. ⌜ ReportsAll (runLines lent
-        (session lines Accepted (arrays n (now (labels .entry)) (now (jobs .entry)) (now (control .entry)) (now (results .entry))))
-        (cut (pieces (now (rest .entry))) (now (rest .entry)))) (now (rest .entry)) r (now (out .entry)) (now (out .exit)) ⌝ }
-    ensures { λ r. ⌜ r .written ≤ 1000000000 ⌝ }
+// Where the lines go on after a part: nowhere after a final refusal.
+fn next(at: usize, r: Progress, end: usize) -> usize
+    requires { ⌜ at + r .read ≤ end ⌝ }
+    ensures { λ k. ⌜ Follows at r end k ⌝ }
 {
-    let mut scratch = [0u8; 4096];
-    let mut count = lines;
-    let mut written = 0;
-    let mut at = 0;
-    while at < rest.len() {
-        let r = report_lines(
-            count,
-            n,
-            order,
-            labels,
-            jobs,
-            control,
-            results,
-            from(rest, at),
-            &mut scratch,
-        );
-        let k = r.written;
-        put(&scratch[..k], out, written);
-        written += k;
-        let refusal = r.refusal;
-        if refusal.number() != 0 {
-            return Reply { refusal, written };
-        }
-        count = r.lines;
-        at += r.read;
+    let refusal = r.refusal;
+    if refusal.number() == 0 {
+        return at + r.read;
     }
-    Reply {
-        refusal: Refusal::Accepted,
-        written,
-    }
+    end
 }
 
-// Serves all lines after an accepted header, from the fresh table of n stations: straight into `out` while it has room for another line's report.
+// Serves all lines after an accepted header, from the fresh table of n stations, and hands back the final refusal, and how many bytes they print: these
+// are written if they fit.
 fn report_steps(n: usize, rest: &[u8], out: &mut [u8]) -> Reply
     requires { ⌜ (2 ≤ n) × (n ≤ 32) ⌝ }
     ensures { λ r. ⌜ ReportsAll (runLines lent (session 1 Accepted (freshTable lent n)) (cut (pieces (now (rest .entry))) (now (rest .entry))))
@@ -282,55 +241,48 @@ fn report_steps(n: usize, rest: &[u8], out: &mut [u8]) -> Reply
     let mut results = [[[0u32; 32]; 2]; 32];
     arrays::refresh(n, &mut labels, &mut jobs, &mut control, &mut results);
     let mut order = rows::order::order(&labels[0], n);
-    let r = report_lines(
-        1,
-        n,
-        &mut order,
-        &mut labels,
-        &mut jobs,
-        &mut control,
-        &mut results,
-        rest,
-        out,
-    );
-    let refusal = r.refusal;
-    let written = r.written;
-    if refusal.number() != 0 {
-        return Reply { refusal, written };
+    let mut scratch = [0u8; 4096];
+    let mut count = 1;
+    let mut refusal = Refusal::Accepted;
+    let mut written = 0;
+    let mut at = 0;
+    while at < rest.len() {
+        let r = report_lines(
+            count,
+            n,
+            &mut order,
+            &mut labels,
+            &mut jobs,
+            &mut control,
+            &mut results,
+            from(rest, at),
+            &mut scratch,
+        );
+        let k = r.written;
+        written = put(&scratch[..k], out, written);
+        count = r.lines;
+        refusal = r.refusal;
+        at = next(at, r, rest.len());
     }
-    if r.read == rest.len() {
-        return Reply { refusal, written };
-    }
-    let end = report_rest(
-        r.lines,
-        n,
-        &mut order,
-        &mut labels,
-        &mut jobs,
-        &mut control,
-        &mut results,
-        from(rest, r.read),
-        &mut out[written..],
-    );
-    let refusal = end.refusal;
-    Reply {
-        refusal,
-        written: written + end.written,
-    }
+    Reply { refusal, written }
 }
 
-// How many bytes the lines after an accepted header print.
-fn report_size(n: usize, rest: &[u8]) -> usize
+// How many bytes the lines after an accepted header print, by a run that writes nothing; 0 where there is room for 928 bytes for each of them.
+fn report_size(n: usize, rest: &[u8], room: usize) -> usize
     requires { ⌜ (2 ≤ n) × (n ≤ 32) ⌝ }
-    ensures { λ r. ⌜ r ≡ length (runLines lent (session 1 Accepted (freshTable lent n)) (cut (pieces (now (rest .entry))) (now (rest .entry))) .bytes) ⌝ }
+    ensures { λ r. ⌜ Sizes (runLines lent (session 1 Accepted (freshTable lent n)) (cut (pieces (now (rest .entry))) (now (rest .entry))))
+        (now (rest .entry)) room r ⌝ }
 {
+    if rest.len() / 18 < room / ROOM {
+        return 0;
+    }
     let mut scratch = [0u8; 29];
     let r = report_steps(n, rest, &mut scratch);
     r.written
 }
 
-// Writes the report of a whole file, and answers its final refusal; 7, and nothing is written, if the report does not fit. Where room for 928 bytes for
-// each line is not there, a first run tells how long the report is.
+// Writes the report of a whole file, and answers its final refusal; 7, and nothing is written, if the report does not fit. Where the room may
+// not do, a first run tells how long the report is.
 pub fn report(file: &[u8], out: &mut [u8]) -> Reply
     ensures { λ r. ⌜ ReportsFile (now (file .entry)) (now (out .entry)) (refusalNumber (r .refusal)) (r .written) (now (out .exit)) ⌝ }
 {
@@ -348,10 +300,7 @@ pub fn report(file: &[u8], out: &mut [u8]) -> Reply
         }
         Header::Stations(n) => {
             let rest = from(file, header.len());
-            if file.len() / 18 <= out.len() / ROOM {
-                return report_steps(n, rest, out);
-            }
-            if out.len() < report_size(n, rest) {
+            if out.len() < report_size(n, rest, out.len()) {
                 return Reply {
                     refusal: Refusal::BufferTooShort,
                     written: 0,

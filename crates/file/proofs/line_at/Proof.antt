@@ -20,5 +20,5 @@ returns-2 c =
     take-all (length (a .chunk .now) - a .at) (drop (a .at) (a .chunk .now)) (omega arith) ∙ sym (take-all 18 (drop (a .at) (a .chunk .now)) (omega arith))
 
 pub line-at-spec : {M : Type 1} → statement M
-line-at-spec = tie.close (tie.spec (λ c. search needs) (λ c. search needs) (λ c. search needs) (λ c. search needs)
-    (λ c. search needs) (λ c. search needs) (λ c. search needs) (λ c. search needs) returns returns-2)
+line-at-spec = tie.close (tie.spec (λ c. search needs) (λ c. search needs) (λ c. search needs) (λ c. search needs) (λ c. search needs) (λ c. search needs)
+    (λ c. search needs) (λ c. search needs) returns returns-2)

@@ -1,76 +1,91 @@
--- The lines go straight into `out` as far as there is room, and `report_rest` serves those that are left. `y` is what is known after the first.
-use mathlib.Core.Path.{refl, sym, _∙_}
+-- The invariant is `Gathered` of FileLaws: what the lines before `at` printed, and that the run goes on behind that. `y` is what is known after a part,
+-- and `t` before it.
+use mathlib.Core.Path.{_≡_, sym, _∙_}
 use Prim.Native.Nat.{_-_}
 use native.Mathlib.Omega.{arith}
-use lib.ListN.{length}
+use borrow.Author.Needs.{needs}
+use lib.ListN.{length, length-take}
+use lib.Seq.{length-take-le}
+use Rattle.transition.specs.Forms.{freshTable}
+use Rattle.moves.specs.declared.Refusal.the-variants.{Accepted}
+use Rattle.arrays.specs.Arrays.{arrays}
+use Rattle.arrays.specs.Form.{lent}
+use Rattle.schedule.specs.Sessions.{session}
+use Rattle.file.specs.Contracts.{Runnable}
 use Rattle.file.proofs.LineLaws.{fresh-orderly, fresh-runnable}
 use Rattle.file.proofs.ChunkLaws.{reports-inside}
-use Rattle.file.proofs.FileLaws.{straight-stop, straight-end, straight-few, straight-more}
-use borrow.Author.Needs.{needs}
+use Rattle.file.proofs.FileLaws.{Gathered, gathered-start, gathered-end, gathered-more, part-within, part-few, part-less}
 use Rattle.file.proofs.report_steps.Statement.{statement}
 use Rattle.file.proofs.report_steps.Tie as tie
 
-order-requires : tie.Need-order-requires
+abbrev Inv-loop : tie.InvT-loop
+Inv-loop n rest out₀ _ _ _ _ _ _ _ _ _ _ out labels jobs control results order scratch count refusal written at =
+    Gathered (session 1 Accepted (freshTable lent n)) rest out₀ (arrays n labels jobs control results) count refusal written at out
+    × Runnable (arrays n labels jobs control results) order × (length scratch ≡ 4096)
+
+abbrev μ-loop : tie.MeasureT-loop
+μ-loop n rest out₀ _ _ _ _ _ _ _ _ _ _ out labels jobs control results order scratch count refusal written at =
+    length rest - at
+
+order-requires : tie.Need-order-requires Inv-loop μ-loop
 order-requires c κs =
     let s = c .before .before .before .before .before .before .before .before in
     fresh-orderly (s .args .n) (s .pre .0) (s .pre .1) (c .before .refresh .ensures)
 
-report-lines-requires : tie.Need-report-lines-requires
-report-lines-requires c κs =
-    let o = c .before .before .before .before .before .before in
-    let s = o .before .before .before .before .before .before .before .before .before in
-    fresh-runnable (s .args .n) (s .pre .0) (s .pre .1) (o .before .before .refresh .ensures) (o .order .ensures)
+loop-holds : tie.Need-loop-holds Inv-loop μ-loop
+loop-holds c =
+    let s = c .before .before .before .before .before .before .before .before .before in
+    let fresh = c .before .before .refresh .ensures in
+    (rw (← fresh) (gathered-start _ _ _), fresh-runnable (s .args .n) (s .pre .0) (s .pre .1) fresh (c .order .ensures), search needs)
 
-returns : tie.Need-returns
-returns c =
-    let y = c .before .before .before .before in
-    let g = y .report-lines .ensures .0 in
-    let fresh = y .before .before .before .before .before .before .before .before .before .refresh .ensures in
-    rw (← fresh) (straight-stop g (λ z. c .if1 .taken (c .before .number .ensures ∙ z)) _ refl refl)
+report-lines-requires : tie.Need-report-lines-requires Inv-loop μ-loop
+report-lines-requires c κs = c .before .before .before .before .before .before .before .before .loop .inv .1
 
-returns-2 : tie.Need-returns-2
-returns-2 c =
+array-share-prefix-scratch : tie.Need-array-share-prefix-scratch Inv-loop μ-loop
+array-share-prefix-scratch c = reports-inside (c .before .report-lines .ensures .0)
+
+slice-aggregate-put : tie.Need-slice-aggregate-put Inv-loop μ-loop
+slice-aggregate-put c = sym (length-take-le _ _ (reports-inside (c .before .before .report-lines .ensures .0)))
+
+put-requires : tie.Need-put-requires Inv-loop μ-loop
+put-requires c κs =
+    let y = c .before .before .before in
+    let t = y .before .before .before .before .before .before .before .before in
+    let few = part-few (t .before .loop .inv .0) (t .loop-test .taken) (y .before .before .from .ensures) (y .report-lines .ensures .0) in
+    simp length-take (omega (arith, few, y .report-lines .kept .1 .1 .1 .1 .1 .1 .1 .1 .0, t .before .loop .inv .2))
+
+next-requires : tie.Need-next-requires Inv-loop μ-loop
+next-requires c κs =
     let y = c .before .before .before .before .before .before in
-    let g = y .report-lines .ensures .0 in
-    let fresh = y .before .before .before .before .before .before .before .before .before .refresh .ensures in
-    rw (← fresh) (straight-end g (c .if2 .taken) _ refl refl)
+    let t = y .before .before .before .before .before .before .before .before in
+    part-within (t .before .loop .inv .0) (t .loop-test .taken) (y .before .before .from .ensures) (y .report-lines .ensures .0)
 
-sub-report-rest : tie.Need-sub-report-rest
-sub-report-rest c =
-    reports-inside (c .before .before .before .before .before .before .before .before .before .before .before .before .report-lines .ensures .0)
+loop-less : tie.Need-loop-less Inv-loop μ-loop
+loop-less c =
+    let y = c .before .before .before .before .before .before .before in
+    let t = y .before .before .before .before .before .before .before .before in
+    let less = part-less (t .before .loop .inv .0) (t .loop-test .taken) (y .before .before .from .ensures) (y .report-lines .ensures .0)
+    (omega (arith, t .before .loop .inv .2)) (c .next .ensures) in
+    omega (arith, less)
 
-part-report-rest-start : tie.Need-part-report-rest-start
-part-report-rest-start c =
-    reports-inside (c .before .before .before .before .before .before .before .before .before .before .before .before .report-lines .ensures .0)
+loop-again : tie.Need-loop-again Inv-loop μ-loop
+loop-again c =
+    let y = c .before .before .before .before .before .before .before in
+    let t = y .before .before .before .before .before .before .before .before in
+    let put = c .before .before .before .put in (
+      gathered-more (t .before .loop .inv .0) (t .loop-test .taken) (y .before .before .from .ensures) (y .report-lines .ensures .0) (put .ensures)
+          (put .kept .1 .0) (c .next .ensures),
+      y .report-lines .ensures .1,
+      y .report-lines .kept .1 .1 .1 .1 .1 .1 .1 .1 .0 ∙ t .before .loop .inv .2,
+    )
 
-report-rest-requires : tie.Need-report-rest-requires
-report-rest-requires c κs =
-    let y = c .before .before .before .before .before .before .before .before .before .before .before .before .before in
-    let g = y .report-lines .ensures .0 in
-    let test = c .before .before .before .before .before .before .before .before .before in
-    (y .report-lines .ensures .1, straight-few g (omega arith) (sym (test .before .number .ensures) ∙ test .if1 .left) .0)
+same-length : tie.Need-same-length Inv-loop μ-loop
+same-length c = c .before .loop .inv .0 .same
 
-add-t37 : tie.Need-add-t37
-add-t37 c =
-    let y = c .before .before .before .before .before .before .before .before .before .before .before .before .before .before .before .before .before in
-    let test = c .before .before .before .before .before .before .before .before .before .before .before .before .before in
-    let few = straight-few (y .report-lines .ensures .0) (omega arith) (sym (test .before .number .ensures) ∙ test .if1 .left) in
-    omega (arith, few, c .before .before .before .report-rest .ensures .1)
-
-returns-3 : tie.Need-returns-3
-returns-3 c =
-    let y = c .before .before .before .before .before .before .before .before .before .before .before .before .before .before .before .before .before in
-    let g = y .report-lines .ensures .0 in
-    let test = c .before .before .before .before .before .before .before .before .before .before .before .before .before in
-    let t = c .before .before .before .report-rest .ensures .0 in
-    let k = length (y .report-lines .last .1 .1 .1 .1 .1 .1 .1 .1 .0) - y .report-lines .result .written in
-    let fresh = y .before .before .before .before .before .before .before .before .before .refresh .ensures in
-    let zero = sym (test .before .number .ensures) ∙ test .if1 .left in
-    let same = y .report-lines .kept .1 .1 .1 .1 .1 .1 .1 .1 .0 in
-    rw (← fresh) (straight-more g zero same (c .before .before .before .before .before .from .ensures) k refl t _ refl refl)
+returns : tie.Need-returns Inv-loop μ-loop
+returns c = gathered-end (c .before .loop .inv .0) (c .loop-test .left)
 
 pub report-steps-spec : {M : Type 1} → statement M
-report-steps-spec = tie.close (tie.spec (λ c κs. search needs) (λ c. search needs) order-requires
-    report-lines-requires (λ c κs. search needs) (λ c. search needs) returns (λ c. search needs) returns-2
-    (λ c κs. search needs) sub-report-rest part-report-rest-start (λ c. search needs) report-rest-requires add-t37
-    (λ c. search needs) returns-3)
+report-steps-spec = tie.close (tie.spec Inv-loop μ-loop (λ c κs. search needs) (λ c. search needs) order-requires loop-holds (λ c κs. omega arith)
+    (λ c. search needs) report-lines-requires array-share-prefix-scratch slice-aggregate-put put-requires next-requires loop-less loop-again same-length
+    returns)
