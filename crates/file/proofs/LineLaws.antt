@@ -17,15 +17,16 @@ use Rattle.label.specs.Labels as Labels
 use Rattle.label.specs.Labels.{labelBefore}
 use Rattle.rows.specs.Held.{standsIn, Orderly, OrderedBefore}
 use Rattle.rows.proofs.OrderLaws.{order-front, orderly-total, last-newest}
-use Rattle.simulation.specs.Calls.{Call, Rest, reportLines}
-use Rattle.simulation.specs.Machine.{original, digits, Labelling, labelStep, relabelled, carryOut, State, step, moved}
-use Rattle.simulation.proofs.Touched.{touched, labels-kept}
+use Rattle.simulation.specs.Calls.{Call}
+use Rattle.simulation.specs.Machine.{original, digits, Labelling, labelStep, relabelled, State, Answer, step, moved}
+use Rattle.simulation.proofs.Touched.{touched, labels-kept, refused-stays}
 use Rattle.transition.specs.Forms.{Form, over, freshTable, stepOf, after}
 use Rattle.transition.specs.Sequences.{Steps}
 use Rattle.transition.proofs.Reached.{Reached}
 use Rattle.transition.proofs.Theorem.{reached-held, reached-next, ReachedTable, table-fresh, table-count, table-passes, table-step, table-after}
 use Rattle.moves.specs.Moves.{refusalNumber, moveOf}
 use Rattle.moves.proofs.Move.{the-type}
+use Rattle.moves.proofs.MoveLaws.{by-move}
 use Rattle.moves.specs.declared.Move.{Move}
 use Rattle.moves.specs.declared.Move.the-variants.{Update}
 use Rattle.arrays.specs.Arrays.{Arrays, stateOf, arraysOf}
@@ -34,7 +35,6 @@ use Rattle.arrays.specs.Form.{lent}
 use Rattle.arrays.proofs.States.{lent-lawful}
 use Rattle.engine.specs.Stores.{orderOf}
 use Rattle.engine.specs.Contracts.{callOf, actionOf, Ready, doneOf, Carries, Judges}
-use Rattle.engine.proofs.Stays.{by-move}
 use Rattle.engine.proofs.Served as Served
 use Rattle.engine.proofs.Served.{orderly, ready, judged, served}
 use Rattle.engine.specs.declared.Reply.{Reply}
@@ -61,7 +61,7 @@ Other m = OneOf (0 ∷ 1 ∷ 2 ∷ 3 ∷ 4 ∷ 6 ∷ 7 ∷ []) (tagOf the-type m
 pub no-update : (m : Move) → Other m → m ≢ Update
 no-update m h e = miss (0 ∷ 1 ∷ 2 ∷ 3 ∷ 4 ∷ 6 ∷ 7 ∷ []) 5 tt (subst Other e h)
 
--- what a move does not touch, and what a refused one reports
+-- what a move does not touch
 untouched : (k job i : ℕ) → i ≢ k → (m : Move) → touched (moveOf k job m) i ≡ false
 untouched k job i d = let e = ne-eqb i k d in by-move (λ m. touched (moveOf k job m) i ≡ false) (λ x. refl) e e e e e e e
 
@@ -69,16 +69,6 @@ labels-same : (n k job : ℕ) (l : Labelling Labels.Label) (m : Move) → m ≢ 
 unfolding relabelled
 labels-same n k job l = by-move (λ m. m ≢ Update → relabelled n (digits n) l (labelStep (moveOf k job m)) false ≡ l false)
     (λ x d. refl) (λ d. refl) (λ d. refl) (λ d. refl) (λ d. refl) (λ d. absurd (d refl)) (λ d. refl) (λ d. refl)
-
-nothing-told : (order : Lists.List ℕ) (o : Rest) (line k job : ℕ) (m : Move) → carryOut order o (moveOf k job m) .refusal ≢ 0
-    → reportLines line 1 (carryOut order o (moveOf k job m) .handed) ≡ []
-unfolding carryOut reportLines
-nothing-told order o line k job =
-    by-move (λ m. carryOut order o (moveOf k job m) .refusal ≢ 0 → reportLines line 1 (carryOut order o (moveOf k job m) .handed) ≡ [])
-    (λ x d. refl) no no no no no no no
-  where
-    no : {l : Lists.List ℕ} → _≢_ {A = ℕ} 0 0 → l ≡ []
-    no d = absurd (d refl)
 
 module _ {a : Arrays} {order : Lists.List ℕ} (f : Runnable a order) where
   abbrev n : ℕ
@@ -114,7 +104,7 @@ module _ {a : Arrays} {order : Lists.List ℕ} (f : Runnable a order) where
 
     module _ {buffer : Lists.List ℕ} {a′ : Arrays} {r : Reply} {buffer′ : Lists.List ℕ} (g : Carries a x buffer a′ r buffer′) where
       steps : Steps lent a c buffer a′ (refusalNumber (r .refusal)) (r .written) buffer′
-      steps = served a run-passes q 928 _ x j refl refl refl refl g
+      steps = served a run-passes q 928 _ x j g
 
       line-reached : ReachedTable lent n a′
       line-reached = subst (ReachedTable lent n) (sym (steps .table)) (table-step lent lent-lawful n (f .low) (f .high) a run-reached c)
@@ -179,7 +169,8 @@ module _ {a : Arrays} {order : Lists.List ℕ} (f : Runnable a order) where
           })
           (λ z.
           let y : stepOf lent a c .refusal ≢ 0 = λ w. z (steps .number ∙ w) in
-          let none : doneOf a x .bytes ≡ [] = nothing-told _ _ (x .line) (x .place) (x .job) (x .action) (λ w. z (g .number ∙ w)) in
+          let none : doneOf a x .bytes ≡ [] = ap (λ (u : Answer Labels.Label). u .bytes)
+          (refused-stays n (digits n) (stateOf a) (x .line) (actionOf x) (λ w. z (g .number ∙ w))) in
           let short : printed (q .line) (refusalNumber (r .refusal)) [] ≡ printed (q .line) (stepOf lent a c .refusal) (stepOf lent a c .bytes)
           = ap (λ (w : ℕ). printed (q .line) w []) (steps .number) ∙ rw (ne-eqb _ 0 y) refl in
           record {

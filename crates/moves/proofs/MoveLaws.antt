@@ -10,7 +10,20 @@ use Rattle.simulation.specs.Calls.{Call, judgeIn}
 use Rattle.simulation.proofs.Judged.{begin-fits, verdict}
 use Rattle.moves.specs.Moves.{moveOf, placeOf}
 use Rattle.moves.specs.declared.Move.{Move}
-use Rattle.moves.specs.declared.Move.the-variants.{BeginLabel}
+use Rattle.moves.specs.declared.Move.the-variants.{Refused, BeginLabel, BeginScan, SnapLabel, SnapScan, Update, EndLabel, EndScan}
+use Rattle.moves.specs.declared.Refusal.{Refusal}
+
+-- a fact about every move, from one for each
+pub by-move : (P : Move → Type 0) → ((x : Refusal) → P (Refused x)) → P BeginLabel → P BeginScan → P SnapLabel → P SnapScan → P Update → P EndLabel
+    → P EndScan → (m : Move) → P m
+by-move P r a b c d e f g (Refused x) = r x
+by-move P r a b c d e f g BeginLabel = a
+by-move P r a b c d e f g BeginScan = b
+by-move P r a b c d e f g SnapLabel = c
+by-move P r a b c d e f g SnapScan = d
+by-move P r a b c d e f g Update = e
+by-move P r a b c d e f g EndLabel = f
+by-move P r a b c d e f g EndScan = g
 
 -- a label operation that is judged to begin has a job of 32 bits
 pub begun-job : (n : ℕ) (ph : Calls.Phase) (c : Call) (k : ℕ) (m : Move) → moveOf k (c .job) m ≡ judgeIn n ph c → m ≡ BeginLabel → c .job ≤ 4294967295

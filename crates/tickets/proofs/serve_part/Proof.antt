@@ -2,10 +2,11 @@
 use borrow.Author.Needs.{needs}
 use mathlib.Core.Path.{_≡_, refl, sym, _∙_}
 use mathlib.Core.Bool.{true≢false}
-use Prim.Native.Nat.{_+_, _-_, _≤_}
+use Prim.Native.Nat.{_+_, _-_, _≤_, _<_}
 use native.Mathlib.Omega.{arith}
 use lib.ListN.{length, length-take, length-drop}
 use lib.Seq.{length-take-le}
+use Rattle.moves.specs.Moves.{refusalNumber}
 use Rattle.arrays.specs.Arrays.{arrays}
 use Rattle.schedule.specs.Files.{pieces}
 use Rattle.file.specs.Contracts.{Runnable}
@@ -34,18 +35,29 @@ slice-reshare-prefix-write-report c = reports-inside (c .before .before .report-
 slice-aggregate-write-report : tie.Need-slice-aggregate-write-report Inv-loop μ-loop
 slice-aggregate-write-report c = sym (length-take-le _ _ (reports-inside (c .before .before .before .report-lines .ensures .0)))
 
+-- after lines that end in no final refusal: where to go on, and how many are counted
+onward : (y : tie.After-report-lines Inv-loop μ-loop) → refusalNumber (y .report-lines .result .refusal) ≡ 0
+    → let r = y .report-lines .result in let l = y .before .before .before .before .before .before .before .before .before .loop in let a = y .before .before .before .before .before .before .before .before .before .before .before .before .args in
+    (0 < r .read) × (l .at + r .read ≤ length (a .chunk .now)) × (r .lines + ahead (a .chunk .now) (l .at + r .read) ≡ a .lines + pieces (a .chunk .now))
+    × (r .lines ≤ 1000001)
+onward y z =
+    let l = y .before .before .before .before .before .before .before .before .before .loop in
+    let s = y .before .before .before .before .before .before .before .before .before .before .before .before in
+    part-on (y .report-lines .ensures .0) (s .args .chunk .now) (l .at) _ (y .before .before .before .before .before .before .before .before .loop-test .taken)
+    (simp (length-take, length-drop) (omega arith)) (l .inv .3) (l .inv .4) (omega (arith, l .inv .1, s .pre .1 .1)) z
+
+-- the output buffer keeps its length
+kept : (y : tie.After-report-lines Inv-loop μ-loop) → length (y .report-lines .last .1 .1 .1 .1 .1 .1 .1 .1 .0) ≡ length (y .before .before .before .before .before .before .before .before .before .before .before .before .args .out .now)
+kept y = y .report-lines .kept .1 .1 .1 .1 .1 .1 .1 .1 .0 ∙ y .before .before .before .before .before .before .before .before .before .loop .inv .1
+
 same-length : tie.Need-same-length Inv-loop μ-loop
-same-length c =
-    let y = c .before .before .before .before .before in
-    y .report-lines .kept .1 .1 .1 .1 .1 .1 .1 .1 .0 ∙ y .before .before .before .before .before .before .before .before .before .loop .inv .1
+same-length c = kept (c .before .before .before .before .before)
 
 returns : tie.Need-returns Inv-loop μ-loop
 returns c = (c .before .before .before .before .before .report-lines .ensures .1, λ e. absurd (true≢false (sym e)))
 
 same-length-2 : tie.Need-same-length-2 Inv-loop μ-loop
-same-length-2 c =
-    let y = c .before .before .before .before .before .before .before in
-    y .report-lines .kept .1 .1 .1 .1 .1 .1 .1 .1 .0 ∙ y .before .before .before .before .before .before .before .before .before .loop .inv .1
+same-length-2 c = kept (c .before .before .before .before .before .before .before)
 
 returns-2 : tie.Need-returns-2 Inv-loop μ-loop
 returns-2 c = (c .before .before .before .before .before .before .before .report-lines .ensures .1, λ e. absurd (true≢false (sym e)))
@@ -53,41 +65,16 @@ returns-2 c = (c .before .before .before .before .before .before .before .report
 add-at : tie.Need-add-at Inv-loop μ-loop
 add-at c =
     let y = c .before .before .before .before .before .before .before .before in
-    let l = y .before .before .before .before .before .before .before .before .before .loop in
-    let test = y .before .before .before .before .before .before .before .before .loop-test .taken in
-    let s = y .before .before .before .before .before .before .before .before .before .before .before .before in
-    let a = s .args in
-    let room = s .pre .1 .1 in
-    let accepted = sym (c .before .before .number .ensures) ∙ c .before .if2 .left in
-    let on = part-on (y .report-lines .ensures .0) (a .chunk .now) (l .at) (a .lines + pieces (a .chunk .now)) test
-    (simp (length-take, length-drop) (omega arith)) (l .inv .3) (l .inv .4) (omega (arith, l .inv .1, room)) accepted in
-    omega (arith, on, s .good .1 .1 .1 .1 .1 .1 .1 .0 .0)
+    omega (arith, onward y (sym (c .before .before .number .ensures) ∙ c .before .if2 .left), y .before .before .before .before .before .before .before .before .before .before .before .before .good .1 .1 .1 .1 .1 .1 .1 .0 .0)
 
 loop-less : tie.Need-loop-less Inv-loop μ-loop
-loop-less c =
-    let y = c .before .before .before .before .before .before .before .before in
-    let l = y .before .before .before .before .before .before .before .before .before .loop in
-    let test = y .before .before .before .before .before .before .before .before .loop-test .taken in
-    let s = y .before .before .before .before .before .before .before .before .before .before .before .before in
-    let a = s .args in
-    let room = s .pre .1 .1 in
-    let accepted = sym (c .before .before .number .ensures) ∙ c .before .if2 .left in
-    let on = part-on (y .report-lines .ensures .0) (a .chunk .now) (l .at) (a .lines + pieces (a .chunk .now)) test
-    (simp (length-take, length-drop) (omega arith)) (l .inv .3) (l .inv .4) (omega (arith, l .inv .1, room)) accepted in
-    omega (arith, on)
+loop-less c = omega (arith, onward (c .before .before .before .before .before .before .before .before) (sym (c .before .before .number .ensures) ∙ c .before .if2 .left))
 
 loop-again : tie.Need-loop-again Inv-loop μ-loop
 loop-again c =
     let y = c .before .before .before .before .before .before .before .before in
-    let l = y .before .before .before .before .before .before .before .before .before .loop in
-    let test = y .before .before .before .before .before .before .before .before .loop-test .taken in
-    let s = y .before .before .before .before .before .before .before .before .before .before .before .before in
-    let a = s .args in
-    let room = s .pre .1 .1 in
-    let accepted = sym (c .before .before .number .ensures) ∙ c .before .if2 .left in
-    let on = part-on (y .report-lines .ensures .0) (a .chunk .now) (l .at) (a .lines + pieces (a .chunk .now)) test
-    (simp (length-take, length-drop) (omega arith)) (l .inv .3) (l .inv .4) (omega (arith, l .inv .1, room)) accepted in
-    (y .report-lines .ensures .1, y .report-lines .kept .1 .1 .1 .1 .1 .1 .1 .1 .0 ∙ l .inv .1, on .1, on .2, on .3)
+    let on = onward y (sym (c .before .before .number .ensures) ∙ c .before .if2 .left) in
+    (y .report-lines .ensures .1, kept y, on .1, on .2, on .3)
 
 same-length-3 : tie.Need-same-length-3 Inv-loop μ-loop
 same-length-3 c = c .before .loop .inv .1
