@@ -32,7 +32,7 @@ use Rattle.arrays.specs.Arrays.{Rows, Planes, Arrays, arrays, cell, planes, pha
 use Rattle.arrays.specs.Sizes.{Shaped}
 use Rattle.arrays.proofs.States.{rows-here, labels-back, jobs-back, control-back, results-back, written-held}
 use Rattle.engine.specs.Stores.{orderOf, scanRows}
-use Rattle.engine.specs.Contracts.{actionOf, Ready, Performs, Carries}
+use Rattle.engine.specs.Contracts.{actionOf, Prepared, Performs, Carries}
 use Rattle.engine.proofs.Reports.{result-length}
 use Rattle.engine.specs.declared.Reply.{Reply}
 use Rattle.engine.specs.declared.Task.{Task}
@@ -61,7 +61,7 @@ at-all : {A : Type 0} (v : Process → A) (o : Rest) (k : ℕ) (f : Process → 
     → (i : ℕ) → v (o .process i) ≡ v (changed o k f .process i)
 at-all v o k f e i = by-here (λ b. v (o .process i) ≡ v (cond b (f (o .process i)) (o .process i))) k i (λ _. sym (e (o .process i))) (λ _. refl)
 
-module _ {a : Arrays} {x : Task} {order : Lists.List ℕ} {room : ℕ} (s : Ready a x order room) (g : Shaped a) where
+module _ {a : Arrays} {x : Task} {order : Lists.List ℕ} {room : ℕ} (s : Prepared a x order room) (g : Shaped a) where
   abbrev n : ℕ
   n = a .count
 
@@ -209,26 +209,26 @@ module _ {a : Arrays} {x : Task} {order : Lists.List ℕ} {room : ℕ} (s : Read
       (subst (λ w. Performs a (x .line) (moveOf k (x .job) w) buffer a′ r′ buffer′) (sym e) f)
 
   -- the move m is served, the arrays a′ are left, and nothing is written
-  abbrev Serves : Move → Arrays → Type 0
-  Serves m a′ = (buffer : Lists.List ℕ) (r : Reply) → x .action ≡ m → r ≡ record { refusal = Accepted; written = 0 } → Carries a x buffer a′ r buffer
+  abbrev Accepts : Move → Arrays → Type 0
+  Accepts m a′ = (buffer : Lists.List ℕ) (r : Reply) → x .action ≡ m → r ≡ record { refusal = Accepted; written = 0 } → Carries a x buffer a′ r buffer
 
   pub refused : {buffer : Lists.List ℕ} {r : Reply} {f : Refusal} → x .action ≡ Refused f → r ≡ record { refusal = f; written = 0 }
       → Carries a x buffer a r buffer
   unfolding carryOut relabelled reportLines
   refused e d = carried e d (record { table = sym (written-held a g (s .passed)); number = refl; count = refl; report = refl })
 
-  pub begins-label : Serves BeginLabel (arrays n (a .labels) (put (a .jobs) 1 k (x .job)) (put (a .control) 0 k 1) (a .results))
+  pub begins-label : Accepts BeginLabel (arrays n (a .labels) (put (a .jobs) 1 k (x .job)) (put (a .control) 0 k 1) (a .results))
   unfolding carryOut reportLines
   begins-label b r e d = carried e d
       (record { table = record-changed stay (begun (x .job)) 1 labels-stay jobs-begun refl; number = refl; count = refl; report = refl })
 
-  pub begins-scan : Serves BeginScan (arrays n (a .labels) (a .jobs) (put (a .control) 0 k 2) (a .results))
+  pub begins-scan : Accepts BeginScan (arrays n (a .labels) (a .jobs) (put (a .control) 0 k 2) (a .results))
   unfolding carryOut reportLines
   begins-scan b r e d = carried e d
       (record { table = record-changed stay (inPhase (Snap Scan)) 2 labels-stay (jobs-stay (Snap Scan)) refl; number = refl; count = refl; report = refl })
 
   pub snaps-label : {p : Lists.List ℕ} → p ≡ pendingIn n rows k (cell (a .labels) 1 k [])
-      → Serves SnapLabel (arrays n (put (a .labels) 1 k p) (a .jobs) (put (a .control) 0 k 3) (a .results))
+      → Accepts SnapLabel (arrays n (put (a .labels) 1 k p) (a .jobs) (put (a .control) 0 k 3) (a .results))
   unfolding carryOut reportLines
   snaps-label q b r e d =
       let l = ap (put (a .labels) 1 k) q ∙ labels-snap in
@@ -236,7 +236,7 @@ module _ {a : Arrays} {x : Task} {order : Lists.List ℕ} {room : ℕ} (s : Read
       (record { table = record-changed (snap k) (inPhase Update) 3 l (jobs-stay Update) refl; number = refl; count = refl; report = refl })
 
   pub snaps-scan : {q : Rows} → q ≡ scanRows n order (getD (a .jobs) 0 [])
-      → Serves SnapScan (arrays n (a .labels) (a .jobs) (put (a .control) 0 k 5) (set (a .results) k q))
+      → Accepts SnapScan (arrays n (a .labels) (a .jobs) (put (a .control) 0 k 5) (set (a .results) k q))
   unfolding carryOut reportLines arraysOf
   snaps-scan q b r e d = carried e d (record {
     table = λ y. arrays n (labels-stay y) (jobs-stay (End Scan) y) (phase-put (inPhase (End Scan)) 5 refl y)
@@ -246,7 +246,7 @@ module _ {a : Arrays} {x : Task} {order : Lists.List ℕ} {room : ℕ} (s : Read
     report = refl;
   })
 
-  pub updates : Serves Moves.Update
+  pub updates : Accepts Moves.Update
       (arrays n (put (a .labels) 0 k (cell (a .labels) 1 k [])) (put (a .jobs) 0 k (cell (a .jobs) 1 k 0)) (put (a .control) 0 k 4) (a .results))
   unfolding carryOut reportLines
   updates b r e d = carried e d
@@ -257,7 +257,7 @@ module _ {a : Arrays} {x : Task} {order : Lists.List ℕ} {room : ℕ} (s : Read
       ≡ arraysOf n (record { labels = relabelled n (digits n) labels stay; rest = changed (restOf a) k (inPhase Idle) })
   ended = record-changed stay (inPhase Idle) 0 labels-stay (jobs-stay Idle) refl
 
-  pub ends-label : Serves EndLabel (arrays n (a .labels) (a .jobs) (put (a .control) 0 k 0) (a .results))
+  pub ends-label : Accepts EndLabel (arrays n (a .labels) (a .jobs) (put (a .control) 0 k 0) (a .results))
   unfolding carryOut reportLines
   ends-label b r e d = carried e d (record { table = ended; number = refl; count = refl; report = refl })
 

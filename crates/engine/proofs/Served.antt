@@ -24,7 +24,7 @@ use Rattle.arrays.specs.WellFormed.{wellFormed}
 use Rattle.arrays.specs.Form.{lent}
 use Rattle.arrays.proofs.Passed.{passed, label-digits}
 use Rattle.engine.specs.Stores.{orderOf}
-use Rattle.engine.specs.Contracts.{callOf, Ready, answerTo, doneOf, Carries, Judges}
+use Rattle.engine.specs.Contracts.{callOf, Prepared, answerTo, doneOf, Carries, Judges}
 use Rattle.moves.specs.declared.Move.{Move}
 use Rattle.moves.specs.declared.Move.the-variants.{BeginLabel, SnapLabel, SnapScan, EndScan}
 use Rattle.engine.specs.declared.Reply.{Reply}
@@ -71,7 +71,7 @@ module _ (a : Arrays) (ok : wellFormed a ≡ true) (q : Request) (room top : ℕ
   -- what carrying out asks for, given the newest station and the scan order where they are needed
   pub ready : {z : Task} (order : Lists.List ℕ) → z .action ≡ x .action → z .place ≡ x .place → z .job ≡ x .job
       → (z .action ≡ SnapLabel → z .newest ≡ newest (a .count) (standsIn (a .count) (getD (a .labels) 0 [])))
-      → (z .action ≡ SnapScan → order ≡ orderOf (a .count) (getD (a .labels) 0 [])) → Ready a z order room
+      → (z .action ≡ SnapScan → order ≡ orderOf (a .count) (getD (a .labels) 0 [])) → Prepared a z order room
   ready order m k v w o = record {
     passed = ok;
     high = passed a ok .high;
@@ -116,7 +116,7 @@ ill-formed a c buffer e =
     }
 
 -- the order that a scan is given has stations in it
-pub order-inside : {a : Arrays} {x : Task} {order : Lists.List ℕ} {room : ℕ} → Ready a x order room → x .action ≡ SnapScan
+pub order-inside : {a : Arrays} {x : Task} {order : Lists.List ℕ} {room : ℕ} → Prepared a x order room → x .action ≡ SnapScan
     → (p : ℕ) → p < a .count → getD order p 0 < 32
 order-inside {a} {order = order} s e p h = omega (
   arith,

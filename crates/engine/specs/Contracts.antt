@@ -31,7 +31,7 @@ abbrev pub actionOf : Task → Calls.Move
 actionOf x = moveOf (x .place) (x .job) (x .action)
 
 -- what a task asks for: a well-formed table and a place in it; the job, the newest station, the scan order and the room where its move needs them
-pub record Ready (a : Arrays) (x : Task) (order : Lists.List ℕ) (room : ℕ) : Type 0 where
+pub record Prepared (a : Arrays) (x : Task) (order : Lists.List ℕ) (room : ℕ) : Type 0 where
   pub passed : wellFormed a ≡ true
   pub high : a .count ≤ 32
   pub inside : x .place < a .count

@@ -16,7 +16,7 @@ ghost use Rattle.arrays.specs.Arrays.{arrays, resultOf};
 ghost use Rattle.arrays.specs.WellFormed.{wellFormed};
 ghost use Rattle.arrays.specs.Form.{lent};
 ghost use Rattle.engine.specs.Stores.{orderOf, scanRows};
-ghost use Rattle.engine.specs.Contracts.{callOf, Ready, Carries, Judges};
+ghost use Rattle.engine.specs.Contracts.{callOf, Prepared, Carries, Judges};
 use arrays::Control;
 use arrays::END_LABEL;
 use arrays::END_SCAN;
@@ -121,7 +121,7 @@ pub fn carry_out(
     results: &mut Results,
     report: &mut [u8],
 ) -> Reply
-    requires { ⌜ Ready (arrays n (now labels) (now jobs) (now control) (now results)) task (now order) (length (now report)) ⌝ }
+    requires { ⌜ Prepared (arrays n (now labels) (now jobs) (now control) (now results)) task (now order) (length (now report)) ⌝ }
     ensures { λ r. ⌜ Carries (arrays n (now (labels .entry)) (now (jobs .entry)) (now (control .entry)) (now (results .entry))) task
         (now (report .entry)) (arrays n (now (labels .exit)) (now (jobs .exit)) (now (control .exit)) (now (results .exit))) r (now (report .exit)) ⌝ }
 {

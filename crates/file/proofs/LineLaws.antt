@@ -34,7 +34,7 @@ use Rattle.arrays.specs.WellFormed.{wellFormed}
 use Rattle.arrays.specs.Form.{lent}
 use Rattle.arrays.proofs.States.{lent-lawful}
 use Rattle.engine.specs.Stores.{orderOf}
-use Rattle.engine.specs.Contracts.{callOf, actionOf, Ready, doneOf, Carries, Judges}
+use Rattle.engine.specs.Contracts.{callOf, actionOf, Prepared, doneOf, Carries, Judges}
 use Rattle.engine.proofs.Served as Served
 use Rattle.engine.proofs.Served.{orderly, ready, judged, served}
 use Rattle.engine.specs.declared.Reply.{Reply}
@@ -99,8 +99,8 @@ module _ {a : Arrays} {order : Lists.List ℕ} (f : Runnable a order) where
     pub line-place : x .place < n
     line-place = Served.inside a run-passes q 928 _ x j
 
-    pub line-ready : {room : ℕ} → room ≡ 928 → Ready a x order room
-    line-ready e = subst (Ready a x order) (sym e) (ready a run-passes q 928 _ x j order refl refl refl (λ _. j .newest ∙ run-newest) (λ _. f .isOrder))
+    pub line-ready : {room : ℕ} → room ≡ 928 → Prepared a x order room
+    line-ready e = subst (Prepared a x order) (sym e) (ready a run-passes q 928 _ x j order refl refl refl (λ _. j .newest ∙ run-newest) (λ _. f .isOrder))
 
     module _ {buffer : Lists.List ℕ} {a′ : Arrays} {r : Reply} {buffer′ : Lists.List ℕ} (g : Carries a x buffer a′ r buffer′) where
       steps : Steps lent a c buffer a′ (refusalNumber (r .refusal)) (r .written) buffer′
