@@ -1,52 +1,54 @@
-use Prim.Native.Nat.{_+_, _-_}
-use mathlib.Core.Path.{sym, _∙_}
+use Prim.Native.Nat.{_+_, _-_, _≤_}
+use native.Mathlib.Omega.{arith}
+use mathlib.Core.Path.{_≡_, sym, _∙_}
+use mathlib.Core.Bool.{true}
 use mathlib.Core.List.{[]}
 use lib.ListN.{getD}
 use Rattle.basics.specs.Tests.{every}
-use Rattle.basics.proofs.Facts.{both, left-no, right-no}
-use Rattle.basics.proofs.Loops.{and-yes, and-no, was-false, was-true}
-use Rattle.well_formed.specs.Loops.{halfFits, halfOnes}
-use Rattle.well_formed.proofs.WellFormedLaws.{plane-fits}
+use Rattle.basics.proofs.Facts.{every-no}
+use Rattle.basics.proofs.Loops.{every-none, every-more, every-done, was-false, was-true}
+use Rattle.well_formed.specs.Loops.{bothFit}
+use Rattle.well_formed.proofs.WellFormedLaws.{both-fit}
 use borrow.Author.Needs.{needs}
 use Rattle.well_formed.proofs.labels_fit.Statement.{statement}
 use Rattle.well_formed.proofs.labels_fit.Tie as tie
 
-returns : tie.Need-returns
+abbrev Inv-loop : tie.InvT-loop
+Inv-loop m labels from k most i₀ i = (i ≤ k) × (every i (λ j. bothFit m labels (from + j)) ≡ true)
+
+abbrev μ-loop : tie.MeasureT-loop
+μ-loop m labels from k most i₀ i = k - i
+
+loop-holds : tie.Need-loop-holds Inv-loop μ-loop
+loop-holds c = (search needs, every-none _)
+
+returns : tie.Need-returns Inv-loop μ-loop
 returns c =
-    let t = c .before .before .before in
-    let a = t .before .args in
-    sym (left-no _ (left-no _ (was-false (c .before .halves-fit .ensures) (c .if1 .taken))))
-    ∙ plane-fits (a .n) (a .rows .now) (search needs) (search needs) (t .before .pre .1) (t .tops .ensures)
+    let b₃ = c .before .before .before in
+    let b₂ = b₃ .before .before in
+    let b₁ = b₂ .before .before in
+    let b = b₁ .before .before .before .before .before in
+    let s = b .before .before in
+    let fit = both-fit (s .args .m) (s .args .labels .now) (s .args .from + b .loop .i) (search needs) (search needs) (s .pre .1)
+    (b₁ .half-fits .ensures) (b₂ .half-fits2 .ensures) (b₃ .half-fits3 .ensures) (c .before .half-fits4 .ensures) in
+    sym (every-no _ _ (b .loop .i) (search needs) (was-false fit (c .if1 .taken)))
 
-returns-2 : tie.Need-returns-2
-returns-2 c =
-    let t = c .before .before .before .before .before .before in
-    let a = t .before .args in
-    let first = every (a .n) (λ i. halfFits (a .n) (t .tops .result) (getD (a .rows .now) i []) 0) in
-    sym (left-no _ (right-no first (was-false (c .before .halves-fit2 .ensures) (c .if2 .taken))))
-    ∙ plane-fits (a .n) (a .rows .now) (search needs) (search needs) (t .before .pre .1) (t .tops .ensures)
+loop-again : tie.Need-loop-again Inv-loop μ-loop
+loop-again c =
+    let b₃ = c .before .before .before in
+    let b₂ = b₃ .before .before in
+    let b₁ = b₂ .before .before in
+    let b = b₁ .before .before .before .before .before in
+    let s = b .before .before in
+    let fit = both-fit (s .args .m) (s .args .labels .now) (s .args .from + b .loop .i) (search needs) (search needs) (s .pre .1)
+    (b₁ .half-fits .ensures) (b₂ .half-fits2 .ensures) (b₃ .half-fits3 .ensures) (c .before .half-fits4 .ensures) in
+    (search needs, every-more _ _ (b .loop .inv .1) (was-true fit (c .if1 .left)))
 
-returns-3 : tie.Need-returns-3
-returns-3 c =
-    let b₂ = c .before .before .before in
-    let b₁ = b₂ .before .before .before in
-    let t = b₁ .before .before .before in
-    let a = t .before .args in
-    and-yes (both (was-true (b₁ .before .halves-fit .ensures) (b₁ .if1 .left)) (was-true (b₂ .before .halves-fit2 .ensures) (b₂ .if2 .left)))
-    (and-yes (sym (c .before .before .halves-are-ones .ensures) ∙ c .before .if3 .taken) (c .halves-are-ones2 .ensures))
-    ∙ plane-fits (a .n) (a .rows .now) (search needs) (search needs) (t .before .pre .1) (t .tops .ensures)
-
-returns-4 : tie.Need-returns-4
-returns-4 c =
-    let b₂ = c .before .before in
-    let b₁ = b₂ .before .before .before in
-    let t = b₁ .before .before .before in
-    let a = t .before .args in
-    let last = every (32 - a .n) (λ i. halfOnes (getD (a .rows .now) (a .n + i) []) 15) in
-    and-yes (both (was-true (b₁ .before .halves-fit .ensures) (b₁ .if1 .left)) (was-true (b₂ .before .halves-fit2 .ensures) (b₂ .if2 .left)))
-    (and-no last (c .before .halves-are-ones .ensures) (c .if3 .left))
-    ∙ plane-fits (a .n) (a .rows .now) (search needs) (search needs) (t .before .pre .1) (t .tops .ensures)
+returns-2 : tie.Need-returns-2 Inv-loop μ-loop
+returns-2 c = every-done _ (c .before .loop .inv .1) (omega arith)
 
 pub labels-fit-spec : {M : Type 1} → statement M
-labels-fit-spec = tie.close (tie.spec (λ c κs. search needs) (λ c κs. search needs) returns (λ c κs. search needs)
-    returns-2 (λ c κs. search needs) (λ c κs. search needs) returns-3 returns-4)
+labels-fit-spec = tie.close (tie.spec Inv-loop μ-loop (λ c κs. search needs) loop-holds (λ c. search needs)
+    (λ c. search needs) (λ c. search needs) (λ c. search needs) (λ c. search needs) (λ c. search needs)
+    (λ c. search needs) (λ c. search needs) (λ c κs. search needs) (λ c κs. search needs) (λ c κs. search needs)
+    (λ c κs. search needs) returns (λ c. search needs) (λ c. search needs) loop-again returns-2)
