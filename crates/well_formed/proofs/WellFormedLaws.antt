@@ -10,12 +10,13 @@ use mathlib.Core.Bool.{Bool, true, false, _&&_, cond}
 use mathlib.Core.List.{List, [], _∷_}
 use lib.ListN.{length, getD, replicate, getD-replicate}
 use lib.Dec.{eqb, leb, ltb}
-use borrow.Author.Tests.{eqb-true, eq-eqb, leb-true, le-leb, ltb-true, lt-ltb, le-ltb}
+use borrow.Author.Tests.{eqb-true, eq-eqb, ne-eqb, leb-true, le-leb, lt-leb, ltb-true, lt-ltb, le-ltb}
 use Rattle.basics.specs.Tests.{within, every, count, tabulate}
 use Rattle.basics.proofs.Facts.{and-both, both, left-no, within-true, within-of, every-all, every-at, every-same, getD-tabulate, getD-any}
 use Rattle.basics.proofs.Loops.{same-test, every-and}
+use Rattle.basics.proofs.Counts.{count-same}
 use Rattle.label.specs.Rows.{digit, rowFits, noRing}
-use Rattle.well_formed.specs.Loops.{tops, fitsAt, bothFit, noneFrom, sameRow}
+use Rattle.well_formed.specs.Loops.{tops, fitsAt, halfFits, bothFit, noneFrom, sameRow}
 use Rattle.simulation.specs.Machine.{freshRest}
 use Rattle.arrays.specs.Arrays.{Arrays, Planes, Rows, cell, resultRows, labelRow, rowsAt}
 use Rattle.arrays.proofs.Fresh.{fresh-rows}
@@ -50,33 +51,57 @@ parts f a b k l h = same-test _ _
     (λ v. every-at a f (t .0) p v)
     (λ v. let q : p ≡ b + (p - b) = omega arith in ap f q ∙ every-at (k - b) _ (t .1) (p - b) (omega arith))))
 
--- a label fits if both halves do
-row-fits : (m : ℕ) (l : List ℕ) {r s : Bool} → m ≤ 31 → length l ≡ 31 → r ≡ every 16 (λ p. fitsAt m l (0 + p)) → s ≡ every 16 (λ p. fitsAt m l (15 + p))
-    → (r && s) ≡ rowFits 31 m l
+row-fits : (m : ℕ) (l : List ℕ) → m ≤ 31 → length l ≡ 31 → every 31 (fitsAt m l) ≡ rowFits 31 m l
 unfolding rowFits
-row-fits m l h long e₀ e₁ = ap₂ _&&_ (e₀ ∙ every-same 16 _ (fitsAt m l) (λ p _. ap (fitsAt m l) (zero-add p))) e₁
-    ∙ sym (parts (fitsAt m l) 16 15 31 (omega arith) (omega arith)) ∙ parts (fitsAt m l) m m 31 (omega arith) h
+row-fits m l h long = parts (fitsAt m l) m m 31 (omega arith) h
     ∙ ap₂ _&&_ (every-same m _ _ (λ p u. rw (lt-ltb p m u, getD-any l p 0 1 (omega arith)) refl)) (every-same (31 - m) _ _ (λ p u. past p (omega arith)))
   where
     one : (x : ℕ) → within 1 1 x ≡ eqb x 1
-    one x = same-test _ _ (λ e. let w = within-true 1 1 x e in eq-eqb x 1 (omega arith)) (λ e. let d = eqb-true x 1 e in within-of 1 1 x (omega arith) (omega arith))
+    one x = same-test _ _ (λ e. let w = within-true 1 1 x e in eq-eqb x 1 (omega arith))
+        (λ e. let d = eqb-true x 1 e in within-of 1 1 x (omega arith) (omega arith))
 
     past : (p : ℕ) → m + p < 31 → fitsAt m l (m + p) ≡ eqb (digit l (m + p)) 1
     past p u = rw (le-ltb (m + p) m (omega arith), getD-any l (m + p) 0 1 (omega arith)) (one (digit l (m + p)))
 
-pub both-fit : (m : ℕ) (labels : Planes) (i : ℕ) {r s t u : Bool} → m ≤ 31 → i < 32 → ((x : ℕ) → x < 2 → (i : ℕ) → i < 32 → length (cell labels x i []) ≡ 31)
-    → r ≡ every 16 (λ p. fitsAt m (cell labels 0 i []) (0 + p)) → s ≡ every 16 (λ p. fitsAt m (cell labels 0 i []) (15 + p))
-    → t ≡ every 16 (λ p. fitsAt m (cell labels 1 i []) (0 + p)) → u ≡ every 16 (λ p. fitsAt m (cell labels 1 i []) (15 + p))
-    → ((r && s) && (t && u)) ≡ bothFit m labels i
-both-fit m labels i h l long e₀ e₁ e₂ e₃ = ap₂ _&&_ (row-fits m _ h (long 0 (omega arith) i l) e₀ e₁) (row-fits m _ h (long 1 (omega arith) i l) e₂ e₃)
+-- two labels fit if both halves do
+both-fit : (m : ℕ) (x y : List ℕ) → m ≤ 31 → length x ≡ 31 → length y ≡ 31 → (halfFits m x y 0 && halfFits m x y 15) ≡ (rowFits 31 m x && rowFits 31 m y)
+both-fit m x y h e f = ap (λ b. b && halfFits m x y 15) (every-same 16 _ fit (λ p _. ap fit (zero-add p)))
+    ∙ sym (parts fit 16 15 31 (omega arith) (omega arith)) ∙ every-and 31 _ _ ∙ ap₂ _&&_ (row-fits m x h e) (row-fits m y h f)
+  where
+    fit : ℕ → Bool
+    fit p = fitsAt m x p && fitsAt m y p
+
+pub all-fit : (m : ℕ) (labels : Planes) (from k : ℕ) {r s : Bool} → m ≤ 31 → from + k ≤ 32
+    → ((x : ℕ) → x < 2 → (i : ℕ) → i < 32 → length (cell labels x i []) ≡ 31)
+    → r ≡ every k (λ i. halfFits m (cell labels 0 (from + i) []) (cell labels 1 (from + i) []) 0)
+    → s ≡ every k (λ i. halfFits m (cell labels 0 (from + i) []) (cell labels 1 (from + i) []) 15)
+    → (r && s) ≡ every k (λ i. bothFit m labels (from + i))
+all-fit m labels from k h l long e f = rw (e, f, ← every-and) (every-same k _ _ (λ i u.
+    both-fit m _ _ h (long 0 (omega arith) (from + i) (omega arith)) (long 1 (omega arith) (from + i) (omega arith))))
 
 -- RESULTS
 
+-- where a station is counted
+abbrev pub slotOf : ℕ → ℕ
+slotOf s = cond (leb s 32) s 0
+
+pub slot-bound : (s : ℕ) → slotOf s < 33
+slot-bound s = by-cases (decLt s 33) (λ l. rw (le-leb s 32 (omega arith)) l) (λ l. rw (lt-leb s 32 (omega arith)) (omega arith))
+
+-- only a station is counted at its number
+slot-test : (s i : ℕ) → i < 32 → eqb (slotOf s) (suc i) ≡ eqb s (suc i)
+slot-test s i h = by-cases (decLt s 33)
+    (λ l. rw (le-leb s 32 (omega arith)) refl)
+    (λ l. rw (lt-leb s 32 (omega arith)) (ne-eqb 0 (suc i) (λ e. omega arith) ∙ sym (ne-eqb s (suc i) (λ e. omega arith))))
+
+pub slot-count : (n : ℕ) (s : ℕ → ℕ) (i : ℕ) → i < 32 → count n (λ p. eqb (slotOf (s p)) (suc i)) ≡ count n (λ p. eqb (s p) (suc i))
+slot-count n s i h = count-same n _ _ (λ p _. slot-test (s p) i h)
+
 -- a result by its rows
-pub result-rows : (n : ℕ) (rows : Rows) (counts : List ℕ) → n ≤ 32 → ((q : ℕ) → q < 33 → getD counts q 0 ≡ count n (λ p. eqb (cell rows 0 p 0) q))
+pub result-rows : (n : ℕ) (rows : Rows) (counts : List ℕ) → n ≤ 32 → ((i : ℕ) → i < 32 → getD counts (suc i) 0 ≡ count n (λ p. eqb (cell rows 0 p 0) (suc i)))
     → (every n (λ i. eqb (getD counts (i + 1) 0) 1) && (noneFrom n (getD rows 0 []) && noneFrom n (getD rows 1 []))) ≡ resultFits n rows
 unfolding resultFits
-result-rows n rows counts h c = ap₂ _&&_ (every-same n _ _ (λ i l. rw (add-one i) (ap (λ x. eqb x 1) (c (suc i) (omega arith))))) (sym (every-and (32 - n) _ _))
+result-rows n rows counts h c = ap₂ _&&_ (every-same n _ _ (λ i l. rw (add-one i) (ap (λ x. eqb x 1) (c i (omega arith))))) (sym (every-and (32 - n) _ _))
 
 pub fresh-result : (n : ℕ) (rows : Rows) {fresh : Rows} → fresh ≡ resultRows (freshRest n .result 0)
     → (sameRow (getD rows 0 []) (getD fresh 0 []) && noneFrom 0 (getD rows 1 [])) ≡ resultFresh n rows

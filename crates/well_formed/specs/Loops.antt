@@ -16,6 +16,10 @@ tops = tabulate 64 0 (λ p. cond (ltb p 32) 5 1)
 abbrev pub fitsAt : ℕ → List ℕ → ℕ → Bool
 fitsAt m label p = within 1 (cond (ltb p m) 5 1) (getD label p 0)
 
+-- each of the 16 digits from position h on is, in two labels
+abbrev pub halfFits : ℕ → List ℕ → List ℕ → ℕ → Bool
+halfFits m x y h = every 16 (λ p. fitsAt m x (h + p) && fitsAt m y (h + p))
+
 -- both labels at place i fit
 abbrev pub bothFit : ℕ → Planes → ℕ → Bool
 bothFit m labels i = rowFits 31 m (cell labels 0 i []) && rowFits 31 m (cell labels 1 i [])

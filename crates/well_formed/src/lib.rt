@@ -1,14 +1,15 @@
 // The test of refusal 13 on a table in four arrays. A row is read to its end, fault or no fault: such loops compile to vector instructions. Tests that
 // are joined by `&` are all made: there is one way through them.
 ghost use mathlib.Core.Path.{_≡_};
+ghost use mathlib.Core.Bool.{cond};
 ghost use mathlib.Core.List.{[]};
-ghost use Prim.Native.Nat.{ℕ, _+_, _-_, _≤_, _<_};
+ghost use Prim.Native.Nat.{ℕ, suc, _+_, _-_, _≤_, _<_};
 ghost use lib.ListN.{length, getD};
 ghost use lib.Dec.{eqb, leb};
 ghost use Rattle.basics.specs.Tests.{within, every, count};
 ghost use Rattle.arrays.specs.Arrays.{arrays, cell};
 ghost use Rattle.arrays.specs.WellFormed.{resultFits, resultFresh, wellFormed};
-ghost use Rattle.well_formed.specs.Loops.{tops, fitsAt, bothFit, noneFrom, sameRow};
+ghost use Rattle.well_formed.specs.Loops.{tops, halfFits, bothFit, noneFrom, sameRow};
 use arrays::Control;
 use arrays::Jobs;
 use arrays::Labels;
@@ -34,42 +35,48 @@ fn digit_fits(d: u8, top: u8) -> bool
     std::num::wrapping_sub_u8(d, 1) < top
 }
 
-// Whether each of the 16 digits from position h on fits in a label of m digits.
-fn half_fits(m: usize, label: &[u8; 31], most: &[u8; 64], h: usize) -> bool
+// Whether each of the 16 digits from position h on fits in two labels of m digits.
+fn half_fits(m: usize, current: &[u8; 31], pending: &[u8; 31], most: &[u8; 64], h: usize) -> bool
     requires { ⌜ (m ≤ 31) × (h ≤ 15) ⌝ }
     requires { ⌜ now most ≡ tops ⌝ }
-    ensures { λ r. ⌜ r ≡ every 16 (λ p. fitsAt m (now (label .entry)) (h + p)) ⌝ }
+    ensures { λ r. ⌜ r ≡ halfFits m (now (current .entry)) (now (pending .entry)) h ⌝ }
 {
     let mut r = true;
     let mut p: usize = 0;
     while p < 16 {
         let q = h + p;
-        r &= digit_fits(label[q], most[32 - m + q]);
+        let top = most[32 - m + q];
+        r &= digit_fits(current[q], top) & digit_fits(pending[q], top);
         p += 1;
     }
     r
 }
 
-// Whether both labels of k stations, from the one at `from` on, fit as labels of m digits. A label is read by halves, as long as a vector each, which
-// share position 15.
+// Whether these digits fit in the labels of k stations, from the one at `from` on.
+fn halves_fit(m: usize, labels: &Labels, from: usize, k: usize, most: &[u8; 64], h: usize) -> bool
+    requires { ⌜ (m ≤ 31) × (from + k ≤ 32) × (h ≤ 15) ⌝ }
+    requires { ⌜ now most ≡ tops ⌝ }
+    ensures { λ r. ⌜ r ≡ every k (λ i. halfFits m (cell (now (labels .entry)) 0 (from + i) []) (cell (now (labels .entry)) 1 (from + i) []) h) ⌝ }
+{
+    let mut i: usize = 0;
+    while i < k {
+        if !half_fits(m, &labels[0][from + i], &labels[1][from + i], most, h) {
+            return false;
+        }
+        i += 1;
+    }
+    true
+}
+
+// Whether both labels of k stations, from the one at `from` on, fit as labels of m digits. First one half of all of them is read, then the other: the
+// halves, as long as a vector each, share position 15, and no byte is read for both at once.
 fn labels_fit(m: usize, labels: &Labels, from: usize, k: usize) -> bool
     requires { ⌜ (m ≤ 31) × (from + k ≤ 32) ⌝ }
     requires { ⌜ ((x : ℕ) → x < 2 → (i : ℕ) → i < 32 → length (cell (now labels) x i []) ≡ 31) ⌝ }
     ensures { λ r. ⌜ r ≡ every k (λ i. bothFit m (now (labels .entry)) (from + i)) ⌝ }
 {
     let most = tops();
-    let mut i: usize = 0;
-    while i < k {
-        let current = &labels[0][from + i];
-        let pending = &labels[1][from + i];
-        if !(half_fits(m, current, &most, 0)
-            & half_fits(m, current, &most, 15)
-            & (half_fits(m, pending, &most, 0) & half_fits(m, pending, &most, 15))) {
-            return false;
-        }
-        i += 1;
-    }
-    true
+    halves_fit(m, labels, from, k, &most, 0) & halves_fit(m, labels, from, k, &most, 15)
 }
 
 // Whether k phases, from the one at `from` on, have numbers up to `most`.
@@ -100,18 +107,23 @@ fn none_from(n: usize, row: &[u32; 32]) -> bool
     r
 }
 
+// Where a station is counted; what is no station is counted at 0.
+fn slot(station: u32) -> usize
+    ensures { λ r. ⌜ r ≡ cond (leb station 32) station 0 ⌝ }
+{
+    if station <= 32 { station as usize } else { 0 }
+}
+
 // How often each station stands in the first n places.
 fn tally(n: usize, stations: &[u32; 32]) -> [u8; 33]
     requires { ⌜ n ≤ 32 ⌝ }
-    ensures { λ r. ⌜ ((q : ℕ) → q < 33 → getD r q 0 ≡ count n (λ p. eqb (getD (now (stations .entry)) p 0) q)) ⌝ }
+    ensures { λ r. ⌜ ((i : ℕ) → i < 32 → getD r (suc i) 0 ≡ count n (λ p. eqb (getD (now (stations .entry)) p 0) (suc i))) ⌝ }
 {
     let mut r = [0u8; 33];
     let mut p: usize = 0;
     while p < n {
-        let s = stations[p];
-        if s <= 32 {
-            r[s as usize] += 1;
-        }
+        let s = slot(stations[p]);
+        r[s] += 1;
         p += 1;
     }
     r

@@ -1,20 +1,19 @@
-use Prim.Native.Nat.{ℕ, _-_, _≤_, _<_}
+use Prim.Native.Nat.{ℕ, suc, _-_, _≤_, _<_}
 use native.Mathlib.Omega.{arith}
-use mathlib.Core.Path.{_≡_, refl, sym, ap, _∙_}
-use mathlib.Core.Logic.{⊎-elim}
+use mathlib.Core.Path.{_≡_, refl, ap, _∙_}
 use mathlib.Core.Bool.{true}
 use lib.ListN.{length, getD, length-set, getD-replicate}
 use lib.Dec.{eqb}
-use borrow.Author.Tests.{ne-eqb}
 use Rattle.basics.specs.Tests.{count}
 use Rattle.basics.proofs.Facts.{count-bound}
-use Rattle.basics.proofs.Counts.{tally-hit, count-no}
+use Rattle.basics.proofs.Counts.{tally-hit}
+use Rattle.well_formed.proofs.WellFormedLaws.{slotOf, slot-bound, slot-count}
 use borrow.Author.Needs.{needs}
 use Rattle.well_formed.proofs.tally.Statement.{statement}
 use Rattle.well_formed.proofs.tally.Tie as tie
 
 abbrev Inv-loop : tie.InvT-loop
-Inv-loop n stations r₀ p₀ r p = (p ≤ n) × (length r ≡ 33) × ((q : ℕ) → q < 33 → getD r q 0 ≡ count p (λ k. eqb (getD stations k 0) q))
+Inv-loop n stations r₀ p₀ r p = (p ≤ n) × (length r ≡ 33) × ((q : ℕ) → q < 33 → getD r q 0 ≡ count p (λ k. eqb (slotOf (getD stations k 0)) q))
 
 abbrev μ-loop : tie.MeasureT-loop
 μ-loop n stations r₀ p₀ r p = n - p
@@ -23,30 +22,37 @@ loop-holds : tie.Need-loop-holds Inv-loop μ-loop
 unfolding count
 loop-holds c = (search needs, search needs, λ q h. getD-replicate 33 q 0 0 h)
 
+array-read-r : tie.Need-array-read-r Inv-loop μ-loop
+array-read-r c =
+    let b = c .before .before .before in
+    rw (c .slot .ensures) (slot-bound (getD (b .before .args .stations .now) (b .loop .p) 0))
+
 add-r : tie.Need-add-r Inv-loop μ-loop
 add-r c =
     let b = c .before .before .before in
-    let f : ℕ → ℕ = λ k. getD (b .before .args .stations .now) k 0 in
-    omega (arith, b .loop .inv .2 (f (b .loop .p)) (omega arith), count-bound (b .loop .p) (λ k. eqb (f k) (f (b .loop .p))))
+    let s = c .slot .result in
+    let l : s < 33 = rw (c .slot .ensures) (slot-bound (getD (b .before .args .stations .now) (b .loop .p) 0)) in
+    omega (arith, b .loop .inv .2 s l, count-bound (b .loop .p) (λ k. eqb (slotOf (getD (b .before .args .stations .now) k 0)) s))
+
+array-write-r : tie.Need-array-write-r Inv-loop μ-loop
+array-write-r c =
+    let b = c .before .before .before in
+    rw (c .slot .ensures) (slot-bound (getD (b .before .args .stations .now) (b .loop .p) 0))
 
 loop-again : tie.Need-loop-again Inv-loop μ-loop
 loop-again c =
     let b = c .before .before .before in
-    let f : ℕ → ℕ = λ k. getD (b .before .args .stations .now) k 0 in
-    let p = b .loop .p in
+    let f : ℕ → ℕ = λ k. slotOf (getD (b .before .args .stations .now) k 0) in
     let l : length (b .loop .r) ≡ 33 = b .loop .inv .1 in
-    let old = b .loop .inv .2 in
-    ⊎-elim
-    (λ w. let h : f p < 33 = omega (arith, w .0 .taken) in rw (w .1)
-    (search needs, simp length-set l, tally-hit 33 (λ _. true) f (b .loop .r) p old refl h (omega arith)))
-    (λ w. rw (w .1) (search needs, l, λ q h. old q h ∙ sym (count-no p (λ k. eqb (f k) q) (ne-eqb (f p) q (λ e. omega (arith, w .0 .left))))))
-    (c .if1 .came)
+    let u : f (b .loop .p) < 33 = slot-bound (getD (b .before .args .stations .now) (b .loop .p) 0) in
+    (search needs, simp length-set l, rw (c .slot .ensures) (tally-hit 33 (λ _. true) f (b .loop .r) (b .loop .p) (b .loop .inv .2) refl u (omega arith)))
 
 returns : tie.Need-returns Inv-loop μ-loop
-returns c = λ q h. c .before .loop .inv .2 q h ∙ ap (λ k. count k (λ p. eqb (getD (c .before .before .args .stations .now) p 0) q))
-    {x = c .before .loop .p} {y = c .before .before .args .n} (omega arith)
+returns c = λ i h.
+    let f : ℕ → ℕ = λ k. getD (c .before .before .args .stations .now) k 0 in
+    c .before .loop .inv .2 (suc i) (omega arith) ∙ slot-count (c .before .loop .p) f i h
+    ∙ ap (λ k. count k (λ p. eqb (f p) (suc i))) {x = c .before .loop .p} {y = c .before .before .args .n} (omega arith)
 
 pub tally-spec : {M : Type 1} → statement M
 tally-spec = tie.close (tie.spec Inv-loop μ-loop loop-holds (λ c. search needs) (λ c. search needs)
-    (λ c. search needs) (λ c. search needs) add-r (λ c. search needs) (λ c. search needs) (λ c. search needs)
-    loop-again returns)
+    (λ c κs. search needs) array-read-r add-r array-write-r (λ c. search needs) (λ c. search needs) loop-again returns)

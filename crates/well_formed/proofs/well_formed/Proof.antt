@@ -32,8 +32,10 @@ returns-3 c =
     let low : 2 ≤ n = omega (arith, i .before .if1 .left) in
     let high : n ≤ 32 = omega (arith, i .if2 .left) in
     let long = z .shaped .ensures 0 .results .long in
-    all-tests _ low high (stations _ high long (l .before .before .before .labels-fit .ensures) (l .before .before .phases-fit .ensures) (l .before .results-fit .ensures))
-    (places _ high long (l .labels-fit2 .ensures) (j .none-from .ensures) (k .none-from2 .ensures) (r .before .phases-fit2 .ensures) (r .rest-is-fresh .ensures))
+    all-tests _ low high
+    (stations _ high long (l .before .before .before .labels-fit .ensures) (l .before .before .phases-fit .ensures) (l .before .results-fit .ensures))
+    (places _ high long (l .labels-fit2 .ensures) (j .none-from .ensures) (k .none-from2 .ensures)
+    (r .before .phases-fit2 .ensures) (r .rest-is-fresh .ensures))
     (c .no-ring .ensures)
 
 pub well-formed-spec : {M : Type 1} → statement M
