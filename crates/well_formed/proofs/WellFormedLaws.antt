@@ -85,9 +85,6 @@ all-fit m labels from k h l long e f = rw (e, f, ← every-and) (every-same k _ 
 abbrev pub slotOf : ℕ → ℕ
 slotOf s = cond (leb s 32) s 0
 
-pub slot-bound : (s : ℕ) → slotOf s < 33
-slot-bound s = by-cases (decLt s 33) (λ l. rw (le-leb s 32 (omega arith)) l) (λ l. rw (lt-leb s 32 (omega arith)) (omega arith))
-
 -- only a station is counted at its number
 slot-test : (s i : ℕ) → i < 32 → eqb (slotOf s) (suc i) ≡ eqb s (suc i)
 slot-test s i h = by-cases (decLt s 33)

@@ -109,7 +109,7 @@ fn none_from(n: usize, row: &[u32; 32]) -> bool
 
 // Where a station is counted; what is no station is counted at 0.
 fn slot(station: u32) -> usize
-    ensures { λ r. ⌜ r ≡ cond (leb station 32) station 0 ⌝ }
+    ensures { λ r. ⌜ (r ≡ cond (leb station 32) station 0) × (r < 33) ⌝ }
 {
     if station <= 32 { station as usize } else { 0 }
 }

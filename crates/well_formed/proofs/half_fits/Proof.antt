@@ -1,8 +1,9 @@
 use Prim.Native.Nat.{_+_, _-_, _≤_}
 use native.Mathlib.Omega.{arith}
-use mathlib.Core.Path.{_≡_, ap₂}
+use mathlib.Core.Path.{_≡_, ap, ap₂, _∙_}
 use mathlib.Core.Bool.{_&&_}
-use Rattle.basics.specs.Tests.{every}
+use lib.ListN.{getD}
+use Rattle.basics.specs.Tests.{within, every}
 use Rattle.basics.proofs.Loops.{flag-up, flag-end}
 use Rattle.well_formed.specs.Loops.{fitsAt}
 use Rattle.well_formed.proofs.WellFormedLaws.{flag-more, top-at}
@@ -24,8 +25,13 @@ loop-again c =
     let d = c .before .before in
     let b = d .before .before .before .before in
     let a = b .before .args in
-    let top = top-at (a .m) (a .h + b .loop .p) (b .before .pre .1) (search needs) (search needs) in
-    (search needs, flag-more _ _ (b .loop .inv .1) (ap₂ _&&_ (rw top at (d .digit-fits .ensures)) (rw top at (c .digit-fits2 .ensures))))
+    let q = a .h + b .loop .p in
+    let top = top-at (a .m) q (b .before .pre .1) (search needs) (search needs) in (
+      search needs,
+      flag-more _ _ (b .loop .inv .1) (ap₂ _&&_
+          (d .digit-fits .ensures ∙ ap (λ t. within 1 t (getD (a .current .now) q 0)) top)
+          (c .digit-fits2 .ensures ∙ ap (λ t. within 1 t (getD (a .pending .now) q 0)) top)),
+    )
 
 returns : tie.Need-returns Inv-loop μ-loop
 returns c = flag-end _ (c .before .loop .inv .1) (omega arith)
