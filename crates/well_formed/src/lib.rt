@@ -1,27 +1,28 @@
-// The test of refusal 13 on a table in four arrays. A row is read to its end, fault or no fault: such loops compile to vector instructions.
+// The test of refusal 13 on a table in four arrays. A row is read to its end, fault or no fault: such loops compile to vector instructions. Tests that
+// are joined by `&` are all made: there is one way through them.
 ghost use mathlib.Core.Path.{_≡_};
 ghost use mathlib.Core.Bool.{cond};
 ghost use mathlib.Core.List.{[]};
 ghost use Prim.Native.Nat.{ℕ, suc, _+_, _-_, _≤_, _<_};
 ghost use lib.ListN.{length, getD};
-ghost use lib.Dec.{eqb, leb, ltb};
+ghost use lib.Dec.{eqb, leb};
 ghost use Rattle.basics.specs.Tests.{within, every, count};
-ghost use Rattle.arrays.specs.Arrays.{arrays};
+ghost use Rattle.arrays.specs.Arrays.{arrays, cell};
 ghost use Rattle.arrays.specs.WellFormed.{resultFits, resultFresh, wellFormed};
-ghost use Rattle.well_formed.specs.Loops.{tops, halfFits, halfOnes, labelsFit, noneFrom, sameRow};
+ghost use Rattle.well_formed.specs.Loops.{tops, halfFits, bothFit, noneFrom, sameRow};
 use arrays::Control;
 use arrays::Jobs;
 use arrays::Labels;
 use arrays::Results;
 
-// The greatest bytes at 32 places, `high`, and at 32 more, `low`: read from place 32 - m on, the first m are `high`.
-fn tops(high: u8, low: u8) -> [u8; 64]
-    ensures { λ r. ⌜ r ≡ tops high low ⌝ }
+// The greatest digits: read from place 32 - m on, those of a label of m digits and the 1s past them.
+fn tops() -> [u8; 64]
+    ensures { λ r. ⌜ r ≡ tops ⌝ }
 {
-    let mut r = [low; 64];
+    let mut r = [1u8; 64];
     let mut p: usize = 0;
     while p < 32 {
-        r[p] = high;
+        r[p] = 5;
         p += 1;
     }
     r
@@ -34,30 +35,32 @@ fn digit_fits(d: u8, top: u8) -> bool
     std::num::wrapping_sub_u8(d, 1) < top
 }
 
-// Whether each of the 16 digits from position h on is from 1 to the greatest there, in a label of n - 1 digits.
-fn half_fits(n: usize, label: &[u8; 31], tops: &[u8; 64], h: usize) -> bool
-    requires { ⌜ (1 ≤ n) × (n ≤ 32) × (h ≤ 15) ⌝ }
-    ensures { λ r. ⌜ r ≡ halfFits n (now (tops .entry)) (now (label .entry)) h ⌝ }
+// Whether each of the 16 digits from position h on fits in two labels of m digits.
+fn half_fits(m: usize, current: &[u8; 31], pending: &[u8; 31], most: &[u8; 64], h: usize) -> bool
+    requires { ⌜ (m ≤ 31) × (h ≤ 15) ⌝ }
+    requires { ⌜ now most ≡ tops ⌝ }
+    ensures { λ r. ⌜ r ≡ halfFits m (now (current .entry)) (now (pending .entry)) h ⌝ }
 {
     let mut r = true;
     let mut p: usize = 0;
     while p < 16 {
-        if !digit_fits(label[h + p], tops[33 - n + h + p]) {
-            r = false;
-        }
+        let q = h + p;
+        let top = most[32 - m + q];
+        r &= digit_fits(current[q], top) & digit_fits(pending[q], top);
         p += 1;
     }
     r
 }
 
-// Whether the 16 digits from position h on fit in each label of n stations.
-fn halves_fit(n: usize, rows: &[[u8; 31]; 32], tops: &[u8; 64], h: usize) -> bool
-    requires { ⌜ (1 ≤ n) × (n ≤ 32) × (h ≤ 15) ⌝ }
-    ensures { λ r. ⌜ r ≡ every n (λ i. halfFits n (now (tops .entry)) (getD (now (rows .entry)) i []) h) ⌝ }
+// Whether these digits fit in the labels of k stations, from the one at `from` on.
+fn halves_fit(m: usize, labels: &Labels, from: usize, k: usize, most: &[u8; 64], h: usize) -> bool
+    requires { ⌜ (m ≤ 31) × (from + k ≤ 32) × (h ≤ 15) ⌝ }
+    requires { ⌜ now most ≡ tops ⌝ }
+    ensures { λ r. ⌜ r ≡ every k (λ i. halfFits m (cell (now (labels .entry)) 0 (from + i) []) (cell (now (labels .entry)) 1 (from + i) []) h) ⌝ }
 {
     let mut i: usize = 0;
-    while i < n {
-        if !half_fits(n, &rows[i], tops, h) {
+    while i < k {
+        if !half_fits(m, &labels[0][from + i], &labels[1][from + i], most, h) {
             return false;
         }
         i += 1;
@@ -65,85 +68,40 @@ fn halves_fit(n: usize, rows: &[[u8; 31]; 32], tops: &[u8; 64], h: usize) -> boo
     true
 }
 
-// Whether each of the 16 digits from position h on is 1.
-fn half_is_ones(label: &[u8; 31], h: usize) -> bool
-    requires { ⌜ h ≤ 15 ⌝ }
-    ensures { λ r. ⌜ r ≡ halfOnes (now (label .entry)) h ⌝ }
+// Whether both labels of k stations, from the one at `from` on, fit as labels of m digits. First one half of all of them is read, then the other: the
+// halves, as long as a vector each, share position 15, and no byte is read for both at once.
+fn labels_fit(m: usize, labels: &Labels, from: usize, k: usize) -> bool
+    requires { ⌜ (m ≤ 31) × (from + k ≤ 32) ⌝ }
+    requires { ⌜ ((x : ℕ) → x < 2 → (i : ℕ) → i < 32 → length (cell (now labels) x i []) ≡ 31) ⌝ }
+    ensures { λ r. ⌜ r ≡ every k (λ i. bothFit m (now (labels .entry)) (from + i)) ⌝ }
+{
+    let most = tops();
+    halves_fit(m, labels, from, k, &most, 0) & halves_fit(m, labels, from, k, &most, 15)
+}
+
+// Whether k phases, from the one at `from` on, have numbers up to `most`.
+fn phases_fit(control: &Control, from: usize, k: usize, most: u8) -> bool
+    requires { ⌜ from + k ≤ 32 ⌝ }
+    ensures { λ r. ⌜ r ≡ every k (λ i. leb (cell (now (control .entry)) 0 (from + i) 0) most) ⌝ }
 {
     let mut r = true;
-    let mut p: usize = 0;
-    while p < 16 {
-        if label[h + p] != 1 {
-            r = false;
-        }
-        p += 1;
-    }
-    r
-}
-
-// Whether the 16 digits from position h on are 1 in each label past n stations.
-fn halves_are_ones(n: usize, rows: &[[u8; 31]; 32], h: usize) -> bool
-    requires { ⌜ (n ≤ 32) × (h ≤ 15) ⌝ }
-    ensures { λ r. ⌜ r ≡ every (32 - n) (λ i. halfOnes (getD (now (rows .entry)) (n + i) []) h) ⌝ }
-{
     let mut i: usize = 0;
-    while i < 32 - n {
-        if !half_is_ones(&rows[n + i], h) {
-            return false;
-        }
-        i += 1;
-    }
-    true
-}
-
-// Whether the labels of n stations fit, and those past them are all 1. First one half of all of them is read, then the other: the halves, as long as
-// a vector each, share position 15, and no byte is read for both at once.
-fn labels_fit(n: usize, rows: &[[u8; 31]; 32]) -> bool
-    requires { ⌜ (1 ≤ n) × (n ≤ 32) ⌝ }
-    requires { ⌜ ((i : ℕ) → i < 32 → length (getD (now rows) i []) ≡ 31) ⌝ }
-    ensures { λ r. ⌜ r ≡ labelsFit n (now (rows .entry)) ⌝ }
-{
-    let most = tops(5, 1);
-    if !halves_fit(n, rows, &most, 0) {
-        return false;
-    }
-    if !halves_fit(n, rows, &most, 15) {
-        return false;
-    }
-    halves_are_ones(n, rows, 0) && halves_are_ones(n, rows, 15)
-}
-
-// Whether each number of n stations is that of a phase, and all past them are idle.
-fn phases_fit(n: usize, phases: &[u8; 32]) -> bool
-    requires { ⌜ n ≤ 32 ⌝ }
-    ensures { λ r. ⌜ r ≡ every 32 (λ i. leb (getD (now (phases .entry)) i 0) (cond (ltb i n) 5 0)) ⌝ }
-{
-    let most = tops(5, 0);
-    let mut r = true;
-    let mut i: usize = 0;
-    while i < 32 {
-        if most[32 - n + i] < phases[i] {
-            r = false;
-        }
+    while i < k {
+        r &= control[0][from + i] <= most;
         i += 1;
     }
     r
 }
 
-// Whether two rows, as those of a result, have nothing from place n on.
-fn none_from(n: usize, rows: &[[u32; 32]; 2]) -> bool
+// Whether a row has nothing from place n on.
+fn none_from(n: usize, row: &[u32; 32]) -> bool
     requires { ⌜ n ≤ 32 ⌝ }
-    ensures { λ r. ⌜ r ≡ noneFrom n (now (rows .entry)) ⌝ }
+    ensures { λ r. ⌜ r ≡ noneFrom n (now (row .entry)) ⌝ }
 {
     let mut r = true;
     let mut i: usize = 0;
     while i < 32 - n {
-        if rows[0][n + i] != 0 {
-            r = false;
-        }
-        if rows[1][n + i] != 0 {
-            r = false;
-        }
+        r &= row[n + i] == 0;
         i += 1;
     }
     r
@@ -151,7 +109,7 @@ fn none_from(n: usize, rows: &[[u32; 32]; 2]) -> bool
 
 // Where a station is counted; what is no station is counted at 0.
 fn slot(station: u32) -> usize
-    ensures { λ r. ⌜ r ≡ cond (leb station 32) station 0 ⌝ }
+    ensures { λ r. ⌜ (r ≡ cond (leb station 32) station 0) × (r < 33) ⌝ }
 {
     if station <= 32 { station as usize } else { 0 }
 }
@@ -174,14 +132,12 @@ fn tally(n: usize, stations: &[u32; 32]) -> [u8; 33]
 // Whether each of n stations is counted once.
 fn all_once(n: usize, counts: [u8; 33]) -> bool
     requires { ⌜ n ≤ 32 ⌝ }
-    ensures { λ r. ⌜ r ≡ every n (λ i. eqb (getD counts (suc i) 0) 1) ⌝ }
+    ensures { λ r. ⌜ r ≡ every n (λ i. eqb (getD counts (i + 1) 0) 1) ⌝ }
 {
     let mut r = true;
     let mut i: usize = 0;
     while i < n {
-        if counts[i + 1] != 1 {
-            r = false;
-        }
+        r &= counts[i + 1] == 1;
         i += 1;
     }
     r
@@ -192,7 +148,7 @@ fn result_fits(n: usize, rows: &[[u32; 32]; 2]) -> bool
     requires { ⌜ n ≤ 32 ⌝ }
     ensures { λ r. ⌜ r ≡ resultFits n (now (rows .entry)) ⌝ }
 {
-    all_once(n, tally(n, &rows[0])) && none_from(n, rows)
+    all_once(n, tally(n, &rows[0])) & (none_from(n, &rows[0]) & none_from(n, &rows[1]))
 }
 
 // Whether the results of n stations fit.
@@ -216,27 +172,10 @@ fn same_row(a: &[u32; 32], b: &[u32; 32]) -> bool
     let mut r = true;
     let mut p: usize = 0;
     while p < 32 {
-        if a[p] != b[p] {
-            r = false;
-        }
+        r &= a[p] == b[p];
         p += 1;
     }
     r
-}
-
-// Whether row k of each result past the n stations is `row`.
-fn rows_are(n: usize, k: usize, results: &Results, row: &[u32; 32]) -> bool
-    requires { ⌜ (n ≤ 32) × (k ≤ 1) ⌝ }
-    ensures { λ r. ⌜ r ≡ every (32 - n) (λ i. sameRow (getD (getD (now (results .entry)) (n + i) []) k []) (now (row .entry))) ⌝ }
-{
-    let mut i: usize = 0;
-    while i < 32 - n {
-        if !same_row(&results[n + i][k], row) {
-            return false;
-        }
-        i += 1;
-    }
-    true
 }
 
 // Whether the results past the n stations are that of a fresh station of n.
@@ -245,7 +184,17 @@ fn rest_is_fresh(n: usize, results: &Results) -> bool
     ensures { λ r. ⌜ r ≡ every (32 - n) (λ i. resultFresh n (getD (now (results .entry)) (n + i) [])) ⌝ }
 {
     let fresh = arrays::fresh_result(n);
-    rows_are(n, 0, results, &fresh[0]) && rows_are(n, 1, results, &fresh[1])
+    let mut i: usize = 0;
+    while i < 32 - n {
+        if !same_row(&results[n + i][0], &fresh[0]) {
+            return false;
+        }
+        if !none_from(0, &results[n + i][1]) {
+            return false;
+        }
+        i += 1;
+    }
+    true
 }
 
 // Whether the arrays hold a well-formed table.
@@ -266,23 +215,13 @@ pub fn well_formed(
     }
     let n = count as usize;
     arrays::shaped(*labels, *jobs, *control, *results);
-    if !labels_fit(n, &labels[0]) {
-        return false;
-    }
-    if !labels_fit(n, &labels[1]) {
-        return false;
-    }
-    if !phases_fit(n, &control[0]) {
-        return false;
-    }
-    if !none_from(n, jobs) {
-        return false;
-    }
-    if !results_fit(n, results) {
-        return false;
-    }
-    if !rest_is_fresh(n, results) {
-        return false;
-    }
-    rows::ring::no_ring(&labels[0], n)
+    let stations = labels_fit(n - 1, labels, 0, n)
+        & phases_fit(control, 0, n, 5)
+        & results_fit(n, results);
+    let places = labels_fit(0, labels, n, 32 - n)
+        & none_from(n, &jobs[0])
+        & none_from(n, &jobs[1])
+        & phases_fit(control, n, 32 - n, 0)
+        & rest_is_fresh(n, results);
+    stations & places & rows::ring::no_ring(&labels[0], n)
 }

@@ -1,12 +1,11 @@
 use Prim.Native.Nat.{_-_, _≤_}
 use native.Mathlib.Omega.{arith}
-use mathlib.Core.Path.{_≡_, _∙_}
-use mathlib.Core.Logic.{⊎-elim}
+use mathlib.Core.Path.{_≡_, refl}
 use lib.ListN.{getD}
 use lib.Dec.{eqb}
-use borrow.Author.Tests.{eq-eqb, ne-eqb}
 use Rattle.basics.specs.Tests.{every}
-use Rattle.basics.proofs.Loops.{flag-up, flag-down, flag-stays, flag-end}
+use Rattle.basics.proofs.Loops.{flag-up, flag-end}
+use Rattle.well_formed.proofs.WellFormedLaws.{flag-more}
 use borrow.Author.Needs.{needs}
 use Rattle.well_formed.proofs.same_row.Statement.{statement}
 use Rattle.well_formed.proofs.same_row.Tie as tie
@@ -21,15 +20,7 @@ loop-holds : tie.Need-loop-holds Inv-loop μ-loop
 loop-holds c = (search needs, flag-up _)
 
 loop-again : tie.Need-loop-again Inv-loop μ-loop
-loop-again c =
-    let b = c .before .before .before .before in
-    let p = b .loop .p in
-    let s = b .before .args in
-    let x = getD (s .a .now) p 0 in
-    let y = getD (s .b .now) p 0 in (
-      search needs,
-      ⊎-elim (λ w. w .1 ∙ flag-down p _ (ne-eqb x y (w .0 .taken))) (λ w. w .1 ∙ flag-stays p _ (b .loop .inv .1) (eq-eqb x y (w .0 .left))) (c .if1 .came),
-    )
+loop-again c = (search needs, flag-more _ _ (c .before .before .before .loop .inv .1) refl)
 
 returns : tie.Need-returns Inv-loop μ-loop
 returns c = flag-end _ (c .before .loop .inv .1) (omega arith)

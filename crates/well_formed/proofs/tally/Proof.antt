@@ -7,7 +7,7 @@ use lib.Dec.{eqb}
 use Rattle.basics.specs.Tests.{count}
 use Rattle.basics.proofs.Facts.{count-bound}
 use Rattle.basics.proofs.Counts.{tally-hit}
-use Rattle.well_formed.proofs.WellFormedLaws.{slotOf, slot-bound, slot-count}
+use Rattle.well_formed.proofs.WellFormedLaws.{slotOf, slot-count}
 use borrow.Author.Needs.{needs}
 use Rattle.well_formed.proofs.tally.Statement.{statement}
 use Rattle.well_formed.proofs.tally.Tie as tie
@@ -22,30 +22,20 @@ loop-holds : tie.Need-loop-holds Inv-loop μ-loop
 unfolding count
 loop-holds c = (search needs, search needs, λ q h. getD-replicate 33 q 0 0 h)
 
-array-read-r : tie.Need-array-read-r Inv-loop μ-loop
-array-read-r c =
-    let b = c .before .before .before in
-    rw (c .slot .ensures) (slot-bound (getD (b .before .args .stations .now) (b .loop .p) 0))
-
 add-r : tie.Need-add-r Inv-loop μ-loop
 add-r c =
     let b = c .before .before .before in
     let s = c .slot .result in
-    let l : s < 33 = rw (c .slot .ensures) (slot-bound (getD (b .before .args .stations .now) (b .loop .p) 0)) in
-    omega (arith, b .loop .inv .2 s l, count-bound (b .loop .p) (λ k. eqb (slotOf (getD (b .before .args .stations .now) k 0)) s))
-
-array-write-r : tie.Need-array-write-r Inv-loop μ-loop
-array-write-r c =
-    let b = c .before .before .before in
-    rw (c .slot .ensures) (slot-bound (getD (b .before .args .stations .now) (b .loop .p) 0))
+    omega (arith, b .loop .inv .2 s (c .slot .ensures .1), count-bound (b .loop .p) (λ k. eqb (slotOf (getD (b .before .args .stations .now) k 0)) s))
 
 loop-again : tie.Need-loop-again Inv-loop μ-loop
 loop-again c =
     let b = c .before .before .before in
     let f : ℕ → ℕ = λ k. slotOf (getD (b .before .args .stations .now) k 0) in
     let l : length (b .loop .r) ≡ 33 = b .loop .inv .1 in
-    let u : f (b .loop .p) < 33 = slot-bound (getD (b .before .args .stations .now) (b .loop .p) 0) in
-    (search needs, simp length-set l, rw (c .slot .ensures) (tally-hit 33 (λ _. true) f (b .loop .r) (b .loop .p) (b .loop .inv .2) refl u (omega arith)))
+    let e = c .slot .ensures .0 in
+    let u : f (b .loop .p) < 33 = rw e at (c .slot .ensures .1) in
+    (search needs, simp length-set l, rw e (tally-hit 33 (λ _. true) f (b .loop .r) (b .loop .p) (b .loop .inv .2) refl u (omega arith)))
 
 returns : tie.Need-returns Inv-loop μ-loop
 returns c = λ i h.
@@ -55,4 +45,5 @@ returns c = λ i h.
 
 pub tally-spec : {M : Type 1} → statement M
 tally-spec = tie.close (tie.spec Inv-loop μ-loop loop-holds (λ c. search needs) (λ c. search needs)
-    (λ c κs. search needs) array-read-r add-r array-write-r (λ c. search needs) (λ c. search needs) loop-again returns)
+    (λ c κs. search needs) (λ c. search needs) add-r (λ c. search needs) (λ c. search needs) (λ c. search needs)
+    loop-again returns)

@@ -7,10 +7,10 @@ use Rattle.well_formed.proofs.tops.Statement.{statement}
 use Rattle.well_formed.proofs.tops.Tie as tie
 
 abbrev Inv-loop : tie.InvT-loop
-Inv-loop high low r₀ p₀ r p = (p ≤ 32) × (r ≡ filled 64 p (λ _. high) low)
+Inv-loop r₀ p₀ r p = (p ≤ 32) × (r ≡ filled 64 p (λ _. 5) 1)
 
 abbrev μ-loop : tie.MeasureT-loop
-μ-loop high low r₀ p₀ r p = 32 - p
+μ-loop r₀ p₀ r p = 32 - p
 
 loop-holds : tie.Need-loop-holds Inv-loop μ-loop
 loop-holds c = (search needs, filled-none 64 _ _)
@@ -19,9 +19,7 @@ loop-again : tie.Need-loop-again Inv-loop μ-loop
 loop-again c = (search needs, rw (c .before .loop .inv .1) (filled-more 64 _ _ (c .before .loop .p) _ (search needs) refl))
 
 returns : tie.Need-returns Inv-loop μ-loop
-returns c =
-    let a = c .before .before .args in
-    c .before .loop .inv .1 ∙ ap (λ k. filled 64 k (λ _. a .high) (a .low)) {x = c .before .loop .p} {y = 32} (omega arith)
+returns c = c .before .loop .inv .1 ∙ ap (λ k. filled 64 k (λ _. 5) 1) {x = c .before .loop .p} {y = 32} (omega arith)
 
 pub tops-spec : {M : Type 1} → statement M
 tops-spec = tie.close (tie.spec Inv-loop μ-loop loop-holds (λ c. search needs) (λ c. search needs) (λ c. search needs)
