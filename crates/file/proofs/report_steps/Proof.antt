@@ -52,7 +52,7 @@ put-requires c κs =
     let y = c .before .before .before in
     let t = y .before .before .before .before .before .before .before .before in
     part-few (t .before .loop .inv .0) (t .loop-test .taken) (y .before .before .from .ensures) (y .report-lines .ensures .0)
-        (y .report-lines .kept .1 .1 .1 .1 .1 .1 .1 .1 .0 ∙ t .before .loop .inv .2)
+    (y .report-lines .kept .1 .1 .1 .1 .1 .1 .1 .1 .0 ∙ t .before .loop .inv .2)
 
 next-requires : tie.Need-next-requires Inv-loop μ-loop
 next-requires c κs =
@@ -65,7 +65,7 @@ loop-less c =
     let y = c .before .before .before .before .before .before .before in
     let t = y .before .before .before .before .before .before .before .before in
     part-less (t .before .loop .inv .0) (t .loop-test .taken) (y .before .before .from .ensures) (y .report-lines .ensures .0)
-        (t .before .loop .inv .2) (c .next .ensures)
+    (t .before .loop .inv .2) (c .next .ensures)
 
 loop-again : tie.Need-loop-again Inv-loop μ-loop
 loop-again c =
