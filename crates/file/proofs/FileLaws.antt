@@ -4,10 +4,10 @@ use mathlib.Core.Logic.{⊎-elim}
 use mathlib.Core.Bool.{cond}
 use mathlib.Core.List as Lists
 use mathlib.Core.List.{[], _++_, append-assoc, append-nil}
-use Prim.Native.Nat.{ℕ, _+_, _*_, _≤_, _<_}
+use Prim.Native.Nat.{ℕ, _+_, _-_, _*_, _≤_, _<_}
 use native.Mathlib.Numerals.{add-one}
 use native.Mathlib.Omega.{arith}
-use lib.ListN.{length, getD, take, drop, set, length-append, length-drop}
+use lib.ListN.{length, getD, take, drop, set, length-append, length-take, length-drop}
 use lib.Seq.{take-at, drop-at, drop-drop, take-suc, take-suc-set}
 use lib.Dec.{leb}
 use borrow.Author.Tests.{le-leb, lt-leb, ne-eqb}
@@ -29,7 +29,7 @@ use Rattle.schedule.proofs.Runs.{final-run, file-refused, file-served, rest-aft
 use Rattle.schedule.specs.declared.Header.the-variants as Headers
 use Rattle.schedule.specs.declared.Header.the-variants.{Stations}
 use Rattle.file.specs.Contracts.{Reports, Follows, ReportsAll, Sizes, ReportsFile}
-use Rattle.file.proofs.ChunkLaws.{reports-within, reports-inside, reports-shown, reports-left, reports-rest, reports-on}
+use Rattle.file.proofs.ChunkLaws.{reports-within, reports-shown, reports-left, reports-rest, reports-on}
 use Rattle.file.specs.declared.Progress.{Progress}
 
 -- 0 is the number of no refusal
@@ -88,15 +88,16 @@ pub record Gathered (s : Session Arrays) (rest out₀ : Lists.List ℕ) (a : Arr
   pub runs : runOf s rest ≡ behind bytes (runOf (session lines refusal a) (drop at rest))
   pub short : written + 928 * pieces (drop at rest) ≤ 928 * pieces rest
 
-pub gathered-start : (a : Arrays) (rest out : Lists.List ℕ) → Gathered (session 1 Accepted a) rest out a 1 Accepted 0 0 out
-gathered-start a rest out = record {
+pub gathered-start : (n : ℕ) {a : Arrays} → a ≡ freshTable lent n → (rest out : Lists.List ℕ)
+    → Gathered (session 1 Accepted (freshTable lent n)) rest out a 1 Accepted 0 0 out
+gathered-start n e rest out = record {
   within = omega arith;
   going = λ _. (refl, omega arith, omega arith);
   bytes = [];
   long = refl;
   same = refl;
   area = λ _. refl;
-  runs = refl;
+  runs = ap (λ x. runOf (session 1 Accepted x) rest) (sym e);
   short = omega arith;
 }
 
@@ -123,8 +124,8 @@ module _ {s : Session Arrays} {rest out₀ : Lists.List ℕ} {a : Arrays} {lines
     pub part-within : at + r .read ≤ length rest
     part-within = omega (arith, f .within, reports-within g, length-drop at rest)
 
-    pub part-few : written + r .written ≤ 928000928 + length buffer′
-    part-few = omega (arith, f .going h, reports-inside g)
+    pub part-few : length buffer′ ≡ 4096 → written + length (take (r .written) buffer′) ≤ 1000000000
+    part-few e = omega (arith, e, f .going h, length-take (r .written) buffer′)
 
     abbrev left : Session Arrays
     left = session (r .lines) (r .refusal) a′
@@ -168,8 +169,9 @@ module _ {s : Session Arrays} {rest out₀ : Lists.List ℕ} {a : Arrays} {lines
           (λ x. turn k (omega (arith, x .1, part-within)) (omega (arith, x .1)) (λ l. absurd (omega (arith, x .1)))
           (final-run lent left _ (x .0) ∙ sym (none-left left rest k (omega (arith, x .1)))))
 
-    pub part-less : 928 ≤ length buffer → {k : ℕ} → Follows at r (length rest) k → at < k
-    part-less m = ⊎-elim (λ x. omega (arith, x .1, reports-on g (rw length-drop (omega arith)) m (x .0))) (λ x. omega (arith, x .1))
+    pub part-less : length buffer ≡ 4096 → {k : ℕ} → Follows at r (length rest) k → length rest - k < length rest - at
+    part-less e = ⊎-elim (λ x. omega (arith, x .1, part-within, reports-on g (rw length-drop (omega arith)) (omega (arith, e)) (x .0)))
+        (λ x. omega (arith, x .1))
 
 -- THE WHOLE FILE
 

@@ -149,11 +149,11 @@ module _ {a : Arrays} {order : Lists.List ℕ} (f : Runnable a order) where
         isOrder = e;
       }
 
-      pub line-fits : length buffer′ ≡ length buffer → {k : ℕ} → k ≡ length (printed (q .line) (refusalNumber (r .refusal)) [])
+      pub line-fits : length buffer′ ≡ length buffer → (number : ℕ) {k : ℕ} → k ≡ length (printed number (refusalNumber (r .refusal)) [])
           → r .written + k ≤ length buffer + 29
-      line-fits h e =
+      line-fits h number e =
           let few = over-short (doneOf a x .bytes) buffer buffer′ (g .report) h in
-          omega (arith, few, e, printed-refusal (q .line) (refusalNumber (r .refusal)), g .count)
+          omega (arith, few, e, printed-refusal number (refusalNumber (r .refusal)), g .count)
 
       -- what the line prints: its report, or one line with its refusal
       pub line-prints : {k : ℕ} {buffer″ : Lists.List ℕ} → let told = printed (q .line) (refusalNumber (r .refusal)) [] in

@@ -36,7 +36,7 @@ loop-holds : tie.Need-loop-holds Inv-loop μ-loop
 loop-holds c =
     let s = c .before .before .before .before .before .before .before .before .before in
     let fresh = c .before .before .refresh .ensures in
-    (rw (← fresh) (gathered-start _ _ _), fresh-runnable (s .args .n) (s .pre .0) (s .pre .1) fresh (c .order .ensures), search needs)
+    (gathered-start (s .args .n) fresh _ _, fresh-runnable (s .args .n) (s .pre .0) (s .pre .1) fresh (c .order .ensures), search needs)
 
 report-lines-requires : tie.Need-report-lines-requires Inv-loop μ-loop
 report-lines-requires c κs = c .before .before .before .before .before .before .before .before .loop .inv .1
@@ -51,8 +51,8 @@ put-requires : tie.Need-put-requires Inv-loop μ-loop
 put-requires c κs =
     let y = c .before .before .before in
     let t = y .before .before .before .before .before .before .before .before in
-    let few = part-few (t .before .loop .inv .0) (t .loop-test .taken) (y .before .before .from .ensures) (y .report-lines .ensures .0) in
-    simp length-take (omega (arith, few, y .report-lines .kept .1 .1 .1 .1 .1 .1 .1 .1 .0, t .before .loop .inv .2))
+    part-few (t .before .loop .inv .0) (t .loop-test .taken) (y .before .before .from .ensures) (y .report-lines .ensures .0)
+    (y .report-lines .kept .1 .1 .1 .1 .1 .1 .1 .1 .0 ∙ t .before .loop .inv .2)
 
 next-requires : tie.Need-next-requires Inv-loop μ-loop
 next-requires c κs =
@@ -64,9 +64,8 @@ loop-less : tie.Need-loop-less Inv-loop μ-loop
 loop-less c =
     let y = c .before .before .before .before .before .before .before in
     let t = y .before .before .before .before .before .before .before .before in
-    let less = part-less (t .before .loop .inv .0) (t .loop-test .taken) (y .before .before .from .ensures) (y .report-lines .ensures .0)
-    (omega (arith, t .before .loop .inv .2)) (c .next .ensures) in
-    omega (arith, less)
+    part-less (t .before .loop .inv .0) (t .loop-test .taken) (y .before .before .from .ensures) (y .report-lines .ensures .0)
+    (t .before .loop .inv .2) (c .next .ensures)
 
 loop-again : tie.Need-loop-again Inv-loop μ-loop
 loop-again c =

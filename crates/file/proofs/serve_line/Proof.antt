@@ -25,7 +25,7 @@ add-result c =
     let x = y .before .before .before .before .before .before .before in
     let s = x .before .before .before .before in
     let same = y .carry-out .kept .1 .1 .1 .1 .1 .1 .1 .0 in
-    omega (arith, line-fits (s .pre .0) (x .judge .ensures) (y .carry-out .ensures) same (c .before .before .before .print-refusal .ensures .0), s .pre .1)
+    omega (arith, line-fits (s .pre .0) (x .judge .ensures) (y .carry-out .ensures) same _ (c .before .before .before .print-refusal .ensures .0), s .pre .1)
 
 returns : tie.Need-returns
 returns c =
