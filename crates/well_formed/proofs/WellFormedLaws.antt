@@ -22,11 +22,6 @@ use Rattle.arrays.specs.Arrays.{Arrays, Planes, Rows, cell, resultRows, labelRo
 use Rattle.arrays.proofs.Fresh.{fresh-rows}
 use Rattle.arrays.specs.WellFormed.{resultFits, resultFresh, stationFits, placeFresh, wellFormed}
 
--- a flag that one test more is joined to
-pub flag-more : (k : ℕ) (f : ℕ → Bool) {r t : Bool} → r ≡ every k f → t ≡ f k → (r && t) ≡ every (k + 1) f
-unfolding every
-flag-more k f p q = rw (add-one k) (ap₂ _&&_ p q)
-
 -- LABELS
 
 -- a digit d from 1 to t, by s, which is d less 1, and the greatest byte for 0

@@ -4,9 +4,9 @@ use mathlib.Core.Path.{_≡_, ap, ap₂, _∙_}
 use mathlib.Core.Bool.{_&&_}
 use lib.ListN.{getD}
 use Rattle.basics.specs.Tests.{within, every}
-use Rattle.basics.proofs.Loops.{flag-up, flag-end}
+use Rattle.basics.proofs.Loops.{flag-up, flag-end, flag-more}
 use Rattle.well_formed.specs.Loops.{fitsAt}
-use Rattle.well_formed.proofs.WellFormedLaws.{flag-more, top-at}
+use Rattle.well_formed.proofs.WellFormedLaws.{top-at}
 use borrow.Author.Needs.{needs}
 use Rattle.well_formed.proofs.half_fits.Statement.{statement}
 use Rattle.well_formed.proofs.half_fits.Tie as tie
