@@ -3,15 +3,14 @@ use mathlib.Core.Path.{_≡_, refl, sym, ap, subst, _∙_}
 use mathlib.Core.Logic.{⊎-elim}
 use mathlib.Core.Bool.{cond}
 use mathlib.Core.List as Lists
-use mathlib.Core.List.{[], _++_, append-assoc, append-nil}
-use Prim.Native.Nat.{ℕ, _+_, _-_, _*_, _≤_, _<_}
+use mathlib.Core.List.{[], _∷_, _++_, append-assoc, append-nil}
+use Prim.Native.Nat.{ℕ, suc, _+_, _-_, _*_, _≤_, _<_}
 use native.Mathlib.Numerals.{add-one}
 use native.Mathlib.Omega.{arith}
-use lib.ListN.{length, getD, take, drop, set, length-append, length-take, length-drop}
-use lib.Seq.{take-at, drop-at, drop-drop, take-suc, take-suc-set}
+use lib.ListN.{length, getD, take, drop, set, length-append, length-take, length-drop, take-append-drop}
+use lib.Seq.{take-at, drop-at, drop-drop, take-suc, drop-cons, set-at, length-take-le}
 use lib.Dec.{leb}
 use borrow.Author.Tests.{le-leb, lt-leb, ne-eqb}
-use borrow.Rule.Slice.PartMut.{putMid}
 use Rattle.columns.proofs.ColumnLaws.{length-report-line}
 use Rattle.transition.specs.Forms.{over, freshTable}
 use Rattle.moves.specs.Moves.{refusalNumber}
@@ -52,16 +51,28 @@ accepted Refusals.IllFormedTable e = absurd (omega arith)
 -- BYTES
 
 -- one byte more is copied
-pub copied-more : (out bytes : Lists.List ℕ) (i : ℕ) → length out ≡ length bytes → i < length bytes → take i out ≡ take i bytes
-    → take (i + 1) (set out i (getD bytes i 0)) ≡ take (i + 1) bytes
-copied-more out bytes i l h e = rw (add-one i, take-suc-set out i (getD bytes i 0) (omega arith), take-suc bytes i 0 (omega arith), e) refl
+over-more : (x l : Lists.List ℕ) (v : ℕ) {n : ℕ} → length x ≡ n → n < length l → set (over x l) n v ≡ over (x ++ (v ∷ [])) l
+over-more x l v {n} e h =
+    ap (λ y. set (x ++ y) n v) (drop-cons l (length x) 0 (omega arith)) ∙ set-at x (getD l (length x) 0) (drop (suc (length x)) l) v n e
+    ∙ sym (rw (length-append x (v ∷ []), add-one (length x)) (append-assoc x (v ∷ []) (drop (suc (length x)) l)))
+
+pub copied-start : (out bytes : Lists.List ℕ) (at : ℕ) → at ≤ length out → out ≡ over (take at out ++ take 0 bytes) out
+copied-start out bytes at h = sym (rw (append-nil, length-take-le at out h) (take-append-drop at out))
+
+pub copied-more : (out bytes : Lists.List ℕ) (at i : ℕ) → at + length bytes ≤ length out → i < length bytes
+    → set (over (take at out ++ take i bytes) out) (at + i) (getD bytes i 0) ≡ over (take at out ++ take (i + 1) bytes) out
+copied-more out bytes at i l h =
+    over-more (take at out ++ take i bytes) out (getD bytes i 0) (simp (length-append, length-take) (omega arith)) (omega arith)
+    ∙ ap (λ x. over x out) (append-assoc (take at out) (take i bytes) _ ∙ ap (λ x. take at out ++ x) (rw add-one (sym (take-suc bytes i 0 h))))
 
 -- bytes put in behind others
 put-behind : (bytes x buffer : Lists.List ℕ) {out : Lists.List ℕ} {at : ℕ} → out ≡ over bytes buffer → at ≡ length bytes
-    → putMid at (length x) out x ≡ over (bytes ++ x) buffer
+    → over (take at out ++ x) out ≡ over (bytes ++ x) buffer
 put-behind bytes x buffer e l =
-    rw (e, l, take-at bytes (drop (length bytes) buffer) (length bytes) refl, drop-at bytes (drop (length bytes) buffer) (length bytes) refl)
-    (rw (drop-drop (length x) (length bytes) buffer, length-append bytes x) (sym (append-assoc bytes x (drop (length bytes + length x) buffer))))
+    let rest = drop (length bytes) buffer in
+    rw (e, l, take-at bytes rest (length bytes) refl, length-append bytes x) (ap (λ y. (bytes ++ x) ++ y)
+    (sym (drop-drop (length x) (length bytes) (bytes ++ rest)) ∙ ap (drop (length x)) (drop-at bytes rest (length bytes) refl)
+    ∙ drop-drop (length x) (length bytes) buffer))
 
 behind-twice : {T : Type 0} (a b : Lists.List ℕ) (o : Served T) → behind a (behind b o) ≡ behind (a ++ b) o
 behind-twice a b o = ap (λ x. record { session = o .session; refusal = o .refusal; bytes = x }) (sym (append-assoc a b (o .bytes)))
@@ -137,7 +148,7 @@ module _ {s : Session Arrays} {rest out₀ : Lists.List ℕ} {a : Arrays} {lines
 
     -- its bytes stand behind those so far, if they fit
     module _ {w : ℕ} {out′ : Lists.List ℕ} (put : let x = take (r .written) buffer′ in
-        (w ≡ written + length x) × (w ≤ length out → out′ ≡ putMid written (length x) out x)) (q : length out′ ≡ length out) where
+        (w ≡ written + length x) × (w ≤ length out → out′ ≡ over (take written out ++ x) out)) (q : length out′ ≡ length out) where
       turn : (k : ℕ) → at + r .read ≤ k → k ≤ length rest → (k < length rest → refusalNumber (r .refusal) ≡ 0)
           → runOf left (drop (at + r .read) rest) ≡ runOf left (drop k rest) → Gathered s rest out₀ a′ (r .lines) (r .refusal) w k out′
       turn k low high goes e =

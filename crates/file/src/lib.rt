@@ -1,10 +1,9 @@
 // Schedule files on the engine: the lines of a part of a file, and a whole file with its report.
 ghost use mathlib.Core.Path.{_≡_};
 ghost use mathlib.Core.Logic.{_≢_};
-ghost use mathlib.Core.List.{[]};
+ghost use mathlib.Core.List.{[], _++_};
 ghost use Prim.Native.Nat.{_+_, _≤_, _<_};
 ghost use lib.ListN.{length, take, drop};
-ghost use borrow.Rule.Slice.PartMut.{putMid};
 ghost use Rattle.rows.specs.Held.{Orderly, OrderedBefore};
 ghost use Rattle.transition.specs.Forms.{over, freshTable};
 ghost use Rattle.moves.specs.Moves.{refusalNumber};
@@ -190,29 +189,21 @@ pub fn report_lines(
     }
 }
 
-// Copies bytes to as many others.
-fn copy(bytes: &[u8], out: &mut [u8])
-    requires { ⌜ length (now out) ≡ length (now bytes) ⌝ }
-    ensures { λ _. ⌜ now (out .exit) ≡ now (bytes .entry) ⌝ }
-{
-    let mut i = 0;
-    while i < bytes.len() {
-        out[i] = bytes[i];
-        i += 1;
-    }
-}
-
 // Writes bytes to `out` from a place on, if they fit; hands back the place behind them.
 fn put(bytes: &[u8], out: &mut [u8], at: usize) -> usize
     requires { ⌜ at + length (now bytes) ≤ 1000000000 ⌝ }
     ensures { λ r. ⌜ r ≡ at + length (now (bytes .entry)) ⌝ }
-    ensures { λ r. ⌜ (r ≤ length (now (out .entry)) → now (out .exit) ≡ putMid at (length (now (bytes .entry))) (now (out .entry)) (now (bytes .entry))) ⌝ }
+    ensures { λ r. ⌜ (r ≤ length (now (out .entry)) → now (out .exit) ≡ over (take at (now (out .entry)) ++ now (bytes .entry)) (now (out .entry))) ⌝ }
 {
     let end = at + bytes.len();
     if out.len() < end {
         return end;
     }
-    copy(bytes, &mut out[at..end]);
+    let mut i = 0;
+    while i < bytes.len() {
+        out[at + i] = bytes[i];
+        i += 1;
+    }
     end
 }
 
