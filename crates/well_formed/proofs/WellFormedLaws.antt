@@ -6,12 +6,12 @@ use native.Mathlib.Omega.{arith}
 use native.Mathlib.Decide.{decLt}
 use mathlib.Core.Path.{_≡_, refl, sym, ap, ap₂, _∙_}
 use mathlib.Core.Logic.{by-cases}
-use mathlib.Core.Bool.{Bool, true, false, _&&_, cond}
-use mathlib.Core.List.{List, [], _∷_}
-use lib.ListN.{length, getD, replicate, getD-replicate}
+use mathlib.Core.Bool.{Bool, false, _&&_, cond}
+use mathlib.Core.List.{List, []}
+use lib.ListN.{length, getD}
 use lib.Dec.{eqb, leb, ltb}
 use borrow.Author.Tests.{eqb-true, eq-eqb, ne-eqb, leb-true, le-leb, lt-leb, ltb-true, lt-ltb, le-ltb}
-use Rattle.basics.specs.Tests.{within, every, count, tabulate}
+use Rattle.basics.specs.Tests.{within, every, count}
 use Rattle.basics.proofs.Facts.{and-both, both, left-no, within-true, within-of, every-all, every-at, every-same, getD-tabulate, getD-any}
 use Rattle.basics.proofs.Loops.{same-test, every-and}
 use Rattle.basics.proofs.Counts.{count-same}
