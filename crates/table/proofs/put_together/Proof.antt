@@ -22,7 +22,9 @@ loop-holds : tie.Need-loop-holds Inv-loop μ-loop
 loop-holds c = (search needs, rw (c .station-at .ensures (c .before .args .n)) (filled-none 32 _ _))
 
 loop-again : tie.Need-loop-again Inv-loop μ-loop
-loop-again c = let l = c .before .before .loop in (search needs, rw (l .inv .1) (filled-more 32 _ _ (l .i) _ (search needs) (c .station-at2 .ensures (c .before .before .before .before .args .n))))
+loop-again c =
+    let l = c .before .before in
+    (search needs, rw (l .loop .inv .1) (filled-more 32 _ _ (l .loop .i) _ (search needs) (c .station-at2 .ensures (l .before .before .args .n))))
 
 returns : tie.Need-returns Inv-loop μ-loop
 unfolding together

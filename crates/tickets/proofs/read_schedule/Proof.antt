@@ -25,7 +25,9 @@ bufAfter x = let l = x .before .before .before .loop in putMid (l .count) (lengt
 
 -- a read leaves the buffer's length
 kept : (x : tie.After-read Inv-loop μ-loop) → length (bufAfter x) ≡ length (x .before .before .before .before .before .args .buf .now)
-kept x = let l = x .before .before .before .loop in same-len-mid (l .count) (length (l .buf) - l .count) (l .buf) (x .read .last .1 .0) (x .read .kept .1 .0) ∙ l .inv .0
+kept x =
+    let l = x .before .before .before .loop in
+    same-len-mid (l .count) (length (l .buf) - l .count) (l .buf) (x .read .last .1 .0) (x .read .kept .1 .0) ∙ l .inv .0
 
 same-length : tie.Need-same-length Inv-loop μ-loop
 same-length c = kept (c .before .before .before .before .before)
@@ -46,10 +48,13 @@ same-length-2 : tie.Need-same-length-2 Inv-loop μ-loop
 same-length-2 c = kept (c .before .before .before .before .before .before .before)
 
 returns-2 : tie.Need-returns-2 Inv-loop μ-loop
-returns-2 c = let same = kept (c .before .before .before .before .before .before .before) in (omega (arith, same), sym (length-take-le _ _ (omega (arith, same))))
+returns-2 c =
+    let same = kept (c .before .before .before .before .before .before .before) in
+    (omega (arith, same), sym (length-take-le _ _ (omega (arith, same))))
 
 -- what was read lies within the buffer
-inside : (y : tie.After-count Inv-loop μ-loop) → let x = y .before .before .before .before .before .before in x .before .before .before .loop .count + y .count .result ≤ length (x .before .before .before .before .before .args .buf .now)
+inside : (y : tie.After-count Inv-loop μ-loop) → let l = y .before .before .before .before .before .before .before .before .before in
+    l .loop .count + y .count .result ≤ length (l .before .before .args .buf .now)
 inside y =
     let x = y .before .before .before .before .before .before in
     let l = x .before .before .before .loop in

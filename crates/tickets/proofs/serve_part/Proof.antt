@@ -35,20 +35,25 @@ slice-reshare-prefix-write-report c = reports-inside (c .before .before .report-
 slice-aggregate-write-report : tie.Need-slice-aggregate-write-report Inv-loop μ-loop
 slice-aggregate-write-report c = sym (length-take-le _ _ (reports-inside (c .before .before .before .report-lines .ensures .0)))
 
+-- where the loop stood when some lines were served
+abbrev turn : tie.After-report-lines Inv-loop μ-loop → tie.At-loop Inv-loop μ-loop
+turn y = y .before .before .before .before .before .before .before .before .before
+
 -- after lines that end in no final refusal: where to go on, and how many are counted
 onward : (y : tie.After-report-lines Inv-loop μ-loop) → refusalNumber (y .report-lines .result .refusal) ≡ 0
-    → let r = y .report-lines .result in let l = y .before .before .before .before .before .before .before .before .before .loop in let a = y .before .before .before .before .before .before .before .before .before .before .before .before .args in
+    → let r = y .report-lines .result in let l = turn y .loop in let a = turn y .before .before .before .args in
     (0 < r .read) × (l .at + r .read ≤ length (a .chunk .now)) × (r .lines + ahead (a .chunk .now) (l .at + r .read) ≡ a .lines + pieces (a .chunk .now))
     × (r .lines ≤ 1000001)
 onward y z =
-    let l = y .before .before .before .before .before .before .before .before .before .loop in
-    let s = y .before .before .before .before .before .before .before .before .before .before .before .before in
+    let l = turn y .loop in
+    let s = turn y .before .before .before in
     part-on (y .report-lines .ensures .0) (s .args .chunk .now) (l .at) _ (y .before .before .before .before .before .before .before .before .loop-test .taken)
     (simp (length-take, length-drop) (omega arith)) (l .inv .3) (l .inv .4) (omega (arith, l .inv .1, s .pre .1 .1)) z
 
 -- the output buffer keeps its length
-kept : (y : tie.After-report-lines Inv-loop μ-loop) → length (y .report-lines .last .1 .1 .1 .1 .1 .1 .1 .1 .0) ≡ length (y .before .before .before .before .before .before .before .before .before .before .before .before .args .out .now)
-kept y = y .report-lines .kept .1 .1 .1 .1 .1 .1 .1 .1 .0 ∙ y .before .before .before .before .before .before .before .before .before .loop .inv .1
+kept : (y : tie.After-report-lines Inv-loop μ-loop)
+    → length (y .report-lines .last .1 .1 .1 .1 .1 .1 .1 .1 .0) ≡ length (turn y .before .before .before .args .out .now)
+kept y = y .report-lines .kept .1 .1 .1 .1 .1 .1 .1 .1 .0 ∙ turn y .loop .inv .1
 
 same-length : tie.Need-same-length Inv-loop μ-loop
 same-length c = kept (c .before .before .before .before .before)
@@ -65,10 +70,13 @@ returns-2 c = (c .before .before .before .before .before .before .before .report
 add-at : tie.Need-add-at Inv-loop μ-loop
 add-at c =
     let y = c .before .before .before .before .before .before .before .before in
-    omega (arith, onward y (sym (c .before .before .number .ensures) ∙ c .before .if2 .left), y .before .before .before .before .before .before .before .before .before .before .before .before .good .1 .1 .1 .1 .1 .1 .1 .0 .0)
+    let s = turn y .before .before .before in
+    omega (arith, onward y (sym (c .before .before .number .ensures) ∙ c .before .if2 .left), s .good .1 .1 .1 .1 .1 .1 .1 .0 .0)
 
 loop-less : tie.Need-loop-less Inv-loop μ-loop
-loop-less c = omega (arith, onward (c .before .before .before .before .before .before .before .before) (sym (c .before .before .number .ensures) ∙ c .before .if2 .left))
+loop-less c =
+    let y = c .before .before .before .before .before .before .before .before in
+    omega (arith, onward y (sym (c .before .before .number .ensures) ∙ c .before .if2 .left))
 
 loop-again : tie.Need-loop-again Inv-loop μ-loop
 loop-again c =
