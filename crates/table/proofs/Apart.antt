@@ -4,7 +4,7 @@ use Prim.Native.Nat.{ℕ, zero, suc, _≤_, _<_}
 use native.Mathlib.Nat.{zero-add}
 use native.Mathlib.Omega.{arith}
 use mathlib.Core.Path.{_≡_, refl, sym, ap, ap₂, subst, _∙_}
-use mathlib.Core.Bool.{true}
+use mathlib.Core.Bool.{Bool, true, false, cond}
 use mathlib.Core.List as Lists
 use mathlib.Core.List.{[], _∷_}
 use lib.ListN.{length, getD}
@@ -22,7 +22,7 @@ use Rattle.moves.specs.declared.Operation.{Operation}
 use Rattle.moves.specs.declared.Operation.the-variants.{Label, Scan}
 use Rattle.moves.specs.declared.Phase.{Phase}
 use Rattle.moves.specs.declared.Phase.the-variants.{Idle, Snap, Update, End}
-use Rattle.arrays.specs.Arrays.{Rows, Arrays, arrays, cell, phaseNumber, phaseFor, resultRows, stateOf, arraysOf}
+use Rattle.arrays.specs.Arrays.{Rows, Arrays, arrays, cell, planes, phaseNumber, phaseFor, jobsOf, stateOf, arraysOf}
 use Rattle.arrays.specs.WellFormed.{wellFormed}
 use Rattle.arrays.specs.Sizes.{Sized, Shaped}
 use Rattle.arrays.proofs.States.{tabulate-is, two-lists, one-list, phase-back, phase-low, number-back, lent-lawful, written-held}
@@ -48,9 +48,29 @@ planes-sized f g = record { long = refl; each = each }
     each (suc zero) h = length-tabulate 32 0 g
     each (suc (suc i)) h = absurd (omega arith)
 
--- 32 rows of a width
-rows-sized : (w : ℕ) (f : ℕ → Lists.List ℕ) → ((i : ℕ) → i < 32 → length (f i) ≡ w) → Sized 32 w (tabulate 32 0 f)
-rows-sized w f e = record { long = length-tabulate 32 0 f; each = λ i l. ap length (element f [] i l) ∙ e i l }
+-- arrays that are made place by place have the lengths of their types
+module _ (n : ℕ) (l : Bool → ℕ → Lists.List ℕ) (j : Bool → ℕ → ℕ) (p : ℕ → ℕ) (r : ℕ → Bool → ℕ → ℕ) (wide : (x : Bool) (i : ℕ) → i < 32 → length (l x i) ≡ 31) where
+  made-shaped : Shaped (arrays n (planes l) (planes j) (tabulate 32 0 p ∷ []) (tabulate 32 0 (λ i. planes (r i))))
+  made-shaped = record {
+    labels = planes-sized _ _;
+    label = each;
+    jobs = planes-sized _ _;
+    control = record { long = refl; each = one };
+    results = record { long = length-tabulate 32 0 _; each = λ i h. ap length (element (λ k. planes (r k)) [] i h) };
+    result = λ i h. subst (Sized 2 32) (sym (element (λ k. planes (r k)) [] i h)) (planes-sized _ _);
+  }
+    where
+      rows : (x : Bool) → Sized 32 31 (tabulate 32 0 (l x))
+      rows x = record { long = length-tabulate 32 0 (l x); each = λ i h. ap length (element (l x) [] i h) ∙ wide x i h }
+
+      each : (f : ℕ) → f < 2 → Sized 32 31 (getD (planes l) f [])
+      each zero h = rows false
+      each (suc zero) h = rows true
+      each (suc (suc i)) h = absurd (omega arith)
+
+      one : (i : ℕ) → i < 1 → length (getD (tabulate 32 0 p ∷ []) i []) ≡ 32
+      one zero h = length-tabulate 32 0 _
+      one (suc i) h = absurd (omega arith)
 
 -- PHASES
 
@@ -129,26 +149,8 @@ module _ (a : Arrays) (g : Shaped a) (known : (i : ℕ) → i < 32 → cell (a .
 module _ (n : ℕ) (s : State Labels.Label) where
   written-shaped : Shaped (arraysOf n s)
   unfolding arraysOf row
-  written-shaped = record {
-    labels = planes-sized _ _;
-    label = each;
-    jobs = planes-sized _ _;
-    control = record { long = refl; each = one };
-    results = record { long = length-tabulate 32 0 _; each = λ i l. ap length (element rows [] i l) };
-    result = λ i l. subst (Sized 2 32) (sym (element rows [] i l)) (planes-sized _ _);
-  }
-    where
-      rows : ℕ → Rows
-      rows i = resultRows (s .rest .result i)
-
-      each : (f : ℕ) → f < 2 → Sized 32 31 (getD (arraysOf n s .labels) f [])
-      each zero h = rows-sized 31 _ (λ i l. length-tabulate 31 0 _)
-      each (suc zero) h = rows-sized 31 _ (λ i l. length-tabulate 31 0 _)
-      each (suc (suc i)) h = absurd (omega arith)
-
-      one : (i : ℕ) → i < 1 → length (getD (arraysOf n s .control) i []) ≡ 32
-      one zero h = length-tabulate 32 0 _
-      one (suc i) h = absurd (omega arith)
+  written-shaped = made-shaped n (λ x i. row 31 (s .labels x i)) (jobsOf s) _
+      (λ i y q. let e = getD (s .rest .result i) q (Calls.entry 0 0) in cond y (e .job) (e .station)) (λ x i h. length-tabulate 31 0 _)
 
   written-known : (i : ℕ) → i < 32 → cell (arraysOf n s .control) 0 i 0 ≤ 5
   unfolding arraysOf
@@ -198,26 +200,12 @@ module _ (t : Table) (w : Whole t) where
 
   pub apart-shaped : Shaped (apart t)
   unfolding apart
-  apart-shaped = record {
-    labels = planes-sized _ _;
-    label = each;
-    jobs = planes-sized _ _;
-    control = record { long = refl; each = one };
-    results = record { long = length-tabulate 32 0 _; each = λ i l. ap length (element rows [] i l) };
-    result = λ i l. subst (Sized 2 32) (sym (element rows [] i l)) (planes-sized _ _);
-  }
+  apart-shaped = made-shaped (t .count) (λ x i. cond x (at t i .«pending_label») (at t i .label)) (λ x i. cond x (at t i .«pending_job») (at t i .job)) _
+      (λ i y q. let e = getD (at t i .«scan_result») q blank in cond y (e .job) (e .station)) wide
     where
-      rows : ℕ → Rows
-      rows i = rowsOf (at t i .«scan_result»)
-
-      each : (f : ℕ) → f < 2 → Sized 32 31 (getD (apart t .labels) f [])
-      each zero h = rows-sized 31 _ (λ i l. w .each i l .label)
-      each (suc zero) h = rows-sized 31 _ (λ i l. w .each i l .pending)
-      each (suc (suc i)) h = absurd (omega arith)
-
-      one : (i : ℕ) → i < 1 → length (getD (apart t .control) i []) ≡ 32
-      one zero h = length-tabulate 32 0 _
-      one (suc i) h = absurd (omega arith)
+      wide : (x : Bool) (i : ℕ) → i < 32 → length (cond x (at t i .«pending_label») (at t i .label)) ≡ 31
+      wide false i h = w .each i h .label
+      wide true i h = w .each i h .pending
 
   -- so a well-formed table is that of the state that it holds
   pub declared-written : wellFormed (apart t) ≡ true → together (arraysOf (t .count) (stateOf (apart t))) ≡ t
