@@ -20,7 +20,7 @@ use Rattle.label.specs.Rows.{digit, row, rowFits, noRing}
 use Rattle.label.proofs.RowLaws.{digit-row, row-digit, label-fits, fits-behind}
 use Rattle.simulation.specs.Calls.{Call, Phase, Idle, Snap, Update, End, Label, Scan, Entry, entry, Process}
 use Rattle.simulation.specs.Machine.{original, digits, freshRest, State, step}
-use Rattle.transition.specs.Forms.{Answer, stepOf}
+use Rattle.transition.specs.Forms.{TableAnswer, stepOf}
 use Rattle.transition.proofs.Written.{Unused, Writable, writable-step}
 use Rattle.transition.proofs.Reached.{Reached, choice-ring-free}
 use Rattle.transition.proofs.Theorem.{Lawful, step-written}
@@ -346,5 +346,5 @@ module _ (a : Arrays) (g : Shaped a) (e : wellFormed a ≡ true) where
 
   -- so a step leaves arrays that hold the state which the machine leaves, from any well-formed table, reached or not
   pub step-held : (c : Call) → let n = a .count in stateOf (stepOf lent a c .table) ≡ step original n (digits n) (stateOf a) c .state
-  step-held c = ap (λ (x : Answer Arrays). stateOf (x .table)) (step-written lent a c e)
+  step-held c = ap (λ (x : TableAnswer Arrays). stateOf (x .table)) (step-written lent a c e)
       ∙ held-written (a .count) high _ (writable-step (a .count) high (stateOf a) held-writable c (newest-station a e))

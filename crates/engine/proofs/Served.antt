@@ -14,7 +14,7 @@ use Rattle.simulation.specs.Calls as Calls
 use Rattle.simulation.specs.Calls.{Call, place, judgeIn, judge}
 use Rattle.simulation.specs.Machine.{step}
 use Rattle.simulation.proofs.Judged.{Verdict, turned, begins, updates, snaps, ends, judge-unknown-station, verdict}
-use Rattle.transition.specs.Forms.{Answer, refuse, over, answered, stepOf}
+use Rattle.transition.specs.Forms.{TableAnswer, refuse, over, answered, stepOf}
 use Rattle.transition.specs.Sequences.{Steps}
 use Rattle.transition.proofs.Theorem.{step-written}
 use Rattle.moves.specs.Moves.{refusalNumber, moveOf}
@@ -98,10 +98,10 @@ module _ (a : Arrays) (ok : wellFormed a ≡ true) (q : Request) (room top : ℕ
       let s : answered lent (a .count) (doneOf a x) ≡ stepOf lent a c
       = (λ y. answered lent (a .count) (answerTo a (j .line y) (judged y))) ∙ sym (step-written lent a c ok) in
       record {
-        table = f .table ∙ ap (λ (u : Answer Arrays). u .table) s;
-        number = f .number ∙ ap (λ (u : Answer Arrays). u .refusal) s;
-        count = f .count ∙ ap (λ (u : Answer Arrays). length (u .bytes)) s;
-        report = f .report ∙ ap (λ (u : Answer Arrays). over (u .bytes) buffer) s;
+        table = f .table ∙ ap (λ (u : TableAnswer Arrays). u .table) s;
+        number = f .number ∙ ap (λ (u : TableAnswer Arrays). u .refusal) s;
+        count = f .count ∙ ap (λ (u : TableAnswer Arrays). length (u .bytes)) s;
+        report = f .report ∙ ap (λ (u : TableAnswer Arrays). over (u .bytes) buffer) s;
       }
 
 -- 13: nothing changes
@@ -109,10 +109,10 @@ pub ill-formed : (a : Arrays) (c : Call) (buffer : Lists.List ℕ) → wellForme
 ill-formed a c buffer e =
     let s : stepOf lent a c ≡ refuse a 13 = unfold stepOf in rw (e, stepOf) refl in
     record {
-      table = sym (ap (λ (u : Answer Arrays). u .table) s);
-      number = sym (ap (λ (u : Answer Arrays). u .refusal) s);
-      count = sym (ap (λ (u : Answer Arrays). length (u .bytes)) s);
-      report = sym (ap (λ (u : Answer Arrays). over (u .bytes) buffer) s);
+      table = sym (ap (λ (u : TableAnswer Arrays). u .table) s);
+      number = sym (ap (λ (u : TableAnswer Arrays). u .refusal) s);
+      count = sym (ap (λ (u : TableAnswer Arrays). length (u .bytes)) s);
+      report = sym (ap (λ (u : TableAnswer Arrays). over (u .bytes) buffer) s);
     }
 
 -- the order that a scan is given has stations in it

@@ -6,7 +6,7 @@ use mathlib.Core.Bool.{true, false}
 use mathlib.Core.List as Lists
 use Rattle.basics.specs.Tests.{within}
 use Rattle.simulation.specs.Calls.{Call}
-use Rattle.transition.specs.Forms.{Answer, freshTable}
+use Rattle.transition.specs.Forms.{TableAnswer, freshTable}
 use Rattle.transition.specs.Sequences.{Steps}
 use Rattle.transition.proofs.Theorem.{step-kept}
 use Rattle.arrays.specs.Arrays.{Arrays}
@@ -23,4 +23,4 @@ not-started n a e = record { refusal = rw e refl; table = rw e refl }
 
 pub kept : {a a′ : Arrays} {c : Call} {buffer buffer′ : Lists.List ℕ} {refusal written : ℕ} → Shaped a → Steps lent a c buffer a′ refusal written buffer′
     → refusal ≢ 0 → a′ ≡ a
-kept {a} {c = c} g s d = s .table ∙ ap (λ (x : Answer Arrays). x .table) (step-kept lent a (written-held a g) c (λ z. d (s .number ∙ z)))
+kept {a} {c = c} g s d = s .table ∙ ap (λ (x : TableAnswer Arrays). x .table) (step-kept lent a (written-held a g) c (λ z. d (s .number ∙ z)))

@@ -10,7 +10,7 @@ use Rattle.basics.specs.Tests.{All}
 use Rattle.simulation.specs.Calls.{Call}
 use Rattle.simulation.specs.Machine as Machine
 use Rattle.simulation.specs.Machine.{Seen}
-use Rattle.transition.specs.Forms.{Form, Answer, over, freshTable}
+use Rattle.transition.specs.Forms.{Form, TableAnswer, over, freshTable}
 use Rattle.transition.specs.Demand.{run, seen, unbounded, Demand3}
 use Rattle.moves.specs.Moves.{refusalNumber, called}
 use Rattle.moves.specs.declared.Refusal.{Refusal}
@@ -82,7 +82,7 @@ module _ {T : Type 0} where
   later xs = drop (length (sessionCalls xs)) xs
 
   -- what the caller sees of a step line: the table, the refusal number, and the bytes that are counted
-  abbrev pub replied : ServedLine T → Answer T
+  abbrev pub replied : ServedLine T → TableAnswer T
   replied x = record { table = x .session .table; refusal = x .refusal; bytes = take (x .written) (x .buffer′) }
 
   -- the session that the calls leave

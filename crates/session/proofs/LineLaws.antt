@@ -8,7 +8,7 @@ use mathlib.Core.List as Lists
 use mathlib.Core.List.{[]}
 use borrow.Author.Tests.{lt-ltb}
 use Rattle.simulation.specs.Calls.{Call}
-use Rattle.transition.specs.Forms.{Form, Answer, refuse, stepOf}
+use Rattle.transition.specs.Forms.{Form, TableAnswer, refuse, stepOf}
 use Rattle.moves.specs.Moves.{refusalNumber, called}
 use Rattle.moves.specs.declared.Refusal.{Refusal}
 use Rattle.schedule.specs.Lines.{nextLine}
@@ -37,4 +37,5 @@ module _ (F : Form) (s : Session (F .Table)) (line : Lists.List ℕ) (room : ℕ
           serve-ill-formed F s line room none w
           ∙ ap (λ b. record { session = session (cond b (s .lines + 1) (s .lines)) (s .refusal) (s .table); refusal = 13; bytes = [] })
           (lt-ltb (s .lines) 1000001 (omega (arith, next-within (s .lines) line station code job e)))
-          ∙ sym (ap (λ (x : Answer (F .Table)). record { session = session (s .lines + 1) (s .refusal) (x .table); refusal = x .refusal; bytes = x .bytes }) a)
+          ∙ sym (ap (λ (x : TableAnswer (F .Table)).
+          record { session = session (s .lines + 1) (s .refusal) (x .table); refusal = x .refusal; bytes = x .bytes }) a)

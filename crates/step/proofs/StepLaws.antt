@@ -9,7 +9,7 @@ use mathlib.Core.List as Lists
 use mathlib.Core.List.{[], _∷_}
 use lib.ListN.{length}
 use Rattle.simulation.specs.Calls.{Call}
-use Rattle.transition.specs.Forms.{Form, Answer, refuse, over, stepOf}
+use Rattle.transition.specs.Forms.{Form, TableAnswer, refuse, over, stepOf}
 use Rattle.transition.specs.Sequences.{Steps}
 use Rattle.transition.proofs.Theorem.{step-written, step-kept}
 use Rattle.arrays.specs.Arrays.{Arrays}
@@ -56,14 +56,16 @@ module _ (t : Table) (w : Whole t) (c : Call) where
     }
 
     pub refused-call : number ≢ 0 → Steps declared t c buffer t number written buffer′
-    refused-call d = steps-with (sym (ap (λ (x : Answer Table). x .table)
+    refused-call d = steps-with (sym (ap (λ (x : TableAnswer Table). x .table)
         (step-kept declared t (declared-written t w) c (λ z. d (L .number ∙ sym (alike .number) ∙ z)))))
 
     accepted : (b : Bool) → wellFormed (apart t) ≡ b → number ≡ 0 → together a′ ≡ stepOf declared t c .table
     unfolding apart
-    accepted true ok z = ap together (L .table ∙ ap (λ (x : Answer Arrays). x .table) (step-written lent (apart t) c ok))
-        ∙ sym (ap (λ (x : Answer Table). x .table) (step-written declared t c ok))
-    accepted false bad z = let x : number ≡ 13 = L .number ∙ ap (λ (x : Answer Arrays). x .refusal) (ill-formed lent (apart t) c bad) in absurd (omega arith)
+    accepted true ok z = ap together (L .table ∙ ap (λ (x : TableAnswer Arrays). x .table) (step-written lent (apart t) c ok))
+        ∙ sym (ap (λ (x : TableAnswer Table). x .table) (step-written declared t c ok))
+    accepted false bad z =
+        let x : number ≡ 13 = L .number ∙ ap (λ (x : TableAnswer Arrays). x .refusal) (ill-formed lent (apart t) c bad) in
+        absurd (omega arith)
 
     pub accepted-call : number ≡ 0 → {t′ : Table} → t′ ≡ together a′ → Steps declared t c buffer t′ number written buffer′
     accepted-call z q = steps-with (q ∙ accepted (wellFormed (apart t)) refl z)

@@ -49,7 +49,8 @@ planes-sized f g = record { long = refl; each = each }
     each (suc (suc i)) h = absurd (omega arith)
 
 -- arrays that are made place by place have the lengths of their types
-module _ (n : ℕ) (l : Bool → ℕ → Lists.List ℕ) (j : Bool → ℕ → ℕ) (p : ℕ → ℕ) (r : ℕ → Bool → ℕ → ℕ) (wide : (x : Bool) (i : ℕ) → i < 32 → length (l x i) ≡ 31) where
+module _ (n : ℕ) (l : Bool → ℕ → Lists.List ℕ) (j : Bool → ℕ → ℕ) (p : ℕ → ℕ) (r : ℕ → Bool → ℕ → ℕ)
+    (wide : (x : Bool) (i : ℕ) → i < 32 → length (l x i) ≡ 31) where
   made-shaped : Shaped (arrays n (planes l) (planes j) (tabulate 32 0 p ∷ []) (tabulate 32 0 (λ i. planes (r i))))
   made-shaped = record {
     labels = planes-sized _ _;

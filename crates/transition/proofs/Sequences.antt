@@ -8,7 +8,7 @@ use lib.Seq.{take-at}
 use Rattle.basics.specs.Tests.{All}
 use Rattle.simulation.specs.Machine as Machine
 use Rattle.simulation.specs.Machine.{Seen}
-use Rattle.transition.specs.Forms.{Form, Answer, over, freshTable, stepOf}
+use Rattle.transition.specs.Forms.{Form, over, freshTable, stepOf}
 use Rattle.transition.specs.Demand.{run, seen, unbounded, Demand3}
 use Rattle.transition.specs.Sequences.{Steps, Made, callOf, told, Sequence, SequenceDemand}
 use Rattle.transition.proofs.Theorem.{Lawful, demand}

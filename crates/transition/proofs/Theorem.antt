@@ -17,7 +17,7 @@ use Rattle.simulation.proofs.Judged.{Refusal, refusals}
 use Rattle.simulation.proofs.Touched.{refused-stays}
 use Rattle.simulation.proofs.Follow.{run-cons, snaps-cons, Simulates}
 use Rattle.simulation.proofs.Simulation.{simulation}
-use Rattle.transition.specs.Forms.{Form, Answer, refuse, freshTable, answered, stepOf, after}
+use Rattle.transition.specs.Forms.{Form, TableAnswer, refuse, freshTable, answered, stepOf, after}
 use Rattle.transition.specs.Demand.{run, snaps, seen, unbounded, Demand3}
 use Rattle.transition.proofs.Written.{Writable}
 use Rattle.transition.proofs.Reached.{Reached, reached-fresh, reached-step}
@@ -45,7 +45,7 @@ step-written F t c e = rw (e, stepOf) refl
 -- so its number is one that `judge` gives
 pub step-refusals : (F : Form) (t : F .Table) (c : Call) → F .wellFormed t ≡ true → Refusal (F .count t) c (stepOf F t c .refusal)
 unfolding step
-step-refusals F t c e = subst (λ (a : Answer (F .Table)). Refusal (F .count t) c (a .refusal)) (sym (step-written F t c e))
+step-refusals F t c e = subst (λ (a : TableAnswer (F .Table)). Refusal (F .count t) c (a .refusal)) (sym (step-written F t c e))
     (refusals (F .count t) c (ordered (F .count t) (stands (digits (F .count t)) (F .state t .labels))) (F .state t .rest))
 
 -- a refused call changes nothing and writes nothing, on a table that is the one of the state that it holds
@@ -60,11 +60,11 @@ step-kept F t same c d = go (F .wellFormed t) refl
     go : (b : Bool) → F .wellFormed t ≡ b → stepOf F t c ≡ refuse t (stepOf F t c .refusal)
     go true e =
         let w = step-written F t c e in
-        let x : stepOf F t c .refusal ≡ step original n (digits n) (F .state t) c .refusal = ap (λ (a : Answer (F .Table)). a .refusal) w in
+        let x : stepOf F t c .refusal ≡ step original n (digits n) (F .state t) c .refusal = ap (λ (a : TableAnswer (F .Table)). a .refusal) w in
         w ∙ ap (answered F n) (refused-stays n (digits n) (F .state t) (c .line) (judge n (F .state t .rest) c) (λ z. d (x ∙ z)))
         ∙ (λ i. refuse (same e i) (sym x i))
     go false e = let s : stepOf F t c ≡ refuse t 13 = unfold stepOf in rw (e, stepOf) refl in s
-        ∙ ap (refuse t) (sym (ap (λ (a : Answer (F .Table)). a .refusal) s))
+        ∙ ap (refuse t) (sym (ap (λ (a : TableAnswer (F .Table)). a .refusal) s))
 
 -- a sequence of calls on the table of the state s is one on the bounded machine, and none of them is refused by 13
 pub record Runs (F : Form) (n : ℕ) (s : State Labels.Label) (cs : Lists.List Call) : Type 0 where
@@ -165,7 +165,7 @@ module _ (F : Form) (L : Lawful F) (n : ℕ) (low : 2 ≤ n) (high : n ≤ 32) w
     table-step c = record {
       state = step original n (digits n) (r .state) c .state;
       reached = reached-next F L n low high (r .reached) c;
-      holds = ap (λ u. stepOf F u c .table) (r .holds) ∙ ap (λ (a : Answer (F .Table)). a .table) (reached-written F L n low high (r .reached) c);
+      holds = ap (λ u. stepOf F u c .table) (r .holds) ∙ ap (λ (a : TableAnswer (F .Table)). a .table) (reached-written F L n low high (r .reached) c);
     }
 
   pub table-after : (calls : Lists.List Call) (t : F .Table) → ReachedTable F n t → ReachedTable F n (after F t calls)
@@ -186,5 +186,5 @@ same-after F G L M n low high cs = machine F L cs (fresh (λ p. 1) n) (reached-f
 
     machine : (F : Form) → Lawful F → (cs : Lists.List Call) (s : State Labels.Label) → Reached n s → F .state (after F (F .written n s) cs) ≡ left s cs
     machine F L [] s r = L .held n high s (r .writable)
-    machine F L (c ∷ cs) s r = ap (λ (a : Answer (F .Table)). F .state (after F (a .table) cs)) (reached-written F L n low high r c)
+    machine F L (c ∷ cs) s r = ap (λ (a : TableAnswer (F .Table)). F .state (after F (a .table) cs)) (reached-written F L n low high r c)
         ∙ machine F L cs (step original n (digits n) s c .state) (reached-next F L n low high r c)

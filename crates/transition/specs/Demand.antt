@@ -10,11 +10,11 @@ use Rattle.basics.specs.Tests.{All}
 use Rattle.simulation.specs.Calls.{Call}
 use Rattle.simulation.specs.Machine as Machine
 use Rattle.simulation.specs.Machine.{original, numbers, snapsOf, Seen, Bounded}
-use Rattle.transition.specs.Forms.{Form, Answer, freshTable, stepOf}
+use Rattle.transition.specs.Forms.{Form, TableAnswer, freshTable, stepOf}
 
 module _ (F : Form) where
   -- the answers to a sequence of calls, each on the table that the one before it left
-  unfoldable pub run : F .Table → Lists.List Call → Lists.List (Answer (F .Table))
+  unfoldable pub run : F .Table → Lists.List Call → Lists.List (TableAnswer (F .Table))
   run t [] = []
   run t (c ∷ cs) = let a = stepOf F t c in a ∷ run (a .table) cs
 
@@ -24,7 +24,7 @@ module _ (F : Form) where
   snaps t (c ∷ cs) = cond (F .wellFormed t) (snapsOf original (F .count t) (F .state t) c) 0 + snaps (stepOf F t c .table) cs
 
   -- what is compared after each call: the refusal, the bytes written, and the results that all stations hold
-  abbrev pub seen : Answer (F .Table) → Seen
+  abbrev pub seen : TableAnswer (F .Table) → Seen
   seen a = Machine.seen (F .count (a .table)) (record { state = F .state (a .table); refusal = a .refusal; bytes = a .bytes })
 
 -- the same of the unbounded table of n stations, from its fresh state, with these advances

@@ -19,12 +19,12 @@ pub record Form : Type 1 where
   pub wellFormed : Table → Bool
 
 -- the answer to a call: the table left, the refusal number (0: accepted), and the bytes written to the front of the report buffer
-pub record Answer (T : Type 0) : Type 0 where
+pub record TableAnswer (T : Type 0) : Type 0 where
   pub table : T
   pub refusal : ℕ
   pub bytes : Lists.List ℕ
 
-abbrev pub refuse : {T : Type 0} → T → ℕ → Answer T
+abbrev pub refuse : {T : Type 0} → T → ℕ → TableAnswer T
 refuse t x = record { table = t; refusal = x; bytes = [] }
 
 -- the buffer with the bytes at its front, the rest kept
@@ -36,11 +36,11 @@ module _ (F : Form) where
   abbrev pub freshTable : ℕ → F .Table
   freshTable n = F .written n (fresh (λ p. 1) n)
 
-  abbrev pub answered : ℕ → Machine.Answer Labels.Label → Answer (F .Table)
+  abbrev pub answered : ℕ → Machine.Answer Labels.Label → TableAnswer (F .Table)
   answered n a = record { table = F .written n (a .state); refusal = a .refusal; bytes = a .bytes }
 
   -- a step call: 13 if the table is not well-formed; else the machine's step from the state that it holds, written down
-  unfoldable pub stepOf : F .Table → Call → Answer (F .Table)
+  unfoldable pub stepOf : F .Table → Call → TableAnswer (F .Table)
   stepOf t c = let n = F .count t in cond (F .wellFormed t) (answered n (step original n (digits n) (F .state t) c)) (refuse t 13)
 
   -- the table that a sequence of calls leaves

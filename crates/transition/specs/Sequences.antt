@@ -7,7 +7,7 @@ use lib.ListN.{length, take}
 use Rattle.basics.specs.Tests.{All}
 use Rattle.simulation.specs.Calls.{Call}
 use Rattle.simulation.specs.Machine as Machine
-use Rattle.transition.specs.Forms.{Form, Answer, over, stepOf}
+use Rattle.transition.specs.Forms.{Form, TableAnswer, over, stepOf}
 use Rattle.transition.specs.Demand.{seen, unbounded, Demand3}
 
 -- the call c on the table t with this report buffer: the table left, the refusal number, the count of bytes and the buffer left, all of it from `stepOf`
@@ -33,7 +33,7 @@ abbrev pub callOf : {T : Type 0} → Made T → Call
 callOf x = record { line = x .line; code = x .code; station = x .station; job = x .job; room = length (x .buffer) }
 
 -- what the caller sees of it: the table, the refusal number, and the bytes that are counted
-abbrev pub told : {T : Type 0} → Made T → Answer T
+abbrev pub told : {T : Type 0} → Made T → TableAnswer T
 told x = record { table = x .table; refusal = x .refusal; bytes = take (x .written) (x .buffer′) }
 
 module _ (F : Form) where
