@@ -31,7 +31,7 @@ use Rattle.moves.specs.declared.Refusal.the-variants.{Accepted}
 use Rattle.arrays.specs.Arrays.{Rows, Planes, Arrays, arrays, cell, planes, phaseNumber, resultRows, resultOf, restOf, stateOf, jobsOf, arraysOf, rowsAt}
 use Rattle.arrays.specs.Sizes.{Shaped}
 use Rattle.arrays.proofs.States.{rows-here, labels-back, jobs-back, control-back, results-back, written-held}
-use Rattle.engine.specs.Stores.{orderOf, scanRows}
+use Rattle.engine.specs.Scans.{orderOf, scanRows}
 use Rattle.engine.specs.Contracts.{actionOf, Prepared, Performs, Carries}
 use Rattle.engine.proofs.Reports.{result-length}
 use Rattle.engine.specs.declared.Reply.{Reply}

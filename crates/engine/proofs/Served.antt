@@ -23,7 +23,7 @@ use Rattle.arrays.specs.Arrays.{Arrays, cell, phaseFor, restOf}
 use Rattle.arrays.specs.WellFormed.{wellFormed}
 use Rattle.arrays.specs.Form.{lent}
 use Rattle.arrays.proofs.Passed.{passed, label-digits}
-use Rattle.engine.specs.Stores.{orderOf}
+use Rattle.engine.specs.Scans.{orderOf}
 use Rattle.engine.specs.Contracts.{callOf, Prepared, answerTo, doneOf, Carries, Judges}
 use Rattle.moves.specs.declared.Move.{Move}
 use Rattle.moves.specs.declared.Move.the-variants.{BeginLabel, SnapLabel, SnapScan, EndScan}

@@ -16,7 +16,7 @@ use Rattle.transition.specs.Forms.{over}
 use Rattle.moves.specs.Moves.{refusalNumber, moveOf, called, placeOf}
 use Rattle.arrays.specs.Arrays.{Rows, Arrays, cell, phaseFor, stateOf, arraysOf}
 use Rattle.arrays.specs.WellFormed.{wellFormed}
-use Rattle.engine.specs.Stores.{orderOf}
+use Rattle.engine.specs.Scans.{orderOf}
 use Rattle.moves.specs.declared.Move.the-variants.{BeginLabel, SnapLabel, SnapScan, EndScan}
 use Rattle.engine.specs.declared.Reply.{Reply}
 use Rattle.engine.specs.declared.Request.{Request}

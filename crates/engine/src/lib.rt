@@ -15,7 +15,7 @@ ghost use Rattle.moves.specs.declared.Refusal.the-variants.{Accepted};
 ghost use Rattle.arrays.specs.Arrays.{arrays, resultOf};
 ghost use Rattle.arrays.specs.WellFormed.{wellFormed};
 ghost use Rattle.arrays.specs.Form.{lent};
-ghost use Rattle.engine.specs.Stores.{orderOf, scanRows};
+ghost use Rattle.engine.specs.Scans.{orderOf, scanRows};
 ghost use Rattle.engine.specs.Contracts.{callOf, Prepared, Carries, Judges};
 use arrays::Control;
 use arrays::END_LABEL;

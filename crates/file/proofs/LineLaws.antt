@@ -33,7 +33,7 @@ use Rattle.arrays.specs.Arrays.{Arrays, stateOf, arraysOf}
 use Rattle.arrays.specs.WellFormed.{wellFormed}
 use Rattle.arrays.specs.Form.{lent}
 use Rattle.arrays.proofs.States.{lent-lawful}
-use Rattle.engine.specs.Stores.{orderOf}
+use Rattle.engine.specs.Scans.{orderOf}
 use Rattle.engine.specs.Contracts.{callOf, actionOf, Prepared, doneOf, Carries, Judges}
 use Rattle.engine.proofs.Served as Served
 use Rattle.engine.proofs.Served.{orderly, ready, judged, served}

@@ -12,7 +12,7 @@ use Rattle.transition.specs.Forms.{over, freshTable, stepOf, after}
 use Rattle.moves.specs.Moves.{refusalNumber}
 use Rattle.arrays.specs.Arrays.{Arrays}
 use Rattle.arrays.specs.Form.{lent}
-use Rattle.engine.specs.Stores.{orderOf}
+use Rattle.engine.specs.Scans.{orderOf}
 use Rattle.schedule.specs.Sessions.{Session, session, Served}
 use Rattle.schedule.specs.Files.{cut, pieces, printed, runLines, fileReport, fileRefusal}
 use Rattle.engine.specs.declared.Reply.{Reply}

@@ -11,7 +11,7 @@ ghost use Rattle.moves.specs.declared.Refusal.the-variants.{Accepted};
 ghost use Rattle.moves.specs.declared.Move.the-variants.{Update};
 ghost use Rattle.arrays.specs.Arrays.{arrays};
 ghost use Rattle.arrays.specs.Form.{lent};
-ghost use Rattle.engine.specs.Stores.{orderOf};
+ghost use Rattle.engine.specs.Scans.{orderOf};
 ghost use Rattle.engine.specs.Contracts.{callOf};
 ghost use Rattle.schedule.specs.Sessions.{session};
 ghost use Rattle.schedule.specs.Files.{cut, pieces, printed, runLines};

@@ -1,5 +1,5 @@
 use mathlib.Core.Path.{refl}
-use Rattle.engine.proofs.Stays.{no-snap}
+use Rattle.engine.proofs.Arms.{no-snap}
 use borrow.Author.Needs.{needs}
 use Rattle.engine.proofs.newest_for.Statement.{statement}
 use Rattle.engine.proofs.newest_for.Tie as tie

@@ -1,5 +1,5 @@
 use mathlib.Core.Path.{refl}
-use Rattle.engine.proofs.Stays.{no-scan}
+use Rattle.engine.proofs.Arms.{no-scan}
 use borrow.Author.Needs.{needs}
 use Rattle.engine.proofs.order_for.Statement.{statement}
 use Rattle.engine.proofs.order_for.Tie as tie

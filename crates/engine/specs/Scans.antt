@@ -1,4 +1,4 @@
--- What the functions below `carry_out` make, in rows.
+-- A scan in rows: the order of the stations, and the result that it stores.
 use Prim.Native.Nat.{ℕ, suc, _-_}
 use mathlib.Core.Bool.{cond}
 use mathlib.Core.List as Lists
