@@ -9,8 +9,6 @@ use mathlib.Core.Bool.{true, false}
 use mathlib.Core.List as Lists
 use mathlib.Core.List.{[], _∷_, _++_}
 use lib.ListN.{length, getD, replicate}
-use types.Run.{OneOf, miss}
-use denote.Enum.Declared.{tagOf}
 use borrow.Author.Tests.{eq-eqb, ne-eqb}
 use Rattle.basics.specs.Tests.{newest, ordered}
 use Rattle.label.specs.Labels as Labels
@@ -25,7 +23,6 @@ use Rattle.transition.specs.Sequences.{Steps}
 use Rattle.transition.proofs.Reached.{Reached}
 use Rattle.transition.proofs.Theorem.{reached-held, reached-next, ReachedTable, table-fresh, table-count, table-passes, table-step, table-after}
 use Rattle.moves.specs.Moves.{refusalNumber, moveOf}
-use Rattle.moves.proofs.Move.{the-type}
 use Rattle.moves.proofs.MoveLaws.{by-move}
 use Rattle.moves.specs.declared.Move.{Move}
 use Rattle.moves.specs.declared.Move.the-variants.{Update}
@@ -53,13 +50,6 @@ after-more F (d ∷ cs) c t = after-more F cs c (stepOf F t d .table)
 -- the order of n stations by their labels
 abbrev orderBy : ℕ → (ℕ → Labels.Label) → Lists.List ℕ
 orderBy n l = ordered n (λ i j. labelBefore (n - 1) (l i) i (l j) j) ++ replicate (32 - n) 0
-
--- a move with one of these tags is no update
-abbrev Other : Move → Type 0
-Other m = OneOf (0 ∷ 1 ∷ 2 ∷ 3 ∷ 4 ∷ 6 ∷ 7 ∷ []) (tagOf the-type m)
-
-pub no-update : (m : Move) → Other m → m ≢ Update
-no-update m h e = miss (0 ∷ 1 ∷ 2 ∷ 3 ∷ 4 ∷ 6 ∷ 7 ∷ []) 5 tt (subst Other e h)
 
 -- what a move does not touch
 untouched : (k job i : ℕ) → i ≢ k → (m : Move) → touched (moveOf k job m) i ≡ false

@@ -1,8 +1,14 @@
 -- What a judged move tells, and where a station's place is.
 use Prim.Native.Nat.{ℕ, _-_, _≤_, _<_}
 use native.Mathlib.Omega.{arith}
-use mathlib.Core.Path.{_≡_, refl, sym, ap, _∙_}
-use mathlib.Core.Bool.{Bool, true, false, cond}
+use mathlib.Core.Path.{_≡_, refl, sym, ap, subst, _∙_}
+use mathlib.Core.Logic.{_≢_}
+use mathlib.Core.Bool.{Bool, true, false, not, cond}
+use mathlib.Core.List.{List}
+use lib.Dec.{T}
+use mir.Val.{hasKey}
+use types.Run.{OneOf, miss}
+use denote.Enum.Declared.{tagOf}
 use Rattle.basics.specs.Tests.{within}
 use Rattle.basics.proofs.Facts.{within-true}
 use Rattle.simulation.specs.Calls as Calls
@@ -12,6 +18,7 @@ use Rattle.moves.specs.Moves.{moveOf, placeOf}
 use Rattle.moves.specs.declared.Move.{Move}
 use Rattle.moves.specs.declared.Move.the-variants.{Refused, BeginLabel, BeginScan, SnapLabel, SnapScan, Update, EndLabel, EndScan}
 use Rattle.moves.specs.declared.Refusal.{Refusal}
+use Rattle.moves.proofs.Move.{the-type}
 
 -- a fact about every move, from one for each
 pub by-move : (P : Move → Type 0) → ((x : Refusal) → P (Refused x)) → P BeginLabel → P BeginScan → P SnapLabel → P SnapScan → P Update → P EndLabel
@@ -24,6 +31,10 @@ by-move P r a b c d e f g SnapScan = d
 by-move P r a b c d e f g Update = e
 by-move P r a b c d e f g EndLabel = f
 by-move P r a b c d e f g EndScan = g
+
+-- a move in an arm for these tags is none that the arm leaves out
+pub not-among : (tags : List ℕ) (x : Move) → T (not (hasKey tags (tagOf the-type x))) → (m : Move) → OneOf tags (tagOf the-type m) → m ≢ x
+not-among tags x out m h e = miss tags (tagOf the-type x) out (subst (λ y. OneOf tags (tagOf the-type y)) e h)
 
 -- a label operation that is judged to begin has a job of 32 bits
 pub begun-job : (n : ℕ) (ph : Calls.Phase) (c : Call) (k : ℕ) (m : Move) → moveOf k (c .job) m ≡ judgeIn n ph c → m ≡ BeginLabel → c .job ≤ 4294967295
