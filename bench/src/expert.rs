@@ -115,7 +115,7 @@ impl Table {
         self.stations[i].phase = Phase::Update;
     }
 
-    fn snap_scan(&mut self, i: usize) {
+    fn begin_scan(&mut self, i: usize) {
         for (place, &j) in self.order[..self.n].iter().enumerate() {
             let job = self.stations[usize::from(j)].job;
             self.stations[i].result[place] = j + 1;
@@ -157,11 +157,10 @@ impl Table {
         match (code, s.phase) {
             (1, Phase::Idle) => {
                 s.pending_job = job as u32;
-                s.phase = Phase::Snap(Operation::Label);
+                s.phase = Phase::Snap;
             }
-            (2, Phase::Idle) => s.phase = Phase::Snap(Operation::Scan),
-            (3, Phase::Snap(Operation::Label)) => self.snap_label(i),
-            (3, Phase::Snap(Operation::Scan)) => self.snap_scan(i),
+            (2, Phase::Idle) => self.begin_scan(i),
+            (3, Phase::Snap) => self.snap_label(i),
             (4, Phase::Update) => self.update(i),
             (5, Phase::End(Operation::Label)) => s.phase = Phase::Idle,
             (5, Phase::End(Operation::Scan)) => {

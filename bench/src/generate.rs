@@ -92,7 +92,7 @@ fn refused(random: &mut Random, n: u64, players: &[Player]) -> [u8; LINE] {
         _ if phase == Phase::Idle => line(station, 3 + random.below(3), 0),
         _ => {
             let allowed = match phase {
-                Phase::Snap(_) => 3,
+                Phase::Snap => 3,
                 Phase::Update => 4,
                 _ => 5,
             };
@@ -125,15 +125,15 @@ pub fn schedule(n: u64, lines: u64, seed: u64, ending: Ending) -> Vec<u8> {
         let i = if awake.is_empty() { first.unwrap_or(0) } else { random.pick(&awake) };
         let player = &mut players[i];
         let (code, job, next) = match player.phase {
-            Phase::Idle if random.one_in(4) => (2, 0, Phase::Snap(Operation::Scan)),
-            Phase::Idle => (1, job(&mut random), Phase::Snap(Operation::Label)),
-            Phase::Snap(Operation::Label) => (3, 0, Phase::Update),
-            Phase::Snap(Operation::Scan) => (3, 0, Phase::End(Operation::Scan)),
+            Phase::Idle if random.one_in(4) => (2, 0, Phase::End(Operation::Scan)),
+            Phase::Idle => (1, job(&mut random), Phase::Snap),
+            Phase::Snap => (3, 0, Phase::Update),
             Phase::Update => (4, 0, Phase::End(Operation::Label)),
             Phase::End(_) => (5, 0, Phase::Idle),
         };
         let stalls = match next {
-            Phase::Snap(_) => random.one_in(32),
+            // After the begin of either operation.
+            Phase::Snap | Phase::End(Operation::Scan) => random.one_in(32),
             Phase::Update => random.one_in(16),
             _ => false,
         };

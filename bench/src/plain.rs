@@ -1,4 +1,4 @@
-//! The schedule program in plain Rust, written from document 01 and not from the Rattle code.
+//! The schedule program in plain Rust, written from document 01 and Card 1 and not from the Rattle code.
 
 use std::cmp::Ordering;
 use std::io::{self, Read, Write};
@@ -49,7 +49,8 @@ pub enum Operation {
 #[derive(Clone, Copy, PartialEq, Eq, Debug)]
 pub enum Phase {
     Idle,
-    Snap(Operation),
+    /// For a label; a scan snaps as it begins.
+    Snap,
     Update,
     End(Operation),
 }
@@ -104,6 +105,14 @@ impl Station {
 pub struct Table {
     pub n: usize,
     pub stations: [Station; MAX_STATIONS],
+}
+
+/// A place of a scan, for callers who lend records in place of a report.
+#[derive(Clone, Copy, PartialEq, Eq, Debug)]
+pub struct Record {
+    pub place: u32,
+    pub station: u32,
+    pub job: u32,
 }
 
 /// How many digits two labels share before they first differ, at most `digits`.
@@ -211,7 +220,7 @@ impl Table {
         self.stations[station].phase = Phase::Update;
     }
 
-    fn snap_scan(&mut self, station: usize) {
+    fn begin_scan(&mut self, station: usize) {
         let order = self.order();
         for (place, &i) in order[..self.n].iter().enumerate() {
             let job = self.stations[usize::from(i)].job;
@@ -221,8 +230,9 @@ impl Table {
         self.stations[station].phase = Phase::End(Operation::Scan);
     }
 
-    /// The step on a well-formed table: the number of report bytes, or the refusal.
-    fn serve(&mut self, line: u32, code: u64, station: u64, job: u64, report: &mut [u8]) -> Result<usize, u64> {
+    /// The step on a well-formed table: how much was written, or the refusal. An ended scan is written by `write`, from the number of stations and the
+    /// station with the result.
+    fn serve(&mut self, code: u64, station: u64, job: u64, write: impl FnOnce(usize, &Station) -> Result<usize, u64>) -> Result<usize, u64> {
         if !(1..=5).contains(&code) {
             return Err(refusal::CODE);
         }
@@ -238,11 +248,10 @@ impl Table {
         match (code, s.phase) {
             (1, Phase::Idle) => {
                 s.pending_job = job as u32;
-                s.phase = Phase::Snap(Operation::Label);
+                s.phase = Phase::Snap;
             }
-            (2, Phase::Idle) => s.phase = Phase::Snap(Operation::Scan),
-            (3, Phase::Snap(Operation::Label)) => self.snap_label(i),
-            (3, Phase::Snap(Operation::Scan)) => self.snap_scan(i),
+            (2, Phase::Idle) => self.begin_scan(i),
+            (3, Phase::Snap) => self.snap_label(i),
             (4, Phase::Update) => {
                 s.label = s.pending_label;
                 s.job = s.pending_job;
@@ -250,10 +259,9 @@ impl Table {
             }
             (5, Phase::End(Operation::Label)) => s.phase = Phase::Idle,
             (5, Phase::End(Operation::Scan)) => {
-                let report = report.get_mut(..self.n * REPORT_LINE).ok_or(refusal::SHORT_REPORT)?;
-                write_result(line, s, report);
+                let written = write(self.n, s)?;
                 s.phase = Phase::Idle;
-                return Ok(report.len());
+                return Ok(written);
             }
             (1 | 2, _) => return Err(refusal::BUSY),
             (3, _) => return Err(refusal::NO_SNAP_DUE),
@@ -266,11 +274,20 @@ impl Table {
 
 /// The direct step call: the refusal (0 if accepted) and the number of report bytes.
 pub fn step(t: &mut Table, code: u64, station: u64, job: u64, report: &mut [u8]) -> (u64, usize) {
+    direct(t, code, station, job, |n, s| write_result(0, n, s, report))
+}
+
+/// The direct step call with records: the refusal (0 if accepted) and the number of records written.
+pub fn step_panel(t: &mut Table, code: u64, station: u64, job: u64, panel: &mut [Record]) -> (u64, usize) {
+    direct(t, code, station, job, |n, s| fill_panel(n, s, panel))
+}
+
+fn direct(t: &mut Table, code: u64, station: u64, job: u64, write: impl FnOnce(usize, &Station) -> Result<usize, u64>) -> (u64, usize) {
     if !t.is_well_formed() {
         return (refusal::ILL_FORMED, 0);
     }
-    match t.serve(0, code, station, job, report) {
-        Ok(bytes) => (0, bytes),
+    match t.serve(code, station, job, write) {
+        Ok(written) => (0, written),
         Err(number) => (number, 0),
     }
 }
@@ -312,8 +329,9 @@ pub(crate) fn report_line(line: u32, refused: u64) -> [u8; REPORT_LINE] {
     bytes
 }
 
-/// Writes a scan result into as many report lines as the report has room for.
-fn write_result(line: u32, s: &Station, report: &mut [u8]) {
+/// Writes a scan result as report lines, if there is room for all.
+fn write_result(line: u32, n: usize, s: &Station, report: &mut [u8]) -> Result<usize, u64> {
+    let report = report.get_mut(..n * REPORT_LINE).ok_or(refusal::SHORT_REPORT)?;
     let blank = report_line(line, 0);
     for (place, bytes) in report.chunks_exact_mut(REPORT_LINE).enumerate() {
         bytes.copy_from_slice(&blank);
@@ -321,6 +339,16 @@ fn write_result(line: u32, s: &Station, report: &mut [u8]) {
         put(&mut bytes[14..17], s.result[place].into());
         put(&mut bytes[17..28], s.result_jobs[place]);
     }
+    Ok(report.len())
+}
+
+/// Writes a scan result as records, if there are enough of them.
+fn fill_panel(n: usize, s: &Station, panel: &mut [Record]) -> Result<usize, u64> {
+    let records = panel.get_mut(..n).ok_or(refusal::SHORT_REPORT)?;
+    for (place, record) in records.iter_mut().enumerate() {
+        *record = Record { place: place as u32 + 1, station: s.result[place].into(), job: s.result_jobs[place] };
+    }
+    Ok(n)
 }
 
 pub(crate) fn write_refusal(line: u32, refused: u64, report: &mut [u8]) {
@@ -356,7 +384,7 @@ fn serve_line(table: &mut Table, line: u32, bytes: &[u8], report: &mut [u8]) -> 
         return Err(refusal::TOO_MANY);
     }
     let (station, code, job) = read_line(bytes)?;
-    table.serve(line, code, station, job, report)
+    table.serve(code, station, job, |n, s| write_result(line, n, s, report))
 }
 
 /// Reads until the buffer is full or the input ends.

@@ -40,7 +40,7 @@ fn vectors() {
             }
         }
     }
-    assert!(counts[0] == 109 && counts[1] >= 68 && counts[2] >= 3, "{counts:?}");
+    assert!(counts[0] == 177 && counts[1] >= 70 && counts[2] >= 3, "{counts:?}");
 }
 
 fn line(code: u64, station: u64, job: u64) -> [u8; LINE] {
@@ -254,12 +254,7 @@ fn jobs() {
     let mut random = Random(23);
     let shown = |column: &[u8]| {
         let report = as_plain(
-            &[
-                b"  2  0          0\n  1  1",
-                column,
-                b"\n  1  3          0\n  1  4          0\n  2  2          0\n  2  3          0\n  2  5          0\n",
-            ]
-            .concat(),
+            &[b"  2  0          0\n  1  1", column, b"\n  1  3          0\n  1  4          0\n  2  2          0\n  2  5          0\n"].concat(),
         );
         report.ends_with(&[b"  0  2  1", column, b"\n"].concat())
     };

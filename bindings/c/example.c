@@ -1,5 +1,6 @@
-/* Document 01's listing as direct calls, and then as a schedule file: prints the report lines. Of a refused call this prints the line that the schedule
-   program would print; a direct call's lines bear the number 0. From the root:
+/* Document 01's listing as direct calls with a report buffer, as direct calls with a panel, and as a schedule file. Of a refused call with a report
+   buffer this prints the line that the schedule program would print; a direct call's lines bear the number 0. The second call of station 2 is refused by
+   4 in all three: a scan has no snap of its own. From the root:
    rt staticlib exports && cc -Wall -Wextra -O2 bindings/c/example.c target/staticlib/libexports.a -o /tmp/example && /tmp/example */
 #include <inttypes.h>
 #include <stdio.h>
@@ -38,6 +39,16 @@ int main(void) {
             fwrite(report, 1, answer.written, stdout);
         else
             printf("%8d%3" PRIu64 "%3d%3d%11d\n", 0, answer.refusal, 0, 0, 0);
+    }
+    static struct tickets_record panel[TICKETS_MAX_STATIONS];
+    if (tickets_board_fresh(&board, 2) != 0)
+        return 1;
+    for (size_t i = 0; i < sizeof calls / sizeof calls[0]; i++) {
+        struct tickets_answer answer = tickets_board_step_panel(&board, calls[i].code, calls[i].station, calls[i].job, panel, TICKETS_MAX_STATIONS);
+        if (answer.refusal != 0)
+            printf("panel: refused by %" PRIu64 "\n", answer.refusal);
+        for (uint64_t at = 0; at < answer.written; at++)
+            printf("panel: place %" PRIu32 ", station %" PRIu32 ", job %" PRIu32 "\n", panel[at].place, panel[at].station, panel[at].job);
     }
     static uint8_t whole[TICKETS_REPORT_ROOM(sizeof file - 1)];
     struct tickets_answer answer = tickets_report((const uint8_t *)file, sizeof file - 1, whole, sizeof whole);

@@ -1,9 +1,11 @@
 /* The ticket table and the schedule program for C programs: the functions of the proved library libexports.a (`rt staticlib exports` at the root writes
    it to target/staticlib). A board holds a table of 2 to 32 stations as plain numbers; its owner lends it to each call.
 
-   What is proved holds for every content of the board, every report buffer and all numbers; there is nothing to check before a call. A caller owes:
-   - the board and the buffers are memory of the caller's that has been written, with whatever bytes (`= {0}` will do for a new board);
-   - a pointer to each that is not null, also to a buffer of length 0, and a report buffer that overlaps neither the board nor the schedule;
+   What is proved holds for every content of the board, every report buffer, every panel and all numbers; there is nothing to check before a call. A
+   caller owes:
+   - the board, the buffers and the panels are memory of the caller's that has been written, with whatever bytes (`= {0}` will do for a new board);
+   - a pointer to each that is not null, also to a buffer or a panel of length 0, and a report buffer or a panel that overlaps neither the board nor the
+     schedule;
    - until a call returns, no other thread touches them.
    That this header declares what the library exports is not proved; the assertions below hold its layout. */
 #ifndef TICKETS_H
@@ -15,7 +17,7 @@
 
 enum { TICKETS_MAX_STATIONS = 32, TICKETS_MAX_DIGITS = 31, TICKETS_LINE = 18, TICKETS_REPORT_LINE = 29 };
 
-/* The steps of a call. A label operation is begin, snap, update, end; a scan is begin, snap, end. */
+/* The steps of a call. A label operation is begin, snap, update, end; a scan is begin, which is its snap too, and end. */
 enum { TICKETS_BEGIN_LABEL = 1, TICKETS_BEGIN_SCAN = 2, TICKETS_SNAP = 3, TICKETS_UPDATE = 4, TICKETS_END = 5 };
 
 /* What is refused; 0 is a call that was served. */
@@ -26,7 +28,8 @@ enum {
     TICKETS_NO_SNAP_DUE = 4,
     TICKETS_NO_UPDATE_DUE = 5,
     TICKETS_NO_END_DUE = 6,
-    TICKETS_SHORT_REPORT = 7,    /* the buffer is shorter than the report: count * 29 bytes at the end of a scan, or that of a whole file */
+    TICKETS_SHORT_REPORT = 7,    /* the buffer is shorter than the report: count * 29 bytes at the end of a scan, or that of a whole file; or the end of a
+                                    scan has fewer records than count */
     TICKETS_INCOMPLETE_LINE = 8, /* not 18 bytes, or the last one not a line's end; it ends a file */
     TICKETS_BAD_COLUMN = 9,      /* a column that holds no number as it must; it ends a file */
     TICKETS_BAD_CODE = 10,
@@ -37,7 +40,7 @@ enum {
 
 /* The planes of labels and jobs: what a station has, and what its next update will make of it. */
 enum { TICKETS_CURRENT = 0, TICKETS_PENDING = 1 };
-/* The plane of control: 0 idle, 1 and 2 due to snap for a label and for a scan, 3 due to update, 4 and 5 due to end a label and a scan. */
+/* The plane of control: 0 idle, 1 due to snap (for a label), 2 due to update, 3 and 4 due to end a label and a scan. */
 enum { TICKETS_PHASES = 0 };
 /* The rows of a scan result: the stations, from 1, oldest first, and their jobs. */
 enum { TICKETS_STATIONS = 0, TICKETS_JOBS = 1 };
@@ -58,7 +61,16 @@ static_assert(offsetof(struct tickets_board, labels) == 8456, "labels");
 static_assert(offsetof(struct tickets_board, control) == 10440, "control");
 static_assert(sizeof(struct tickets_board) == 10472, "no padding");
 
-/* 0, or the refusal; and how many bytes of report were written. */
+/* A place of a scan, for callers who lend a panel of records in place of a report buffer. Places and stations count from 1. */
+struct tickets_record {
+    uint32_t place;
+    uint32_t station;
+    uint32_t job;
+};
+
+static_assert(sizeof(struct tickets_record) == 12, "no padding");
+
+/* 0, or the refusal; and how many bytes of report or records were written. */
 struct tickets_answer {
     uint64_t refusal;
     uint64_t written;
@@ -72,6 +84,9 @@ uint64_t tickets_fresh(uint64_t count, uint8_t (*labels)[TICKETS_MAX_STATIONS][T
 struct tickets_answer tickets_step(uint64_t count, uint8_t (*labels)[TICKETS_MAX_STATIONS][TICKETS_MAX_DIGITS], uint32_t (*jobs)[TICKETS_MAX_STATIONS],
     uint8_t (*control)[TICKETS_MAX_STATIONS], uint32_t (*results)[2][TICKETS_MAX_STATIONS], uint64_t code, uint64_t station, uint64_t job,
     uint8_t *report, size_t report_len);
+struct tickets_answer tickets_step_panel(uint64_t count, uint8_t (*labels)[TICKETS_MAX_STATIONS][TICKETS_MAX_DIGITS], uint32_t (*jobs)[TICKETS_MAX_STATIONS],
+    uint8_t (*control)[TICKETS_MAX_STATIONS], uint32_t (*results)[2][TICKETS_MAX_STATIONS], uint64_t code, uint64_t station, uint64_t job,
+    struct tickets_record *panel, size_t panel_len);
 
 /* Writes the report of a whole schedule file to the front of the buffer; what stands past it stays. The refusal is the one that ended the file: 8, 9, 10,
    1 or 11 of its header, 8, 9 or 12 of a step line; the report's last line shows it. It is 0 if the file was read to its end. TICKETS_SHORT_REPORT is
@@ -93,6 +108,13 @@ static inline uint64_t tickets_board_fresh(struct tickets_board *board, uint64_t
 static inline struct tickets_answer tickets_board_step(struct tickets_board *board, uint64_t code, uint64_t station, uint64_t job, uint8_t *report,
     size_t report_len) {
     return tickets_step(board->count, board->labels, board->jobs, board->control, board->results, code, station, job, report, report_len);
+}
+
+/* The same step with a panel of so many records. A refused call changes neither the board nor the panel. The end of a scan fills the first count records,
+   oldest station first, and answers their count; the others stay, and no other step fills any. */
+static inline struct tickets_answer tickets_board_step_panel(struct tickets_board *board, uint64_t code, uint64_t station, uint64_t job,
+    struct tickets_record *panel, size_t panel_len) {
+    return tickets_step_panel(board->count, board->labels, board->jobs, board->control, board->results, code, station, job, panel, panel_len);
 }
 
 #endif

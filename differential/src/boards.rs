@@ -4,15 +4,14 @@ use std::array::from_fn;
 use ticket_bench::plain::{Operation, Phase, Station, Table, MAX_STATIONS};
 use tickets::{Board, CURRENT, JOBS, PENDING, PHASES, STATIONS};
 
-pub const LAST_PHASE: u8 = 5;
+pub const LAST_PHASE: u8 = 4;
 
 fn phase(number: u8) -> Option<Phase> {
     Some(match number {
         0 => Phase::Idle,
-        1 => Phase::Snap(Operation::Label),
-        2 => Phase::Snap(Operation::Scan),
-        3 => Phase::Update,
-        4 => Phase::End(Operation::Label),
+        1 => Phase::Snap,
+        2 => Phase::Update,
+        3 => Phase::End(Operation::Label),
         LAST_PHASE => Phase::End(Operation::Scan),
         _ => return None,
     })
@@ -21,10 +20,9 @@ fn phase(number: u8) -> Option<Phase> {
 fn phase_number(phase: Phase) -> u8 {
     match phase {
         Phase::Idle => 0,
-        Phase::Snap(Operation::Label) => 1,
-        Phase::Snap(Operation::Scan) => 2,
-        Phase::Update => 3,
-        Phase::End(Operation::Label) => 4,
+        Phase::Snap => 1,
+        Phase::Update => 2,
+        Phase::End(Operation::Label) => 3,
         Phase::End(Operation::Scan) => LAST_PHASE,
     }
 }

@@ -6,11 +6,18 @@ use ticket_bench::generate::Random;
 use ticket_bench::plain::{Table, MAX_DIGITS, MAX_STATIONS, REPORT_LINE};
 use tickets::{Board, CURRENT, JOBS, PENDING, PHASES, STATIONS};
 
-/// A step, the length of its report area, and the byte that fills it before.
+/// What is lent for the result of a scan: a report area of so many bytes, or a panel of so many records.
+#[derive(Clone, Copy, Debug)]
+pub enum Lent {
+    Report(usize),
+    Panel(usize),
+}
+
+/// A step, what is lent to it, and the seed of what that holds before.
 pub struct Call {
     pub step: Step,
-    pub room: usize,
-    pub fill: u8,
+    pub lent: Lent,
+    pub old: u64,
 }
 
 /// All calls on the board with this index go by one run of numbers.
@@ -97,7 +104,7 @@ fn damage(random: &mut Random, board: &mut Board) {
         4 => board.jobs[CURRENT][past] = number,
         5 => board.jobs[PENDING][past] = number,
         6 => board.control[PHASES][past] = random.below(8) as u8,
-        7 => board.control[PHASES][i] = pick(random, &[6, 7, 8, 127, 128, 255, 0, 3]),
+        7 => board.control[PHASES][i] = pick(random, &[5, 5, 6, 7, 8, 127, 128, 255, 0, 2, 4]),
         8 => board.results[i][STATIONS][place] = board.results[i][STATIONS][below(random, n)],
         9 => board.results[i][STATIONS][place] = pick(random, &[0, station, station + 1, 33, 64, 65, 255, 256, u32::MAX]),
         10 => board.results[i][STATIONS][place_past] = pick(random, &[0, 1, station, station + 1, 255, 256, 1 << 31]),
@@ -191,16 +198,23 @@ impl Session {
     pub fn call(&mut self) -> Call {
         let Session { random, stations, board, n, .. } = self;
         let step = if random.one_in(self.any_in) { any_step(random, *n) } else { stations.step(random, &board.control[PHASES]) };
-        let exact = *n as usize * REPORT_LINE;
-        let room = match random.below(8) {
-            0 => exact - 1,
-            1 => exact + 1,
-            2 => below(random, exact),
-            3 => exact + below(random, 64),
-            4 => pick(random, &[0, 1, 28, 29, 58, exact - 29, 928, 929, 1000]),
-            _ => exact,
+        let n = *n as usize;
+        let exact = n * REPORT_LINE;
+        let lent = match random.below(16) {
+            0 => Lent::Report(exact - 1),
+            1 => Lent::Report(exact + 1),
+            2 => Lent::Report(below(random, exact)),
+            3 => Lent::Report(exact + below(random, 64)),
+            4 => Lent::Report(pick(random, &[0, 1, 28, 29, 58, exact - 29, 928, 929, 1000])),
+            5..8 => Lent::Report(exact),
+            8 => Lent::Panel(n - 1),
+            9 => Lent::Panel(n + 1),
+            10 => Lent::Panel(below(random, n)),
+            11 => Lent::Panel(n + below(random, 40)),
+            12 => Lent::Panel(pick(random, &[0, 0, 1, 31, 32, 32, 33, 40])),
+            _ => Lent::Panel(n),
         };
-        Call { step, room, fill: random.word() as u8 }
+        Call { step, lent, old: random.word() }
     }
 
     /// Now and then a damaged copy of the board, for a call that the board itself does not see.

@@ -34,11 +34,10 @@ fn job(random: &mut Random) -> u64 {
 pub fn after(phase: u8, code: u64) -> u8 {
     match (phase, code) {
         (0, 1) => 1,
-        (0, 2) => 2,
-        (1, 3) => 3,
-        (2, 3) => 5,
-        (3, 4) => 4,
-        (4 | 5, 5) => 0,
+        (0, 2) => 4,
+        (1, 3) => 2,
+        (2, 4) => 3,
+        (3 | 4, 5) => 0,
         _ => phase,
     }
 }
@@ -86,13 +85,13 @@ impl Stations {
         let code = match phase {
             0 if random.one_in(self.scan_in) => 2,
             0 => 1,
-            1 | 2 => 3,
-            3 => 4,
+            1 => 3,
+            2 => 4,
             _ => 5,
         };
         let stalls = match after(phase, code) {
-            3 => random.one_in(self.stall_in),
-            1 | 2 | 5 => random.one_in(8 * self.stall_in),
+            2 => random.one_in(self.stall_in),
+            1 | 4 => random.one_in(8 * self.stall_in),
             _ => false,
         };
         if stalls {

@@ -47,8 +47,10 @@ fn all() -> Result<String, String> {
     }
     if calls > 0 {
         let counts = run::calls(seed, calls)?;
-        counts.show("direct calls")?;
-        calls = counts.total();
+        calls = counts.iter().map(|(_, counts)| counts.total()).sum();
+        for (of, counts) in counts {
+            counts.show(of)?;
+        }
     }
     Ok(format!("files {files}, calls {calls}: all agree"))
 }

@@ -1,15 +1,15 @@
 //! Runs both sides, compares, and counts the refusal numbers that came up.
 
 use crate::boards;
-use crate::calls::{noise, Call, Session};
-use crate::draw::source;
+use crate::calls::{noise, Call, Lent, Session};
+use crate::draw::{source, Step};
 use crate::files::file;
 use std::fmt::Debug;
 use std::fs::{self, File};
 use std::io;
 use std::process::{Command, Stdio};
 use ticket_bench::generate::{schedule, Ending, Random};
-use ticket_bench::plain::{self, refusal, Table, MAX_STEPS};
+use ticket_bench::plain::{self, refusal, Record, Table, MAX_STEPS};
 use ticket_bench::reports::{final_refusal, numbers};
 use tickets::{Answer, Board};
 
@@ -44,7 +44,7 @@ impl Counts {
     }
 }
 
-/// Bytes behind a lent area that are not lent.
+/// Bytes or records behind a lent area that are not lent.
 const BEHIND: usize = 64;
 
 /// The library's report in a buffer of that length. The library's answer is counted.
@@ -141,26 +141,52 @@ pub fn files(seed: u64, files: u64, program: Option<&str>) -> Result<Vec<(&'stat
     Ok(counts)
 }
 
-/// One call on the board by both sides.
-fn check_call(board: &mut Board, call: &Call, counts: &mut Counts) -> Result<(), String> {
+/// What a panel holds before a call: numbers of any length.
+fn old_records(seed: u64, len: usize) -> Vec<Record> {
+    let mut random = Random(seed);
+    let mut number = || random.word() as u32 >> random.below(32);
+    (0..len).map(|_| Record { place: number(), station: number(), job: number() }).collect()
+}
+
+/// The library's call with a panel: its records are the plain program's, in the library's layout.
+fn answer_panel(board: &mut Board, step: Step, panel: &mut [Record], len: usize) -> Answer {
+    let mut records: Vec<tickets::Record> = panel.iter().map(|&Record { place, station, job }| tickets::Record { place, station, job }).collect();
+    let answer = board.answer_panel(step.code, step.station, step.job, &mut records[..len]);
+    for (to, tickets::Record { place, station, job }) in panel.iter_mut().zip(records) {
+        *to = Record { place, station, job };
+    }
+    answer
+}
+
+/// One call on the board by both sides: the answer, what is lent with what stands behind it, and the board.
+fn check_call(board: &mut Board, call: &Call, counts: &mut CallCounts) -> Result<(), String> {
     let before = board.clone();
-    let Call { step, room, fill } = call;
-    let mut area = vec![*fill; room + BEHIND];
-    let mut expected_area = area.clone();
-    let answer = board.answer(step.code, step.station, step.job, &mut area[..*room]);
+    let Call { step, lent, old } = call;
+    let Step { code, station, job } = *step;
     // A phase without a meaning, or a station in a result past 255, has no plain table; it is refused by 13 with nothing changed.
-    let (expected, expected_board) = match boards::table(&before) {
-        None => (Answer { refusal: refusal::ILL_FORMED, written: 0 }, before.clone()),
-        Some(mut table) => {
-            let (number, bytes) = plain::step(&mut table, step.code, step.station, step.job, &mut expected_area[..*room]);
-            (Answer { refusal: number, written: bytes as u64 }, boards::board(&table))
+    let mut table = boards::table(&before);
+    let (answer, expected, lent_as_expected, counts) = match *lent {
+        Lent::Report(room) => {
+            let mut area = vec![*old as u8; room + BEHIND];
+            let mut plain_area = area.clone();
+            let expected = table.as_mut().map(|table| plain::step(table, code, station, job, &mut plain_area[..room]));
+            let answer = board.answer(code, station, job, &mut area[..room]);
+            (answer, expected, same_bytes("report area", &area, &plain_area), &mut counts.report)
+        }
+        Lent::Panel(room) => {
+            let mut panel = old_records(*old, room + BEHIND);
+            let mut plain_panel = panel.clone();
+            let expected = table.as_mut().map(|table| plain::step_panel(table, code, station, job, &mut plain_panel[..room]));
+            let answer = answer_panel(board, *step, &mut panel, room);
+            (answer, expected, same("panel", &panel, &plain_panel), &mut counts.panel)
         }
     };
-    counts.add(expected.refusal);
-    same("answer", &answer, &expected)
-        .and_then(|()| same_bytes("report area", &area, &expected_area))
-        .and_then(|()| same("board", board, &expected_board))
-        .map_err(|what| format!("{step:?}, report of {room} bytes {fill} on {before:?}\n{what}"))
+    let (number, written) = expected.unwrap_or((refusal::ILL_FORMED, 0));
+    counts.add(number);
+    same("answer", &answer, &Answer { refusal: number, written: written as u64 })
+        .and(lent_as_expected)
+        .and_then(|()| same("board", board, &table.as_ref().map_or(before.clone(), boards::board)))
+        .map_err(|what| format!("{step:?}, {lent:?} with old contents {old} on {before:?}\n{what}"))
 }
 
 /// A fresh table written over any board by both sides.
@@ -175,13 +201,13 @@ fn check_fresh(board: &mut Board, n: u64, counts: &mut Counts) -> Result<(), Str
 }
 
 /// The calls on the board with this index.
-fn check_board(seed: u64, index: u64, counts: &mut Counts) -> Result<(), String> {
+fn check_board(seed: u64, index: u64, counts: &mut CallCounts) -> Result<(), String> {
     let mut session = Session::new(seed, index);
     if session.fresh {
         let other = session.other_count();
-        check_fresh(&mut session.board, other, counts)?;
+        check_fresh(&mut session.board, other, &mut counts.report)?;
         session.board = noise(&mut source(seed, 4, index));
-        check_fresh(&mut session.board, session.n, counts)?;
+        check_fresh(&mut session.board, session.n, &mut counts.report)?;
     }
     for _ in 0..session.calls {
         if let Some(mut damaged) = session.damaged() {
@@ -194,13 +220,21 @@ fn check_board(seed: u64, index: u64, counts: &mut Counts) -> Result<(), String>
     Ok(())
 }
 
+/// Calls with a report area or with none, and calls with a panel.
+struct CallCounts {
+    report: Counts,
+    panel: Counts,
+}
+
 /// Boards one after another, until there were so many calls.
-pub fn calls(seed: u64, calls: u64) -> Result<Counts, String> {
-    let mut counts = Counts::new(&[0, 1, 2, 3, 4, 5, 6, 7, 10, 11, 13]);
+pub fn calls(seed: u64, calls: u64) -> Result<Vec<(&'static str, Counts)>, String> {
+    let report = Counts::new(&[0, 1, 2, 3, 4, 5, 6, 7, 10, 11, 13]);
+    let panel = Counts::new(&[0, 2, 3, 4, 5, 6, 7, 10, 11, 13]);
+    let mut counts = CallCounts { report, panel };
     let mut index = 0;
-    while counts.total() < calls {
+    while counts.report.total() + counts.panel.total() < calls {
         check_board(seed, index, &mut counts).map_err(|what| format!("seed {seed}, board {index}: {what}"))?;
         index += 1;
     }
-    Ok(counts)
+    Ok(vec![("direct calls", counts.report), ("direct calls with a panel", counts.panel)])
 }

@@ -1,8 +1,9 @@
-//! Document 01's listing as direct calls, and then as a schedule file: prints the report lines. Of a refused call this prints the line that the schedule
-//! program would print; a direct call's lines bear the number 0.
+//! Document 01's listing as direct calls with a report buffer, as direct calls with a panel, and as a schedule file. Of a refused call with a report
+//! buffer this prints the line that the schedule program would print; a direct call's lines bear the number 0. The second call of station 2 is refused by
+//! 4 in all three: a scan has no snap of its own.
 
 use std::io::{self, Write};
-use tickets::{code, Board, MAX_STATIONS, REPORT_LINE};
+use tickets::{code, Board, Record, MAX_STATIONS, REPORT_LINE};
 
 const CALLS: [(u64, u64, u64); 8] = [
     (1, code::BEGIN_LABEL, 70),
@@ -34,6 +35,18 @@ fn main() -> io::Result<()> {
         match board.step(code, station, job, &mut report) {
             Ok(written) => out.write_all(&report[..written])?,
             Err(refusal) => writeln!(out, "{:8}{refusal:3}{:3}{:3}{:11}", 0, 0, 0, 0)?,
+        }
+    }
+    let mut board = Board::fresh(2).expect("2 stations");
+    let mut panel = [Record::default(); MAX_STATIONS];
+    for (station, code, job) in CALLS {
+        match board.step_panel(code, station, job, &mut panel) {
+            Ok(written) => {
+                for Record { place, station, job } in &panel[..written] {
+                    writeln!(out, "panel: place {place}, station {station}, job {job}")?;
+                }
+            }
+            Err(refusal) => writeln!(out, "panel: refused by {refusal}")?,
         }
     }
     let (report, refusal) = tickets::report(FILE);

@@ -1,12 +1,13 @@
-//! speed [ROUNDS [CALLS]]: the direct step call, with its test of refusal 13, against the same call in plain Rust (`bench/src/plain.rs`).
+//! speed [ROUNDS [CALLS]]: the direct step call, with its test of refusal 13, against the same call in plain Rust (`bench/src/plain.rs`): with a report
+//! buffer, and with a panel.
 //!
-//! For each n both run the same calls, all of them valid, from a fresh table, in turn and round after round; the least time of each is taken.
+//! For each n all four run the same calls, all of them valid, from a fresh table, in turn and round after round; the least time of each is taken.
 
 use std::hint::black_box;
 use std::time::Instant;
 use ticket_bench::generate::{schedule, Ending};
 use ticket_bench::plain::{self, Table, LINE};
-use tickets::{Board, MAX_STATIONS, REPORT_LINE};
+use tickets::{Board, Record, MAX_STATIONS, REPORT_LINE};
 
 type Report = [u8; MAX_STATIONS * REPORT_LINE];
 
@@ -36,19 +37,25 @@ fn main() {
     let mut arguments = std::env::args().skip(1).map(|a| a.parse().expect("a number"));
     let rounds = arguments.next().unwrap_or(200);
     let lines = arguments.next().unwrap_or(5000);
-    println!(" n   plain ns  direct ns  ratio");
+    println!("                        report                         panel");
+    println!(" n   plain ns  direct ns  ratio   plain ns  direct ns  ratio");
     for n in [2, 4, 8, 16, 32] {
         let calls = calls(n, lines);
-        let mut best = [f64::MAX; 2];
+        let mut best = [f64::MAX; 4];
         let (mut expected, mut report): (Report, Report) = ([0; MAX_STATIONS * REPORT_LINE], [0; MAX_STATIONS * REPORT_LINE]);
+        let mut expected_panel = [plain::Record { place: 0, station: 0, job: 0 }; MAX_STATIONS];
+        let mut panel = [Record::default(); MAX_STATIONS];
         for round in 0..rounds {
-            let mut table = Table::fresh(n as usize);
-            let mut board = Board::fresh(n).unwrap();
+            let (mut table, mut panel_table) = (Table::fresh(n as usize), Table::fresh(n as usize));
+            let (mut board, mut panel_board) = (Board::fresh(n).unwrap(), Board::fresh(n).unwrap());
             if round == 0 {
                 for &(code, station, job) in &calls {
                     let answer = plain::step(&mut table, code, station, job, &mut expected);
                     assert_eq!(board.step(code, station, job, &mut report), Ok(answer.1));
                     assert_eq!(report, expected);
+                    let answer = plain::step_panel(&mut panel_table, code, station, job, &mut expected_panel);
+                    assert_eq!(panel_board.step_panel(code, station, job, &mut panel), Ok(answer.1));
+                    assert!(panel.iter().zip(&expected_panel).all(|(a, b)| (a.place, a.station, a.job) == (b.place, b.station, b.job)));
                 }
                 continue;
             }
@@ -58,7 +65,14 @@ fn main() {
             best[1] = best[1].min(time(&calls, |code, station, job| {
                 black_box(board.step(code, station, job, &mut report)).unwrap();
             }));
+            best[2] = best[2].min(time(&calls, |code, station, job| {
+                black_box(plain::step_panel(&mut panel_table, code, station, job, &mut expected_panel));
+            }));
+            best[3] = best[3].min(time(&calls, |code, station, job| {
+                black_box(panel_board.step_panel(code, station, job, &mut panel)).unwrap();
+            }));
         }
-        println!("{n:2}  {:9.0}  {:9.0}  {:5.2}", best[0], best[1], best[1] / best[0]);
+        let columns = |plain: f64, direct: f64| format!("{plain:9.0}  {direct:9.0}  {:5.2}", direct / plain);
+        println!("{n:2}  {}  {}", columns(best[0], best[1]), columns(best[2], best[3]));
     }
 }

@@ -11,7 +11,7 @@ pub const MAX_DIGITS: usize = MAX_STATIONS - 1;
 pub const LINE: usize = 18;
 pub const REPORT_LINE: usize = 29;
 
-/// The steps of a call. A label operation is begin, snap, update, end; a scan is begin, snap, end.
+/// The steps of a call. A label operation is begin, snap, update, end; a scan is begin, which is its snap too, and end.
 pub mod code {
     pub const BEGIN_LABEL: u64 = 1;
     pub const BEGIN_SCAN: u64 = 2;
@@ -33,7 +33,8 @@ pub mod refusal {
     pub const NO_SNAP_DUE: u64 = 4;
     pub const NO_UPDATE_DUE: u64 = 5;
     pub const NO_END_DUE: u64 = 6;
-    /// The buffer is shorter than the report: of the end of a scan, 29 bytes for each station, or of a whole file.
+    /// The buffer is shorter than the report: of the end of a scan, 29 bytes for each station, or of a whole file. Or the end of a scan has fewer records
+    /// than stations.
     pub const SHORT_REPORT: u64 = 7;
     /// A line that is not 18 bytes, or its last one not a line's end. It ends a file.
     pub const INCOMPLETE: u64 = 8;
@@ -51,7 +52,7 @@ pub mod refusal {
 /// The planes of `Board::labels` and `Board::jobs`: what a station has, and what its next update will make of it.
 pub const CURRENT: usize = 0;
 pub const PENDING: usize = 1;
-/// The plane of `Board::control`: 0 idle, 1 and 2 due to snap for a label and for a scan, 3 due to update, 4 and 5 due to end a label and a scan.
+/// The plane of `Board::control`: 0 idle, 1 due to snap (for a label), 2 due to update, 3 and 4 due to end a label and a scan.
 pub const PHASES: usize = 0;
 /// The rows of a scan result in `Board::results`: the stations, from 1, oldest first, and their jobs.
 pub const STATIONS: usize = 0;
@@ -74,12 +75,31 @@ pub struct Board {
     pub control: Control,
 }
 
-/// What an exported function answers: the number of the refusal, 0 for none, and how many bytes of report were written.
+/// A place of a scan, for callers who lend a panel of records in place of a report buffer. Places and stations count from 1.
+#[repr(C)]
+#[derive(Clone, Copy, PartialEq, Eq, Default, Debug)]
+pub struct Record {
+    pub place: u32,
+    pub station: u32,
+    pub job: u32,
+}
+
+/// What an exported function answers: the number of the refusal, 0 for none, and how many bytes of report or records were written.
 #[repr(C)]
 #[derive(Clone, Copy, PartialEq, Eq, Debug)]
 pub struct Answer {
     pub refusal: Refusal,
     pub written: u64,
+}
+
+impl Answer {
+    /// How much was written, or the refusal.
+    pub fn written(self) -> Result<usize, Refusal> {
+        match self {
+            Answer { refusal: 0, written } => Ok(written as usize),
+            Answer { refusal, .. } => Err(refusal),
+        }
+    }
 }
 
 // No padding, so every byte is a number's; the C header has the same layout.
@@ -90,6 +110,7 @@ const _: () = {
     assert!(offset_of!(Board, control) == 10_440);
     assert!(size_of::<Board>() == 10_472 && align_of::<Board>() == 8);
     assert!(size_of::<Answer>() == 16 && align_of::<Answer>() == 8);
+    assert!(size_of::<Record>() == 12 && align_of::<Record>() == 4);
 };
 
 extern "C" {
@@ -105,6 +126,18 @@ extern "C" {
         job: u64,
         report: *mut u8,
         report_len: usize,
+    ) -> Answer;
+    fn tickets_step_panel(
+        count: u64,
+        labels: &mut Labels,
+        jobs: &mut Jobs,
+        control: &mut Control,
+        results: &mut Results,
+        code: u64,
+        station: u64,
+        job: u64,
+        panel: *mut Record,
+        panel_len: usize,
     ) -> Answer;
     fn tickets_report(schedule: *const u8, schedule_len: usize, report: *mut u8, report_len: usize) -> Answer;
 }
@@ -165,13 +198,17 @@ impl Board {
     ///
     /// The end of a scan writes a line of 29 bytes for each station, oldest first; no other step writes any.
     pub fn step(&mut self, code: u64, station: u64, job: u64, report: &mut [u8]) -> Result<usize, Refusal> {
-        match self.answer(code, station, job, report) {
-            Answer { refusal: 0, written } => Ok(written as usize),
-            Answer { refusal, .. } => Err(refusal),
-        }
+        self.answer(code, station, job, report).written()
     }
 
-    /// The same, with the answer as it stands.
+    /// The same step with a panel: how many records were written to its front, or the refusal. A refused call changes nothing.
+    ///
+    /// The end of a scan writes a record for each station, oldest first, and leaves those past them; no other step writes any.
+    pub fn step_panel(&mut self, code: u64, station: u64, job: u64, panel: &mut [Record]) -> Result<usize, Refusal> {
+        self.answer_panel(code, station, job, panel).written()
+    }
+
+    /// `step` with the answer as it stands.
     pub fn answer(&mut self, code: u64, station: u64, job: u64, report: &mut [u8]) -> Answer {
         // SAFETY: the function is declared as the library exports it; it takes any numbers and any content of the arrays and of the buffer, which are
         // lent for the call and do not overlap. It writes at most `report.len()` bytes to the buffer.
@@ -187,6 +224,25 @@ impl Board {
                 job,
                 report.as_mut_ptr(),
                 report.len(),
+            )
+        }
+    }
+
+    /// `step_panel` with the answer as it stands.
+    pub fn answer_panel(&mut self, code: u64, station: u64, job: u64, panel: &mut [Record]) -> Answer {
+        // SAFETY: as above. The library takes the panel as rows of three numbers, which is the layout of a record, and writes at most `panel.len()` of them.
+        unsafe {
+            tickets_step_panel(
+                self.count,
+                &mut self.labels,
+                &mut self.jobs,
+                &mut self.control,
+                &mut self.results,
+                code,
+                station,
+                job,
+                panel.as_mut_ptr(),
+                panel.len(),
             )
         }
     }

@@ -1,19 +1,12 @@
-//! The compiled library against the plain Rust table of `bench`, which was written from document 01 alone.
+//! The compiled library against the plain Rust table of `bench`, which was written from documents 01 and 02 (Card 1) alone.
 
 use std::array::from_fn;
 use ticket_bench::generate::Random;
 use ticket_bench::plain::{self, Operation, Phase, Station, Table};
-use tickets::{code, refusal, Board, CURRENT, JOBS, MAX_DIGITS, MAX_STATIONS, PENDING, PHASES, REPORT_LINE, STATIONS};
+use tickets::{code, refusal, Answer, Board, Record, CURRENT, JOBS, MAX_DIGITS, MAX_STATIONS, PENDING, PHASES, REPORT_LINE, STATIONS};
 
 /// The phases, in the order of their numbers.
-const NAMED: [Phase; 6] = [
-    Phase::Idle,
-    Phase::Snap(Operation::Label),
-    Phase::Snap(Operation::Scan),
-    Phase::Update,
-    Phase::End(Operation::Label),
-    Phase::End(Operation::Scan),
-];
+const NAMED: [Phase; 5] = [Phase::Idle, Phase::Snap, Phase::Update, Phase::End(Operation::Label), Phase::End(Operation::Scan)];
 
 /// The plain table with the contents of a board; none if a phase is no phase's number, or a station in a result no number of a byte. Such boards are
 /// refused by 13.
@@ -51,48 +44,86 @@ fn bytes(board: &mut Board) -> &mut [u8; size_of::<Board>()] {
 
 const GUARD: usize = 64;
 
-/// A board and a report buffer in the midst of bytes that no call may touch.
+/// A board in the midst of bytes that no call may touch; report buffers and panels are made for each call, with their own guards.
 #[repr(C)]
 struct Guarded {
     before: [u8; GUARD],
     board: Board,
     after: [u8; GUARD],
     buffer: Vec<u8>,
+    panel: Vec<Record>,
 }
 
-#[derive(Clone, Copy)]
+/// What a caller lends for the result of a scan: a report buffer of so many bytes, or a panel of so many records.
+#[derive(Clone, Copy, Debug)]
+enum Lent {
+    Report(usize),
+    Panel(usize),
+}
+
+#[derive(Clone, Copy, Debug)]
 struct Call {
     code: u64,
     station: u64,
     job: u64,
-    room: usize,
+    lent: Lent,
+}
+
+/// What a record of a panel holds before a call, by its place there: nothing that a call would write.
+fn old(at: usize) -> Record {
+    Record { place: at as u32 ^ 0x3333_3333, station: u32::MAX - at as u32, job: at as u32 * 0x0101_0101 }
+}
+
+fn record(record: plain::Record) -> Record {
+    let plain::Record { place, station, job } = record;
+    Record { place, station, job }
+}
+
+fn plain_record(record: Record) -> plain::Record {
+    let Record { place, station, job } = record;
+    plain::Record { place, station, job }
 }
 
 impl Guarded {
     fn new(board: Board) -> Guarded {
-        Guarded { before: [0xa5; GUARD], board, after: [0x5a; GUARD], buffer: Vec::new() }
+        Guarded { before: [0xa5; GUARD], board, after: [0x5a; GUARD], buffer: Vec::new(), panel: Vec::new() }
     }
 
-    /// Makes the call, and holds answer, board, report buffer and guards to what the plain step says. The refusal is returned.
+    /// Makes the call, and holds answer, board, report buffer or panel, and guards to what the plain step says. The refusal is returned.
     fn call(&mut self, call: Call) -> u64 {
-        let Call { code, station, job, room } = call;
-        self.buffer.clear();
-        self.buffer.extend((0..GUARD + room + GUARD).map(|i| i as u8 ^ 0x33));
-        let mut buffer = self.buffer.clone();
+        let Call { code, station, job, lent } = call;
         let mut expected = self.board.clone();
-        let (refused, written) = match table(&expected) {
-            Some(mut table) => {
-                let answer = plain::step(&mut table, code, station, job, &mut buffer[GUARD..GUARD + room]);
-                expected = board(&table);
-                answer
+        let mut table = table(&expected);
+        let (answer, expected_answer) = match lent {
+            Lent::Report(room) => {
+                self.buffer.clear();
+                self.buffer.extend((0..GUARD + room + GUARD).map(|i| i as u8 ^ 0x33));
+                let mut buffer = self.buffer.clone();
+                let report = &mut buffer[GUARD..GUARD + room];
+                let expected = table.as_mut().map_or((refusal::BOARD, 0), |table| plain::step(table, code, station, job, report));
+                let answer = self.board.answer(code, station, job, &mut self.buffer[GUARD..GUARD + room]);
+                assert!(self.buffer == buffer, "{call:?}");
+                (answer, expected)
             }
-            None => (refusal::BOARD, 0),
+            Lent::Panel(room) => {
+                self.panel.clear();
+                self.panel.extend((0..GUARD + room + GUARD).map(old));
+                let mut panel: Vec<plain::Record> = self.panel.iter().copied().map(plain_record).collect();
+                let records = &mut panel[GUARD..GUARD + room];
+                let expected = table.as_mut().map_or((refusal::BOARD, 0), |table| plain::step_panel(table, code, station, job, records));
+                let answer = self.board.answer_panel(code, station, job, &mut self.panel[GUARD..GUARD + room]);
+                assert!(self.panel.iter().copied().eq(panel.into_iter().map(record)), "{call:?}");
+                (answer, expected)
+            }
         };
-        let answer = self.board.step(code, station, job, &mut self.buffer[GUARD..GUARD + room]);
-        assert_eq!(answer, if refused == 0 { Ok(written) } else { Err(refused) });
-        assert!(self.board == expected && self.buffer == buffer);
+        if let Some(table) = &table {
+            expected = board(table);
+        }
+        let (refusal, written) = expected_answer;
+        assert_eq!(answer, Answer { refusal, written: written as u64 }, "{call:?}");
+        assert!(self.board == expected, "{call:?}");
         assert!(self.before == [0xa5; GUARD] && self.after == [0x5a; GUARD]);
-        refused
+        refusal
     }
 }
 
@@ -102,8 +133,8 @@ fn random_call(random: &mut Random, board: &Board) -> Call {
     let i = random.below(n);
     let due = match board.control[PHASES][i as usize] {
         0 => 1 + random.below(2),
-        1 | 2 => 3,
-        3 => 4,
+        1 => 3,
+        2 => 4,
         _ => 5,
     };
     let code = if random.one_in(16) { [0, 1, 2, 3, 4, 5, 6, 257, 1 << 32 | 1][random.below(9) as usize] } else { due };
@@ -113,9 +144,16 @@ fn random_call(random: &mut Random, board: &Board) -> Call {
         _ if code == 1 => 1 + random.below(1000),
         _ => 0,
     };
-    let lines = n as usize * REPORT_LINE;
-    let room = if random.one_in(8) { [0, 1, lines - 1, lines, lines + 1][random.below(5) as usize] } else { lines };
-    Call { code, station, job, room }
+    let n = n as usize;
+    let lines = n * REPORT_LINE;
+    let lent = match random.below(16) {
+        0 => Lent::Report([0, 1, lines - 1, lines, lines + 1][random.below(5) as usize]),
+        1..8 => Lent::Report(lines),
+        8 | 9 => Lent::Panel([0, 1, n - 1, n + 1, 33, 40][random.below(6) as usize]),
+        10 | 11 => Lent::Panel(MAX_STATIONS),
+        _ => Lent::Panel(n),
+    };
+    Call { code, station, job, lent }
 }
 
 /// A board that so many calls on a fresh one have led to.
@@ -135,11 +173,143 @@ fn listing() {
         assert_eq!(board.step(code, 1, job, &mut report), Ok(0));
     }
     assert_eq!(board.step(code::BEGIN_SCAN, 2, 0, &mut report), Ok(0));
-    assert_eq!(board.step(code::SNAP, 2, 0, &mut report), Ok(0));
+    assert_eq!(board.step(code::SNAP, 2, 0, &mut report), Err(refusal::NO_SNAP_DUE));
     assert_eq!(board.step(code::END, 2, 0, &mut report), Ok(2 * REPORT_LINE));
     assert_eq!(&report[..2 * REPORT_LINE], b"       0  0  1  2          0\n       0  0  2  1         70\n");
     assert!(report[2 * REPORT_LINE..].iter().all(|&byte| byte == b'?'));
     assert_eq!(board.step(code::SNAP, 3, 0, &mut report), Err(refusal::STATION));
+}
+
+#[test]
+fn listing_on_a_panel() {
+    let mut board = Board::fresh(2).unwrap();
+    let mut panel: [Record; MAX_STATIONS] = from_fn(old);
+    let untouched = panel;
+    for (code, job) in [(code::BEGIN_LABEL, 70), (code::SNAP, 0), (code::UPDATE, 0), (code::END, 0)] {
+        assert_eq!(board.step_panel(code, 1, job, &mut panel), Ok(0));
+    }
+    assert_eq!(board.step_panel(code::BEGIN_SCAN, 2, 0, &mut panel), Ok(0));
+    assert_eq!(board.step_panel(code::SNAP, 2, 0, &mut panel), Err(refusal::NO_SNAP_DUE));
+    assert_eq!(panel, untouched);
+    assert_eq!(board.step_panel(code::END, 2, 0, &mut panel), Ok(2));
+    assert_eq!(panel[..2], [Record { place: 1, station: 2, job: 0 }, Record { place: 2, station: 1, job: 70 }]);
+    assert_eq!(panel[2..], untouched[2..]);
+    let shown = panel;
+    assert_eq!(board.step_panel(code::SNAP, 3, 0, &mut panel), Err(refusal::STATION));
+    assert_eq!(panel, shown);
+}
+
+/// A board of n stations, with the phase of station 1 after each number of these calls: it takes a ticket, and then scans.
+fn phases(n: u64) -> Vec<Board> {
+    let mut board = Board::fresh(n).unwrap();
+    let mut boards = vec![board.clone()];
+    for (code, job) in [(code::BEGIN_LABEL, 70), (code::SNAP, 0), (code::UPDATE, 0), (code::END, 0), (code::BEGIN_SCAN, 0), (code::END, 0)] {
+        board.step(code, 1, job, &mut [0; MAX_STATIONS * REPORT_LINE]).unwrap();
+        boards.push(board.clone());
+    }
+    let numbers: Vec<u8> = boards.iter().map(|board| board.control[PHASES][0]).collect();
+    assert_eq!(numbers, [0, 1, 2, 3, 0, 4, 0]);
+    boards
+}
+
+/// Each step of a station in each of its phases, with panels around the number of stations: what is answered, and all records.
+#[test]
+fn panels_of_all_lengths() {
+    for n in 2..=MAX_STATIONS {
+        for before in phases(n as u64) {
+            let due = [(0, code::BEGIN_LABEL), (0, code::BEGIN_SCAN), (1, code::SNAP), (2, code::UPDATE), (3, code::END), (4, code::END)];
+            for (code, refused) in [(1, 3), (2, 3), (3, 4), (4, 5), (5, 6)] {
+                for len in [0, 1, n - 1, n, n + 1, 32, 33, 40] {
+                    let mut guarded = Guarded::new(before.clone());
+                    let call = Call { code, station: 1, job: u64::from(code == 1), lent: Lent::Panel(len) };
+                    let phase = before.control[PHASES][0];
+                    let ends_scan = (phase, code) == (4, code::END);
+                    let expected = match due.contains(&(phase, code)) {
+                        false => refused,
+                        true if ends_scan && len < n => refusal::SHORT_REPORT,
+                        true => 0,
+                    };
+                    assert_eq!(guarded.call(call), expected, "{call:?}");
+                    assert_eq!(guarded.board == before, expected != 0, "{call:?}");
+                    // The scan that begins after station 1's ticket has it last.
+                    let filled = if ends_scan && expected == 0 { n } else { 0 };
+                    let order = (2..=n as u32).chain([1]);
+                    let records = (1..).zip(order).map(|(place, station)| Record { place, station, job: if station == 1 { 70 } else { 0 } });
+                    let all: Vec<Record> = records.take(filled).chain((GUARD + filled..GUARD + len).map(old)).collect();
+                    assert_eq!(guarded.panel[GUARD..GUARD + len], all, "{call:?}");
+                }
+            }
+        }
+    }
+}
+
+/// Each refusal of a call with a panel, by a panel that is too short for the scan and by one that is not; the first that applies is given.
+#[test]
+fn every_refusal_with_a_panel() {
+    const N: u64 = 3;
+    let boards = phases(N);
+    let [idle, snap, update, end, _, scan, _] = &boards[..] else { panic!("seven boards") };
+    let mut damaged = scan.clone();
+    damaged.control[PHASES][0] = 5;
+    let calls = [
+        (scan, 5, N + 1, 0, refusal::STATION),
+        (scan, 5, 0, 0, refusal::STATION),
+        (scan, 5, N + 1, 7, refusal::STATION),
+        (scan, 1, 1, 7, refusal::BUSY),
+        (scan, 2, 1, 0, refusal::BUSY),
+        (snap, 2, 1, 0, refusal::BUSY),
+        (scan, 3, 1, 0, refusal::NO_SNAP_DUE),
+        (idle, 3, 1, 0, refusal::NO_SNAP_DUE),
+        (scan, 4, 1, 0, refusal::NO_UPDATE_DUE),
+        (snap, 4, 1, 0, refusal::NO_UPDATE_DUE),
+        (scan, 5, 2, 0, refusal::NO_END_DUE),
+        (update, 5, 1, 0, refusal::NO_END_DUE),
+        (scan, 0, 1, 0, refusal::CODE),
+        (scan, 6, N + 1, 7, refusal::CODE),
+        (scan, 1 << 32 | 5, 1, 0, refusal::CODE),
+        (scan, 5, 1, 7, refusal::JOB),
+        (scan, 3, 1, 7, refusal::JOB),
+        (end, 5, 1, 1 << 32, refusal::JOB),
+        (idle, 1, 1, 0, refusal::JOB),
+        (idle, 1, 1, 1 << 32, refusal::JOB),
+        (&damaged, 5, 1, 0, refusal::BOARD),
+        (&damaged, 9, 9, 9, refusal::BOARD),
+    ];
+    for (before, code, station, job, refused) in calls {
+        for len in [0, N as usize - 1, N as usize, MAX_STATIONS, MAX_STATIONS + 1] {
+            let mut guarded = Guarded::new(before.clone());
+            let call = Call { code, station, job, lent: Lent::Panel(len) };
+            assert_eq!(guarded.call(call), refused, "{call:?}");
+            assert!(guarded.board == *before && (0..GUARD + len + GUARD).map(old).eq(guarded.panel.iter().copied()), "{call:?}");
+        }
+    }
+    for len in 0..N as usize {
+        let mut guarded = Guarded::new(scan.clone());
+        assert_eq!(guarded.call(Call { code: code::END, station: 1, job: 0, lent: Lent::Panel(len) }), refusal::SHORT_REPORT);
+        assert!(guarded.board == *scan && (0..GUARD + len + GUARD).map(old).eq(guarded.panel.iter().copied()));
+    }
+}
+
+/// Phase numbers from 5 on are none, for a station of the board and past them, whatever is called.
+#[test]
+fn phase_numbers() {
+    for n in [2, 17, 32] {
+        for number in 0..=255 {
+            let mut guarded = Guarded::new(Board::fresh(n).unwrap());
+            guarded.board.control[PHASES][1] = number;
+            for lent in [Lent::Report(MAX_STATIONS * REPORT_LINE), Lent::Panel(MAX_STATIONS)] {
+                let refused = guarded.call(Call { code: code::BEGIN_SCAN, station: 1, job: 0, lent });
+                assert_eq!(refused == refusal::BOARD, number >= 5, "phase {number}");
+                guarded.board.control[PHASES][0] = 0;
+            }
+            if n < 32 {
+                guarded.board = Board::fresh(n).unwrap();
+                guarded.board.control[PHASES][31] = number;
+                let refused = guarded.call(Call { code: code::BEGIN_SCAN, station: 1, job: 0, lent: Lent::Panel(MAX_STATIONS) });
+                assert_eq!(refused == refusal::BOARD, number > 0, "phase {number} past n");
+            }
+        }
+    }
 }
 
 #[test]
@@ -229,7 +399,7 @@ fn random_contents() {
         for i in 0..n {
             b.jobs[CURRENT][i] = random.word() as u32;
             b.jobs[PENDING][i] = random.word() as u32;
-            b.control[PHASES][i] = random.below(6) as u8;
+            b.control[PHASES][i] = random.below(5) as u8;
             for place in (1..n).rev() {
                 b.results[i][STATIONS].swap(place, random.below(place as u64 + 1) as usize);
             }
@@ -239,7 +409,7 @@ fn random_contents() {
         }
         let (i, place, position) = (random.below(32) as usize, random.below(32) as usize, random.below(MAX_DIGITS as u64) as usize);
         match random.below(40) {
-            0 => b.control[PHASES][i] = 6 + random.below(250) as u8,
+            0 => b.control[PHASES][i] = 5 + random.below(251) as u8,
             1 => b.labels[CURRENT][i][position] = random.below(7) as u8,
             2 => b.labels[PENDING][i][position] = random.below(7) as u8,
             3 => b.results[i][STATIONS][place] = random.below(34) as u32,

@@ -18,7 +18,7 @@ use Rattle.arrays.specs.WellFormed.{resultFits, resultFresh, stationFits
 -- one of the n stations
 pub record Fits (a : Arrays) (i : ℕ) : Type 0 where
   pub label : (x : Bool) → rowFits 31 (a .count - 1) (labelRow a x i) ≡ true
-  pub phase : cell (a .control) 0 i 0 ≤ 5
+  pub phase : cell (a .control) 0 i 0 ≤ 4
   pub result : resultFits (a .count) (rowsAt a i) ≡ true
 
 -- a place past them
@@ -44,11 +44,11 @@ fits : (a : Arrays) (i : ℕ) → stationFits a i ≡ true → Fits a i
 unfolding stationFits
 fits a i e =
     let result = and-both _ (resultFits (a .count) (rowsAt a i)) e in
-    let phase = and-both _ (leb (cell (a .control) 0 i 0) 5) (result .0) in
+    let phase = and-both _ (leb (cell (a .control) 0 i 0) 4) (result .0) in
     let label = and-both (rowFits 31 (a .count - 1) (labelRow a false i)) (rowFits 31 (a .count - 1) (labelRow a true i)) (phase .0) in
     record {
       label = either (λ x. rowFits 31 (a .count - 1) (labelRow a x i) ≡ true) (label .0) (label .1);
-      phase = leb-true (cell (a .control) 0 i 0) 5 (phase .1);
+      phase = leb-true (cell (a .control) 0 i 0) 4 (phase .1);
       result = result .1;
     }
 

@@ -21,7 +21,7 @@ use Rattle.label.proofs.RowLaws.{digit-row, row-digit, label-fits, fits-behind}
 use Rattle.simulation.specs.Calls.{Call, Phase, Idle, Snap, Update, End, Label, Scan, Entry, entry, Process}
 use Rattle.simulation.specs.Machine.{original, digits, freshRest, State, step}
 use Rattle.transition.specs.Forms.{TableAnswer, stepOf}
-use Rattle.transition.proofs.Written.{Unused, Writable, writable-step}
+use Rattle.transition.proofs.Written.{Kept, Unused, Writable, writable-step}
 use Rattle.transition.proofs.Reached.{Reached, choice-ring-free}
 use Rattle.transition.proofs.Theorem.{Lawful, step-written}
 use Rattle.arrays.specs.Arrays.{Rows, Arrays, arrays, cell, plane, planes, phaseNumber, phaseFor, resultRows, resultOf, rowsAt}
@@ -60,27 +60,33 @@ one-list xs d e = ext-getD d _ _ (sym e) each
 
 -- PHASES
 
-pub phase-back : (p : Phase) → phaseFor (phaseNumber p) ≡ p
-phase-back Idle = refl
-phase-back (Snap Label) = refl
-phase-back (Snap Scan) = refl
-phase-back Update = refl
-phase-back (End Label) = refl
-phase-back (End Scan) = refl
+pub phase-back : (p : Phase) → Kept p → phaseFor (phaseNumber p) ≡ p
+phase-back Idle k = refl
+phase-back (Snap Label) k = refl
+phase-back Update k = refl
+phase-back (End Label) k = refl
+phase-back (End Scan) k = refl
 
-pub phase-low : (p : Phase) → phaseNumber p ≤ 5
+pub phase-low : (p : Phase) → phaseNumber p ≤ 4
 phase-low Idle = omega arith
-phase-low (Snap Label) = omega arith
-phase-low (Snap Scan) = omega arith
+phase-low (Snap o) = omega arith
 phase-low Update = omega arith
 phase-low (End Label) = omega arith
 phase-low (End Scan) = omega arith
 
-pub number-back : (b : ℕ) → b ≤ 5 → phaseNumber (phaseFor b) ≡ b
-number-back b h = eqb-true _ b (every-at 6 (λ k. eqb (phaseNumber (phaseFor k)) k) all b (omega arith))
+pub number-back : (b : ℕ) → b ≤ 4 → phaseNumber (phaseFor b) ≡ b
+number-back b h = eqb-true _ b (every-at 5 (λ k. eqb (phaseNumber (phaseFor k)) k) all b (omega arith))
   where
-    all : every 6 (λ k. eqb (phaseNumber (phaseFor k)) k) ≡ true
+    all : every 5 (λ k. eqb (phaseNumber (phaseFor k)) k) ≡ true
     all = unfold every in refl
+
+-- every number stands for a phase that a table keeps
+number-kept : (b : ℕ) → Kept (phaseFor b)
+number-kept b = either (eqb b 0) Idle _ tt (either (eqb b 1) (Snap Label) _ tt (either (eqb b 2) Update _ tt (either (eqb b 3) (End Label) (End Scan) tt tt)))
+  where
+    either : (t : Bool) (p q : Phase) → Kept p → Kept q → Kept (cond t p q)
+    either true p q h k = h
+    either false p q h k = k
 
 -- RESULTS
 
@@ -175,7 +181,7 @@ module _ (n : ℕ) (high : n ≤ 32) (s : State Labels.Label) (w : Writable n s)
         job = job-at false i y;
         pendingJob = job-at true i y;
         phase =
-            (ap phaseFor (phase-at i) ∙ phase-back (s .rest .process i .phase)) y;
+            (ap phaseFor (phase-at i) ∙ phase-back (s .rest .process i .phase) (w .phase i)) y;
       };
       result = λ i. (ap (resultOf n) (rows-at i) ∙ result-back n (s .rest .result i) high (w .long i)) y;
     };
@@ -240,7 +246,7 @@ module _ (n : ℕ) (low : 2 ≤ n) (high : n ≤ 32) (s : State Labels.Label) (r
   unfolding wellFormed stationFits placeFresh arraysOf
   reached-passes = both (both (both (within-of 2 32 n low high)
       (every-all n _ (λ i l. both (both (both (rows-fit false i l) (rows-fit true i l))
-      (le-leb (cell (arraysOf n s .control) 0 i 0) 5 (rw (phase-at n high s w i) (phase-low (s .rest .process i .phase)))))
+      (le-leb (cell (arraysOf n s .control) 0 i 0) 4 (rw (phase-at n high s w i) (phase-low (s .rest .process i .phase)))))
       (rw (rows-at n high s w i) (result-fits i)))))
       (every-all (32 - n) _ (λ i l. fresh (n + i) (omega arith))))
       (ap (λ (u : State Labels.Label). noRing (n - 1) (u .labels false)) (held-written n high s w) ∙ choice-ring-free n (omega arith) r (λ i. false))
@@ -254,7 +260,7 @@ module _ (n : ℕ) (low : 2 ≤ n) (high : n ≤ 32) (s : State Labels.Label) (r
 
 pub lent-lawful : Lawful lent
 unfolding arraysOf
-lent-lawful = record { counted = λ n s. refl; held = held-written; passes = reached-passes }
+lent-lawful = record { board = refl; counted = λ n s. refl; held = held-written; passes = reached-passes }
 
 -- WELL-FORMED ARRAYS are those of the state that they hold
 module _ (a : Arrays) (g : Shaped a) (e : wellFormed a ≡ true) where
@@ -269,7 +275,7 @@ module _ (a : Arrays) (g : Shaped a) (e : wellFormed a ≡ true) where
       (λ u. fits-blank (a .count) (rowsAt a i) high (passed a e .each i u .result))
       (λ u. fresh-blank (a .count) (rowsAt a i) (passed a e .rest i (omega arith) l .result))
 
-  phase-known : (i : ℕ) → i < 32 → cell (a .control) 0 i 0 ≤ 5
+  phase-known : (i : ℕ) → i < 32 → cell (a .control) 0 i 0 ≤ 4
   phase-known i l = by-cases (decLt i (a .count)) (λ u. passed a e .each i u .phase) (λ u. omega (arith, passed a e .rest i (omega arith) l .phase))
 
   pub labels-back : planes (λ x i. row 31 (stateOf a .labels x i)) ≡ a .labels
@@ -303,6 +309,7 @@ module _ (a : Arrays) (g : Shaped a) (e : wellFormed a ≡ true) where
         (λ l. List·getD-eq-default (labelRow a x i) 1 (omega (arith, label-long x i l)))
         (λ l. ap (λ (r : Lists.List ℕ). digit r p) (label-none x i (omega arith)));
     long = λ i. length-tabulate (a .count) 0 _;
+    phase = λ i. number-kept (cell (a .control) 0 i 0);
     past = λ i h. by-cases (decLt i 32) (λ l. unused i h l) (λ l. missing i (omega arith));
   }
     where

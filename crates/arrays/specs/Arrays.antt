@@ -42,22 +42,21 @@ plane x = cond x 1 0
 abbrev pub planes : {A : Type 0} → (Bool → ℕ → A) → Lists.List (Lists.List A)
 planes f = tabulate 32 0 (f false) ∷ tabulate 32 0 (f true) ∷ []
 
--- the number of a phase, and the phase of a number; from 6 on a number is that of none, and is read as 5 is
+-- the number of a phase, and the phase of a number; from 5 on a number is that of none, and is read as 4 is. Since a scan snaps as it begins (02, Card 1), a
+-- table has no process that is due to snap for one: such a phase has no number of its own.
 abbrev pub phaseNumber : Phase → ℕ
 phaseNumber Idle = 0
-phaseNumber (Snap Label) = 1
-phaseNumber (Snap Scan) = 2
-phaseNumber Update = 3
-phaseNumber (End Label) = 4
-phaseNumber (End Scan) = 5
+phaseNumber (Snap o) = 1
+phaseNumber Update = 2
+phaseNumber (End Label) = 3
+phaseNumber (End Scan) = 4
 
 abbrev pub phaseFor : ℕ → Phase
 phaseFor b =
     cond (eqb b 0) Idle
     (cond (eqb b 1) (Snap Label)
-    (cond (eqb b 2) (Snap Scan)
-    (cond (eqb b 3) Update
-    (cond (eqb b 4) (End Label) (End Scan)))))
+    (cond (eqb b 2) Update
+    (cond (eqb b 3) (End Label) (End Scan))))
 
 -- the rows of a scan result, with 0s past its last entry; and the result of n entries that rows hold
 abbrev pub resultRows : Lists.List Entry → Rows

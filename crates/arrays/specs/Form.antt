@@ -1,7 +1,8 @@
 -- The arrays as a form in which a table keeps a state.
+use Rattle.simulation.specs.Machine.{original}
 use Rattle.transition.specs.Forms.{Form}
 use Rattle.arrays.specs.Arrays.{Arrays, stateOf, arraysOf}
 use Rattle.arrays.specs.WellFormed.{wellFormed}
 
 abbrev pub lent : Form
-lent = record { Table = Arrays; count = λ a. a .count; state = stateOf; written = arraysOf; wellFormed = wellFormed }
+lent = record { board = original; Table = Arrays; count = λ a. a .count; state = stateOf; written = arraysOf; wellFormed = wellFormed }

@@ -21,7 +21,7 @@ module _ (a : Arrays) where
   unfoldable pub stationFits : ℕ → Bool
   stationFits i =
       rowFits 31 (a .count - 1) (labelRow a false i) && rowFits 31 (a .count - 1) (labelRow a true i)
-      && leb (cell (a .control) 0 i 0) 5 && resultFits (a .count) (rowsAt a i)
+      && leb (cell (a .control) 0 i 0) 4 && resultFits (a .count) (rowsAt a i)
 
   -- a place past n has its fresh contents
   unfoldable pub placeFresh : ℕ → Bool

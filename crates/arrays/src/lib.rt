@@ -28,15 +28,13 @@ pub type Results = [[[u32; 32]; 2]; 32];
 // The numbers of the phases.
 pub const IDLE: u8 = 0;
 
-pub const SNAP_LABEL: u8 = 1;
+pub const SNAP: u8 = 1;
 
-pub const SNAP_SCAN: u8 = 2;
+pub const UPDATE: u8 = 2;
 
-pub const UPDATE: u8 = 3;
+pub const END_LABEL: u8 = 3;
 
-pub const END_LABEL: u8 = 4;
-
-pub const END_SCAN: u8 = 5;
+pub const END_SCAN: u8 = 4;
 
 // The phase that a number stands for.
 pub fn phase_of(b: u8) -> Phase
@@ -45,11 +43,8 @@ pub fn phase_of(b: u8) -> Phase
     if b == IDLE {
         return Phase::Idle;
     }
-    if b == SNAP_LABEL {
-        return Phase::Snap(Operation::Label);
-    }
-    if b == SNAP_SCAN {
-        return Phase::Snap(Operation::Scan);
+    if b == SNAP {
+        return Phase::Snap;
     }
     if b == UPDATE {
         return Phase::Update;

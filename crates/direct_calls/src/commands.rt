@@ -26,6 +26,7 @@ fn fits(n: Command) -> bool {
         b'f' => below(n, BAD, 1, 1, 1),
         b's' => below(n, BAD, BAD, BAD, 930),
         b'n' => below(n, 6, BAD, BAD, 930),
+        b'r' => below(n, BAD, BAD, BAD, 34),
         b'l' => below(n, 32, 1, 1, 1),
         b'd' | b'p' => below(n, 32, 31, 256, 1),
         b'e' => below(n, 32, 32, 256, 4294967296),

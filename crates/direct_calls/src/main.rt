@@ -1,6 +1,6 @@
 // Direct calls of the steps, as the command file on standard input asks for them. The file is run twice: step calls get their tables by value, and then
-// from an owner that lends them; calls by name and sessions get them by value both times. A call shows the buffer that it lent, its refusal number and its
-// bytes of report. The file `stdout` beside this folder has what document 01 asks.
+// from an owner that lends them. Calls by name and sessions get them by value both times, and calls with a panel from an owner both times. A call shows the
+// buffer or the panel, its refusal number and its count, of bytes or of records. The file `stdout` beside this folder has what document 01 with Card 1 asks.
 //
 // A line that starts with # or is empty is shown as it is. Any other is a command: a letter and four columns of 12 bytes, with 0 in those that it
 // does not use; or one of `o` and `v`, which end with a line of a schedule file. Places and positions count from 0. A bad line ends the run.
@@ -8,6 +8,7 @@
 //     f n                        makes a fresh table of n stations
 //     s code station job room    makes a step call that lends so many bytes, each a dot
 //     n code station job room    makes the call that has the step's name; only a begin takes the job, and only an end the room
+//     r code station job records makes a step call that lends so many of a panel's 32 records, and shows all of these, each a dot if it stayed
 //     l place                    shows the first two digits of the label
 //     d place position digit     changes a digit of the label
 //     p place position digit     changes a digit of the pending label
@@ -21,6 +22,7 @@
 //     x lines                    makes it so many lines that the session has counted, the header among them
 mod commands;
 mod edits;
+mod panels;
 mod sessions;
 
 use commands::Command;
@@ -49,7 +51,7 @@ const LENT: u64 = 6;
 fn stepped(t: Table, form: u64, c: Command, report: &mut [u8]) -> Outcome {
     match form {
         1 => step::begin_label(t, c.b, c.c),
-        2 => step::begin_scan(t, c.b),
+        2 => step::scan(t, c.b),
         3 => step::snap(t, c.b),
         4 => step::update(t, c.b),
         5 => step::end(t, c.b, report),
@@ -89,6 +91,7 @@ fn obey(t: Table, form: u64, c: Command) -> Table {
         b'f' => Table::fresh(c.a as usize),
         b's' => call(t, form, c),
         b'n' => call(t, c.a, c),
+        b'r' => panels::call(t, c),
         _ => edits::edited(t, c),
     }
 }

@@ -1,5 +1,5 @@
 -- Each move, carried out on the arrays: what they become is what the machine makes of the state that they hold, written down.
-use Prim.Native.Nat.{ℕ, suc, _-_, _*_, _≤_, _<_}
+use Prim.Native.Nat.{ℕ, suc, _-_, _≤_, _<_}
 use native.Mathlib.Omega.{arith}
 use native.Mathlib.Decide.{decLt}
 use mathlib.Core.Path.{_≡_, refl, sym, ap, ap₂, subst, _∙_}
@@ -17,24 +17,22 @@ use Rattle.label.specs.Labels.{newLabel}
 use Rattle.label.specs.Rows.{digit, row}
 use Rattle.label.proofs.RowLaws.{row-digit}
 use Rattle.rows.specs.Held.{pendingIn}
-use Rattle.simulation.specs.Calls.{Label, Scan, Idle, Update, Snap, End, Entry, entry, Phase, Process, Rest, reportLines}
+use Rattle.simulation.specs.Calls.{Label, Scan, Idle, Update, End, Entry, entry, Phase, Process, Rest}
 use Rattle.simulation.specs.Machine.{Labelling, digits, stands, pendingAfter, LabelStep, stay, snap, update, relabelled, inPhase, begun, updated}
 use Rattle.simulation.specs.Machine.{changed, scanOf, carryOut}
 use Rattle.simulation.proofs.Labellings.{here-yes}
-use Rattle.transition.specs.Forms.{over}
 use Rattle.moves.specs.Moves.{moveOf}
 use Rattle.moves.specs.declared.Move.{Move}
 use Rattle.moves.specs.declared.Move.the-variants as Moves
-use Rattle.moves.specs.declared.Move.the-variants.{Refused, BeginLabel, BeginScan, SnapLabel, SnapScan, EndLabel, EndScan}
+use Rattle.moves.specs.declared.Move.the-variants.{Refused, BeginLabel, SnapLabel, SnapScan, EndLabel, EndScan}
 use Rattle.moves.specs.declared.Refusal.{Refusal}
 use Rattle.moves.specs.declared.Refusal.the-variants.{Accepted}
-use Rattle.arrays.specs.Arrays.{Rows, Planes, Arrays, arrays, cell, planes, phaseNumber, resultRows, resultOf, restOf, stateOf, jobsOf, arraysOf, rowsAt}
+use Rattle.arrays.specs.Arrays.{Rows, Planes, Arrays, arrays, cell, planes, phaseNumber, resultRows, resultOf, restOf, stateOf, jobsOf, arraysOf}
 use Rattle.arrays.specs.Sizes.{Shaped}
 use Rattle.arrays.proofs.States.{rows-here, labels-back, jobs-back, control-back, results-back, written-held}
 use Rattle.engine.specs.Scans.{orderOf, scanRows}
-use Rattle.engine.specs.Contracts.{actionOf, Prepared, Performs, Carries}
-use Rattle.engine.proofs.Reports.{result-length}
-use Rattle.engine.specs.declared.Reply.{Reply}
+use Rattle.engine.specs.Contracts.{Prepared, shown, Performs, Carries}
+use Rattle.engine.specs.declared.Handed.{Handed}
 use Rattle.engine.specs.declared.Task.{Task}
 
 -- plane f with x at place k
@@ -61,7 +59,7 @@ at-all : {A : Type 0} (v : Process → A) (o : Rest) (k : ℕ) (f : Process → 
     → (i : ℕ) → v (o .process i) ≡ v (changed o k f .process i)
 at-all v o k f e i = by-here (λ b. v (o .process i) ≡ v (cond b (f (o .process i)) (o .process i))) k i (λ _. sym (e (o .process i))) (λ _. refl)
 
-module _ {a : Arrays} {x : Task} {order : Lists.List ℕ} {room : ℕ} (s : Prepared a x order room) (g : Shaped a) where
+module _ {a : Arrays} {x : Task} {order : Lists.List ℕ} (s : Prepared a x order) (g : Shaped a) where
   abbrev n : ℕ
   n = a .count
 
@@ -202,55 +200,47 @@ module _ {a : Arrays} {x : Task} {order : Lists.List ℕ} {room : ℕ} (s : Prep
   -- THE MOVES
 
   -- a task is carried out if its move is
-  carried : {m : Move} {buffer buffer′ : Lists.List ℕ} {a′ : Arrays} {r r′ : Reply} → x .action ≡ m → r ≡ r′
-      → Performs a (x .line) (moveOf k (x .job) m) buffer a′ r′ buffer′ → Carries a x buffer a′ r buffer′
-  carried {buffer = buffer} {buffer′} {a′} {r′ = r′} e d f =
-      subst (λ u. Performs a (x .line) (actionOf x) buffer a′ u buffer′) (sym d)
-      (subst (λ w. Performs a (x .line) (moveOf k (x .job) w) buffer a′ r′ buffer′) (sym e) f)
+  carried : {m : Move} {a′ : Arrays} {r r′ : Handed} → x .action ≡ m → r ≡ r′ → Performs a k (moveOf k (x .job) m) a′ r′ → r′ .entries ≡ shown n m
+      → Carries a x a′ r
+  carried {a′ = a′} {r′ = r′} e d f h = subst (Carries a x a′) (sym d)
+      (subst (λ w. Performs a k (moveOf k (x .job) w) a′ r′) (sym e) f, h ∙ ap (shown n) (sym e))
 
-  -- the move m is served, the arrays a′ are left, and nothing is written
+  -- the move m is served, the arrays a′ are left, and nothing is handed out
   abbrev Accepts : Move → Arrays → Type 0
-  Accepts m a′ = (buffer : Lists.List ℕ) (r : Reply) → x .action ≡ m → r ≡ record { refusal = Accepted; written = 0 } → Carries a x buffer a′ r buffer
+  Accepts m a′ = (r : Handed) → x .action ≡ m → r ≡ record { refusal = Accepted; place = k; entries = 0 } → Carries a x a′ r
 
-  pub refused : {buffer : Lists.List ℕ} {r : Reply} {f : Refusal} → x .action ≡ Refused f → r ≡ record { refusal = f; written = 0 }
-      → Carries a x buffer a r buffer
-  unfolding carryOut relabelled reportLines
-  refused e d = carried e d (record { table = sym (written-held a g (s .passed)); number = refl; count = refl; report = refl })
+  pub refused : {r : Handed} {f : Refusal} → x .action ≡ Refused f → r ≡ record { refusal = f; place = k; entries = 0 } → Carries a x a r
+  unfolding carryOut relabelled tabulate
+  refused e d = carried e d (record { table = sym (written-held a g (s .passed)); number = refl; place = refl; handed = refl }) refl
 
   pub begins-label : Accepts BeginLabel (arrays n (a .labels) (put (a .jobs) 1 k (x .job)) (put (a .control) 0 k 1) (a .results))
-  unfolding carryOut reportLines
-  begins-label b r e d = carried e d
-      (record { table = record-changed stay (begun (x .job)) 1 labels-stay jobs-begun refl; number = refl; count = refl; report = refl })
-
-  pub begins-scan : Accepts BeginScan (arrays n (a .labels) (a .jobs) (put (a .control) 0 k 2) (a .results))
-  unfolding carryOut reportLines
-  begins-scan b r e d = carried e d
-      (record { table = record-changed stay (inPhase (Snap Scan)) 2 labels-stay (jobs-stay (Snap Scan)) refl; number = refl; count = refl; report = refl })
+  unfolding carryOut tabulate
+  begins-label r e d = carried e d
+      (record { table = record-changed stay (begun (x .job)) 1 labels-stay jobs-begun refl; number = refl; place = refl; handed = refl }) refl
 
   pub snaps-label : {p : Lists.List ℕ} → p ≡ pendingIn n rows k (cell (a .labels) 1 k [])
-      → Accepts SnapLabel (arrays n (put (a .labels) 1 k p) (a .jobs) (put (a .control) 0 k 3) (a .results))
-  unfolding carryOut reportLines
-  snaps-label q b r e d =
+      → Accepts SnapLabel (arrays n (put (a .labels) 1 k p) (a .jobs) (put (a .control) 0 k 2) (a .results))
+  unfolding carryOut tabulate
+  snaps-label q r e d =
       let l = ap (put (a .labels) 1 k) q ∙ labels-snap in
-      carried e d
-      (record { table = record-changed (snap k) (inPhase Update) 3 l (jobs-stay Update) refl; number = refl; count = refl; report = refl })
+      carried e d (record { table = record-changed (snap k) (inPhase Update) 2 l (jobs-stay Update) refl; number = refl; place = refl; handed = refl }) refl
 
   pub snaps-scan : {q : Rows} → q ≡ scanRows n order (getD (a .jobs) 0 [])
-      → Accepts SnapScan (arrays n (a .labels) (a .jobs) (put (a .control) 0 k 5) (set (a .results) k q))
-  unfolding carryOut reportLines arraysOf
-  snaps-scan q b r e d = carried e d (record {
-    table = λ y. arrays n (labels-stay y) (jobs-stay (End Scan) y) (phase-put (inPhase (End Scan)) 5 refl y)
+      → Accepts SnapScan (arrays n (a .labels) (a .jobs) (put (a .control) 0 k 4) (set (a .results) k q))
+  unfolding carryOut tabulate arraysOf
+  snaps-scan q r e d = carried e d (record {
+    table = λ y. arrays n (labels-stay y) (jobs-stay (End Scan) y) (phase-put (inPhase (End Scan)) 4 refl y)
         ((ap (set (a .results) k) q ∙ results-scanned (s .isOrder e)) y);
     number = refl;
-    count = refl;
-    report = refl;
-  })
+    place = refl;
+    handed = refl;
+  }) refl
 
   pub updates : Accepts Moves.Update
-      (arrays n (put (a .labels) 0 k (cell (a .labels) 1 k [])) (put (a .jobs) 0 k (cell (a .jobs) 1 k 0)) (put (a .control) 0 k 4) (a .results))
-  unfolding carryOut reportLines
-  updates b r e d = carried e d
-      (record { table = record-changed (update k) updated 4 labels-update jobs-updated refl; number = refl; count = refl; report = refl })
+      (arrays n (put (a .labels) 0 k (cell (a .labels) 1 k [])) (put (a .jobs) 0 k (cell (a .jobs) 1 k 0)) (put (a .control) 0 k 3) (a .results))
+  unfolding carryOut tabulate
+  updates r e d = carried e d
+      (record { table = record-changed (update k) updated 3 labels-update jobs-updated refl; number = refl; place = refl; handed = refl }) refl
 
   -- the end of an operation, in the arrays
   ended : arrays n (a .labels) (a .jobs) (put (a .control) 0 k 0) (a .results)
@@ -258,18 +248,15 @@ module _ {a : Arrays} {x : Task} {order : Lists.List ℕ} {room : ℕ} (s : Prep
   ended = record-changed stay (inPhase Idle) 0 labels-stay (jobs-stay Idle) refl
 
   pub ends-label : Accepts EndLabel (arrays n (a .labels) (a .jobs) (put (a .control) 0 k 0) (a .results))
-  unfolding carryOut reportLines
-  ends-label b r e d = carried e d (record { table = ended; number = refl; count = refl; report = refl })
+  unfolding carryOut tabulate
+  ends-label r e d = carried e d (record { table = ended; number = refl; place = refl; handed = refl }) refl
 
-  pub ends-scan : {buffer buffer′ : Lists.List ℕ} {r : Reply} → buffer′ ≡ over (reportLines (x .line) 1 (resultOf n (getD (a .results) k []))) buffer
-      → x .action ≡ EndScan → r ≡ record { refusal = Accepted; written = n * 29 }
-      → Carries a x buffer (arrays n (a .labels) (a .jobs) (put (a .control) 0 k 0) (a .results)) r buffer′
+  pub ends-scan : {r : Handed} → x .action ≡ EndScan → r ≡ record { refusal = Accepted; place = k; entries = n }
+      → Carries a x (arrays n (a .labels) (a .jobs) (put (a .control) 0 k 0) (a .results)) r
   unfolding carryOut
-  ends-scan {buffer} told e d =
-      let here : getD (a .results) k [] ≡ rowsAt a k = sym (rows-here a g (s .passed) k (omega (arith, s .inside, s .high))) in
-      carried e d (record {
-        table = ended;
-        number = refl;
-        count = sym (result-length (x .line) n (rowsAt a k));
-        report = told ∙ ap (λ q. over (reportLines (x .line) 1 (resultOf n q)) buffer) here;
-      })
+  ends-scan e d = carried e d (record {
+    table = ended;
+    number = refl;
+    place = refl;
+    handed = ap (resultOf n) (rows-here a g (s .passed) k (omega (arith, s .inside, s .high)));
+  }) refl

@@ -1,31 +1,28 @@
--- The report lines of a scan result: how many bytes they are, and one line more at their end.
-use Prim.Native.Nat.{ℕ, zero, suc, _+_, _-_, _*_}
+-- The report lines and the panel records of a scan result: how many they are, and one more at their end.
+use Prim.Native.Nat.{ℕ, zero, suc, _+_, _-_, _*_, _<_}
 use native.Mathlib.Nat.{zero-add}
 use native.Mathlib.Numerals.{add-one}
 use native.Mathlib.Omega.{arith}
 use mathlib.Core.Path.{_≡_, refl, sym, ap, ap₂, _∙_}
 use mathlib.Core.List as Lists
-use mathlib.Core.List.{[], _∷_, _++_, append-assoc, append-nil}
-use lib.ListN.{length, drop, length-append}
+use mathlib.Core.List.{[], _∷_, _++_, map, map-map, map-id, map-append, append-assoc, append-nil}
+use lib.ListN.{length, set, drop, length-append, length-map}
 use lib.Seq.{take-at, drop-at, drop-drop}
 use borrow.Rule.Slice.PartMut.{putMid}
 use Rattle.basics.specs.Tests.{tabulate}
-use Rattle.basics.proofs.Facts.{length-tabulate}
+use Rattle.basics.proofs.Facts.{length-tabulate, map-tabulate}
+use Rattle.basics.proofs.Filled.{front-more}
 use Rattle.columns.specs.Columns.{lineHead, lineTail, reportLine}
 use Rattle.columns.proofs.ColumnLaws.{length-report-line}
-use Rattle.simulation.specs.Calls.{Entry, entry, reportLines}
+use Rattle.simulation.specs.Calls.{Entry, entry, PanelRecord, reportLines, panelRecords}
+use Rattle.simulation.proofs.Reports.{lines-length, records-tabulate}
 use Rattle.transition.specs.Forms.{over}
 use Rattle.arrays.specs.Arrays.{Rows, cell, resultOf}
+use Rattle.engine.specs.Contracts.{rowOf, recordOf}
 
 -- the report line of an entry
 abbrev lineAt : ℕ → ℕ → Entry → Lists.List ℕ
 lineAt line place e = reportLine line 0 place (e .station) (e .job)
-
-pub lines-length : (line from : ℕ) (l : Lists.List Entry) → length (reportLines line from l) ≡ length l * 29
-unfolding reportLines
-lines-length line from [] = refl
-lines-length line from (e ∷ l) =
-    simp length-append (omega (arith, length-report-line line 0 from (e .station) (e .job), lines-length line (suc from) l))
 
 -- the lines of n entries
 pub result-length : (line n : ℕ) (rows : Rows) → length (reportLines line 1 (resultOf n rows)) ≡ n * 29
@@ -69,3 +66,34 @@ one-line-more line rows k head out buffer x d o e =
     let a : k * 29 ≡ length lines = sym (result-length line k rows) in
     let b : k * 29 + 29 - k * 29 ≡ length x = omega (arith, ap length g, length-report-line line 0 (k + 1) (f k .station) (f k .job)) in
     rw (o, b, a, more) (put-behind lines x buffer)
+
+-- PANELS
+
+-- the record of entry p, as three numbers
+abbrev recordRow : Rows → ℕ → Lists.List ℕ
+recordRow rows p = suc p ∷ cell rows 0 p 0 ∷ cell rows 1 p 0 ∷ []
+
+record-rows : (k : ℕ) (rows : Rows) → map rowOf (panelRecords 1 (resultOf k rows)) ≡ tabulate k 0 (recordRow rows)
+record-rows k rows = ap (map rowOf) (records-tabulate k 0 _) ∙ map-tabulate rowOf k 0 _
+
+-- the first k records of a panel are written
+rows-over : (k : ℕ) (rows panel : Rows) → over (map rowOf (panelRecords 1 (resultOf k rows))) panel ≡ tabulate k 0 (recordRow rows) ++ drop k panel
+rows-over k rows panel = ap (λ l. over l panel) (record-rows k rows) ∙ ap (λ j. tabulate k 0 (recordRow rows) ++ drop j panel) (length-tabulate k 0 _)
+
+-- and the next one
+pub one-record-more : (k : ℕ) (rows panel panel′ : Rows) → k < length panel → panel′ ≡ over (map rowOf (panelRecords 1 (resultOf k rows))) panel
+    → set panel′ k ((k + 1) ∷ cell rows 0 k 0 ∷ cell rows 1 k 0 ∷ []) ≡ over (map rowOf (panelRecords 1 (resultOf (k + 1) rows))) panel
+one-record-more k rows panel panel′ h e =
+    ap₂ (λ (l : Rows) (i : ℕ). set l k (i ∷ cell rows 0 k 0 ∷ cell rows 1 k 0 ∷ [])) (e ∙ rows-over k rows panel) (add-one k)
+    ∙ front-more k 0 (recordRow rows) panel (recordRow rows k) h (ap (recordRow rows) (sym (zero-add k)))
+    ∙ sym (ap (λ j. over (map rowOf (panelRecords 1 (resultOf j rows))) panel) (add-one k) ∙ rows-over (suc k) rows panel)
+
+-- and read as records
+pub records-read : (l : Lists.List PanelRecord) (panel : Rows) → map recordOf (over (map rowOf l) panel) ≡ over l (map recordOf panel)
+records-read l panel = map-append recordOf (map rowOf l) (drop (length (map rowOf l)) panel)
+    ∙ ap₂ _++_ (map-map recordOf rowOf l ∙ map-id l) (map-drop (length (map rowOf l)) panel ∙ ap (λ k. drop k (map recordOf panel)) (length-map l rowOf))
+  where
+    map-drop : (k : ℕ) (p : Rows) → map recordOf (drop k p) ≡ drop k (map recordOf p)
+    map-drop zero p = refl
+    map-drop (suc k) [] = refl
+    map-drop (suc k) (x ∷ p) = map-drop k p

@@ -4,55 +4,71 @@ use native.Mathlib.Omega.{arith}
 use mathlib.Core.Path.{_≡_, refl, sym, ap, subst, _∙_}
 use mathlib.Core.Bool.{Bool, true, false}
 use mathlib.Core.List as Lists
-use mathlib.Core.List.{[]}
-use lib.ListN.{length, getD}
-use borrow.Author.Tests.{leb-true}
-use Rattle.basics.specs.Tests.{within, newest}
+use mathlib.Core.List.{[], map}
+use lib.ListN.{length, getD, length-map}
+use borrow.Author.Tests.{leb-true, le-leb}
+use Rattle.basics.specs.Tests.{within, newest, tabulate}
+use Rattle.basics.proofs.Facts.{length-tabulate}
 use Rattle.rows.specs.Held.{standsIn, Orderly}
 use Rattle.rows.proofs.OrderLaws.{listed-below, order-front}
 use Rattle.simulation.specs.Calls as Calls
-use Rattle.simulation.specs.Calls.{Call, place, judgeIn, judge}
-use Rattle.simulation.specs.Machine.{step}
-use Rattle.simulation.proofs.Judged.{Verdict, turned, begins, updates, snaps, ends, judge-unknown-station, verdict}
-use Rattle.transition.specs.Forms.{TableAnswer, refuse, over, answered, stepOf}
+use Rattle.simulation.specs.Calls.{Room, Call, place, Entry, holds, judgeIn, judge, PanelRecord, reportLines, panelRecords, size, written}
+use Rattle.simulation.specs.Machine.{digits, labelsAfter, answer, step}
+use Rattle.simulation.proofs.Judged.{Verdict, turned, begins, scans, updates, snaps, ends, judge-unknown-station, verdict}
+use Rattle.simulation.proofs.Reports.{records-length}
+use Rattle.transition.specs.Forms.{TableAnswer, over, onto, answered, stepOf}
 use Rattle.transition.specs.Sequences.{Steps}
-use Rattle.transition.proofs.Theorem.{step-written}
+use Rattle.transition.proofs.Theorem.{step-written, step-ill-formed}
 use Rattle.moves.specs.Moves.{refusalNumber, moveOf}
-use Rattle.moves.proofs.MoveLaws.{begun-job, place-below}
-use Rattle.arrays.specs.Arrays.{Arrays, cell, phaseFor, restOf}
+use Rattle.moves.proofs.MoveLaws.{by-move, begun-job, place-below}
+use Rattle.arrays.specs.Arrays.{Rows, Arrays, cell, phaseFor, resultOf, restOf, stateOf}
 use Rattle.arrays.specs.WellFormed.{wellFormed}
 use Rattle.arrays.specs.Form.{lent}
 use Rattle.arrays.proofs.Passed.{passed, label-digits}
 use Rattle.engine.specs.Scans.{orderOf}
-use Rattle.engine.specs.Contracts.{callOf, Prepared, answerTo, doneOf, Carries, Judges}
+use Rattle.engine.specs.Contracts.{callOf, actionOf, Prepared, shown, outcomeOf, Carries, Judges, Hands, rowOf, recordOf}
+use Rattle.engine.proofs.Reports.{result-length, records-read}
 use Rattle.moves.specs.declared.Move.{Move}
-use Rattle.moves.specs.declared.Move.the-variants.{BeginLabel, SnapLabel, SnapScan, EndScan}
-use Rattle.engine.specs.declared.Reply.{Reply}
+use Rattle.moves.specs.declared.Move.the-variants.{BeginLabel, SnapLabel, SnapScan}
+use Rattle.moves.specs.declared.Refusal.{Refusal}
 use Rattle.engine.specs.declared.Request.{Request}
 use Rattle.engine.specs.declared.Task.{Task}
+use Rattle.engine.specs.declared.Handed.{Handed}
 
 -- the labels of a well-formed table are in order
 pub orderly : (a : Arrays) → wellFormed a ≡ true → Orderly (a .count) (getD (a .labels) 0 [])
 orderly a e = let p = passed a e in record { low = p .low; high = p .high; valid = λ i l q h. label-digits a e false i q l h; free = p .free }
 
--- the end of a scan that is judged so has room for its report
-abbrev Roomy : ℕ → ℕ → Calls.Move → Type 0
+-- there is room for the entries that a judged move hands out
+abbrev Roomy : ℕ → Room → Calls.Move → Type 0
 Roomy n room (Calls.Move.refused x) = Unit {0}
 Roomy n room (Calls.Move.begins k job o) = Unit {0}
 Roomy n room (Calls.Move.updates k) = Unit {0}
 Roomy n room (Calls.Move.snaps k o) = Unit {0}
 Roomy n room (Calls.Move.ends k Calls.Label) = Unit {0}
-Roomy n room (Calls.Move.ends k Calls.Scan) = n * 29 ≤ room
+Roomy n room (Calls.Move.ends k Calls.Scan) = holds room n ≡ true
 
 roomy : {n : ℕ} {c : Call} {ph : Calls.Phase} {w : Calls.Move} → Verdict n c ph w → Roomy n (c .room) w
 roomy (turned x f) = tt
-roomy (begins own q o) = tt
+roomy (begins own q) = tt
+roomy (scans own q) = tt
 roomy (updates own q) = tt
 roomy (snaps own o q) = tt
 roomy (ends own Calls.Label q f) = tt
-roomy {n} {c} (ends own Calls.Scan q f) = leb-true (n * 29) (c .room) f
+roomy (ends own Calls.Scan q f) = f
 
-module _ (a : Arrays) (ok : wellFormed a ≡ true) (q : Request) (room top : ℕ) (x : Task) (j : Judges (a .count) (a .control) q room top x) where
+holds-none : (room : Room) → holds room 0 ≡ true
+holds-none (Calls.Buffer b) = le-leb 0 b (omega arith)
+holds-none (Calls.Panel r) = le-leb 0 r (omega arith)
+
+room-shown : (n k job : ℕ) (room : Room) (m : Move) → Roomy n room (moveOf k job m) → holds room (shown n m) ≡ true
+room-shown n k job room = by-move (λ m. Roomy n room (moveOf k job m) → holds room (shown n m) ≡ true)
+    (λ x h. holds-none room) (λ h. holds-none room) (λ h. holds-none room) (λ h. holds-none room) (λ h. holds-none room) (λ h. holds-none room) (λ h. h)
+
+shown-few : (n : ℕ) → n ≤ 32 → (m : Move) → shown n m ≤ 32
+shown-few n h = by-move (λ m. shown n m ≤ 32) (λ x. omega arith) (omega arith) (omega arith) (omega arith) (omega arith) (omega arith) h
+
+module _ (a : Arrays) (ok : wellFormed a ≡ true) (q : Request) (room : Room) (top : ℕ) (x : Task) (j : Judges (a .count) (a .control) q room top x) where
   abbrev c : Call
   c = callOf q room
 
@@ -65,13 +81,10 @@ module _ (a : Arrays) (ok : wellFormed a ≡ true) (q : Request) (room top : ℕ
   job-fits : x .action ≡ BeginLabel → x .job ≤ 4294967295
   job-fits e = subst (λ k. k ≤ 4294967295) (sym (j .job)) (begun-job (a .count) ph c (x .place) (x .action) (j .action) e)
 
-  has-room : x .action ≡ EndScan → a .count * 29 ≤ room
-  has-room e = subst (Roomy (a .count) room) (sym (j .action) ∙ ap (moveOf (x .place) (q .job)) e) (roomy (verdict (a .count) c ph))
-
   -- what carrying out asks for, given the newest station and the scan order where they are needed
   pub ready : {z : Task} (order : Lists.List ℕ) → z .action ≡ x .action → z .place ≡ x .place → z .job ≡ x .job
       → (z .action ≡ SnapLabel → z .newest ≡ newest (a .count) (standsIn (a .count) (getD (a .labels) 0 [])))
-      → (z .action ≡ SnapScan → order ≡ orderOf (a .count) (getD (a .labels) 0 [])) → Prepared a z order room
+      → (z .action ≡ SnapScan → order ≡ orderOf (a .count) (getD (a .labels) 0 [])) → Prepared a z order
   ready order m k v w o = record {
     passed = ok;
     high = passed a ok .high;
@@ -79,44 +92,102 @@ module _ (a : Arrays) (ok : wellFormed a ≡ true) (q : Request) (room top : ℕ
     jobFits = λ e. omega (arith, v, job-fits (sym m ∙ e));
     isNewest = w;
     isOrder = o;
-    hasRoom = λ e. has-room (sym m ∙ e);
   }
 
   -- the move is the one that the machine judges
-  pub judged : moveOf (x .place) (x .job) (x .action) ≡ judge (a .count) (restOf a) c
+  pub judged : actionOf x ≡ judge false (a .count) (restOf a) c
   judged = ap (λ v. moveOf (x .place) v (x .action)) (j .job) ∙ j .action ∙ go (within 1 (a .count) (q .station)) refl
     where
-      go : (b : Bool) → within 1 (a .count) (q .station) ≡ b → judgeIn (a .count) ph c ≡ judge (a .count) (restOf a) c
-      go true e = ap (λ k. judgeIn (a .count) (phaseFor (cell (a .control) 0 k 0)) c) (j .place ∙ rw e refl)
+      go : (b : Bool) → within 1 (a .count) (q .station) ≡ b → judgeIn false (a .count) ph c ≡ judge false (a .count) (restOf a) c
+      go true e = ap (λ k. judgeIn false (a .count) (phaseFor (cell (a .control) 0 k 0)) c) (j .place ∙ rw e refl)
       go false e = let s = judge-unknown-station (a .count) c e in s .1 ph ∙ sym (s .1 (restOf a .process (place c) .phase))
 
+  has-room : holds room (shown (a .count) (x .action)) ≡ true
+  has-room = room-shown (a .count) (x .place) (q .job) room (x .action)
+      (subst (Roomy (a .count) room) (sym (j .action)) (roomy (verdict (a .count) c ph)))
+
   -- so carrying it out is the step call
-  pub served : {buffer : Lists.List ℕ} {a′ : Arrays} {r : Reply} {buffer′ : Lists.List ℕ} → Carries a x buffer a′ r buffer′
-      → Steps lent a c buffer a′ (refusalNumber (r .refusal)) (r .written) buffer′
+  pub served : {a′ : Arrays} {r : Handed} → Carries a x a′ r → Hands a c a′ r
   unfolding step
-  served {buffer} f =
-      let s : answered lent (a .count) (doneOf a x) ≡ stepOf lent a c
-      = (λ y. answered lent (a .count) (answerTo a (j .line y) (judged y))) ∙ sym (step-written lent a c ok) in
+  served {a′} {r} f =
+      let p = f .0 in
+      let s : answered lent (a .count) (answer c (labelsAfter n (digits n) (stateOf a) (actionOf x)) (outcomeOf a (actionOf x))) ≡ stepOf lent a c
+      = (λ y. answered lent n (answer c (labelsAfter n (digits n) (stateOf a) (judged y)) (outcomeOf a (judged y)))) ∙ sym (step-written lent a c ok) in
       record {
-        table = f .table ∙ ap (λ (u : TableAnswer Arrays). u .table) s;
-        number = f .number ∙ ap (λ (u : TableAnswer Arrays). u .refusal) s;
-        count = f .count ∙ ap (λ (u : TableAnswer Arrays). length (u .bytes)) s;
-        report = f .report ∙ ap (λ (u : TableAnswer Arrays). over (u .bytes) buffer) s;
+        table = p .table ∙ ap (λ (u : TableAnswer Arrays). u .table) s;
+        number = p .number ∙ ap (λ (u : TableAnswer Arrays). u .refusal) s;
+        place = p .place ∙ j .place ∙ rw ok refl;
+        inside = omega (arith, p .place, inside, passed a ok .high);
+        few = omega (arith, f .1, shown-few n (passed a ok .high) (x .action));
+        room = ap (holds room) (f .1) ∙ has-room;
+        report = sym (ap (λ (u : TableAnswer Arrays). u .report) s) ∙ ap (written (q .line) room)
+            (p .handed ∙ ap (λ k. resultOf (r .entries) (getD (a′ .results) k [])) (sym (p .place)));
       }
+    where
+      n : ℕ
+      n = a .count
 
 -- 13: nothing changes
-pub ill-formed : (a : Arrays) (c : Call) (buffer : Lists.List ℕ) → wellFormed a ≡ false → Steps lent a c buffer a 13 0 buffer
-ill-formed a c buffer e =
-    let s : stepOf lent a c ≡ refuse a 13 = unfold stepOf in rw (e, stepOf) refl in
+pub ill-formed : (a : Arrays) (c : Call) (r : Refusal) → wellFormed a ≡ false → refusalNumber r ≡ 13
+    → Hands a c a (record { refusal = r; place = 0; entries = 0 })
+unfolding tabulate
+ill-formed a c r e d =
+    let s = step-ill-formed lent a c e in
     record {
       table = sym (ap (λ (u : TableAnswer Arrays). u .table) s);
-      number = sym (ap (λ (u : TableAnswer Arrays). u .refusal) s);
-      count = sym (ap (λ (u : TableAnswer Arrays). length (u .bytes)) s);
-      report = sym (ap (λ (u : TableAnswer Arrays). over (u .bytes) buffer) s);
+      number = d ∙ sym (ap (λ (u : TableAnswer Arrays). u .refusal) s);
+      place = rw e refl;
+      inside = omega arith;
+      few = omega arith;
+      room = holds-none (c .room);
+      report = ap (λ (u : TableAnswer Arrays). u .report) s;
     }
 
+-- WHAT IS WRITTEN
+
+module _ {a a′ : Arrays} {c : Call} {r : Handed} (h : Hands a c a′ r) where
+  abbrev entries : Lists.List Entry
+  entries = resultOf (r .entries) (getD (a′ .results) (r .place) [])
+
+  -- to a buffer
+  pub bytes-fit : (b : ℕ) → c .room ≡ Calls.Buffer b → r .entries * 29 ≤ b
+  bytes-fit b e = leb-true (r .entries * 29) b (ap (λ x. holds x (r .entries)) (sym e) ∙ h .room)
+
+  pub steps-bytes : {buffer buffer′ : Lists.List ℕ} {k : ℕ} → c .room ≡ Calls.Buffer (length buffer) → k ≡ r .entries * 29
+      → buffer′ ≡ over (reportLines (c .line) 1 entries) buffer
+      → Steps lent a c (Calls.Bytes buffer) a′ (refusalNumber (r .refusal)) k (Calls.Bytes buffer′)
+  steps-bytes {buffer} e w f =
+      let s : stepOf lent a c .report ≡ Calls.Bytes (reportLines (c .line) 1 entries) = h .report ∙ ap (λ x. written (c .line) x entries) e in
+      record {
+        table = h .table;
+        number = h .number;
+        count = w ∙ sym (result-length (c .line) (r .entries) (getD (a′ .results) (r .place) [])) ∙ sym (ap size s);
+        report = ap Calls.Bytes f ∙ sym (ap (λ x. onto x (Calls.Bytes buffer)) s);
+      }
+
+  -- to a panel
+  pub records-fit : (b : ℕ) → c .room ≡ Calls.Panel b → r .entries ≤ b
+  records-fit b e = leb-true (r .entries) b (ap (λ x. holds x (r .entries)) (sym e) ∙ h .room)
+
+  pub steps-records : {panel panel′ : Lists.List PanelRecord} → c .room ≡ Calls.Panel (length panel) → panel′ ≡ over (panelRecords 1 entries) panel
+      → Steps lent a c (Calls.Records panel) a′ (refusalNumber (r .refusal)) (r .entries) (Calls.Records panel′)
+  steps-records {panel} e f =
+      let s : stepOf lent a c .report ≡ Calls.Records (panelRecords 1 entries) = h .report ∙ ap (λ x. written (c .line) x entries) e in
+      record {
+        table = h .table;
+        number = h .number;
+        count = sym (records-length 1 entries ∙ length-tabulate (r .entries) 0 _) ∙ sym (ap size s);
+        report = ap Calls.Records f ∙ sym (ap (λ x. onto x (Calls.Records panel)) s);
+      }
+
+  -- whose records are rows of three numbers
+  pub steps-rows : (panel panel′ : Rows) → c .room ≡ Calls.Panel (length panel) → panel′ ≡ over (map rowOf (panelRecords 1 entries)) panel
+      → Steps lent a c (Calls.Records (map recordOf panel)) a′ (refusalNumber (r .refusal)) (r .entries) (Calls.Records (map recordOf panel′))
+  steps-rows panel panel′ e f =
+      steps-records (e ∙ ap Calls.Panel (sym (length-map panel recordOf))) (ap (map recordOf) f ∙ records-read (panelRecords 1 entries) panel)
+
 -- the order that a scan is given has stations in it
-pub order-inside : {a : Arrays} {x : Task} {order : Lists.List ℕ} {room : ℕ} → Prepared a x order room → x .action ≡ SnapScan
+pub order-inside : {a : Arrays} {x : Task} {order : Lists.List ℕ} → Prepared a x order → x .action ≡ SnapScan
     → (p : ℕ) → p < a .count → getD order p 0 < 32
 order-inside {a} {order = order} s e p h = omega (
   arith,

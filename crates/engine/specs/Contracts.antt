@@ -1,67 +1,99 @@
 -- What the contracts of the engine say.
-use Prim.Native.Nat.{ℕ, _*_, _≤_, _<_}
+use Prim.Native.Nat.{ℕ, _≤_, _<_}
 use mathlib.Core.Path.{_≡_}
-use mathlib.Core.Bool.{true}
+use mathlib.Core.Bool.{true, false, cond}
 use mathlib.Core.List as Lists
-use mathlib.Core.List.{[]}
-use lib.ListN.{length, getD}
+use mathlib.Core.List.{[], _∷_}
+use lib.ListN.{getD}
 use Rattle.basics.specs.Tests.{newest}
 use Rattle.label.specs.Labels as Labels
 use Rattle.rows.specs.Held.{standsIn}
 use Rattle.simulation.specs.Calls as Calls
-use Rattle.simulation.specs.Calls.{Call, judgeIn}
+use Rattle.simulation.specs.Calls.{Room, Call, holds, judgeIn, PanelRecord, written}
 use Rattle.simulation.specs.Machine as Machine
-use Rattle.simulation.specs.Machine.{digits, moved}
-use Rattle.transition.specs.Forms.{over}
+use Rattle.simulation.specs.Machine.{digits, State, labelsAfter, outcome}
+use Rattle.transition.specs.Forms.{stepOf}
 use Rattle.moves.specs.Moves.{refusalNumber, moveOf, called, placeOf}
-use Rattle.arrays.specs.Arrays.{Rows, Arrays, cell, phaseFor, stateOf, arraysOf}
+use Rattle.arrays.specs.Arrays.{Rows, Arrays, cell, phaseFor, resultOf, stateOf, arraysOf}
 use Rattle.arrays.specs.WellFormed.{wellFormed}
+use Rattle.arrays.specs.Form.{lent}
 use Rattle.engine.specs.Scans.{orderOf}
-use Rattle.moves.specs.declared.Move.the-variants.{BeginLabel, SnapLabel, SnapScan, EndScan}
-use Rattle.engine.specs.declared.Reply.{Reply}
+use Rattle.moves.specs.declared.Move.{Move}
+use Rattle.moves.specs.declared.Move.the-variants as Moves
+use Rattle.moves.specs.declared.Move.the-variants.{Refused, BeginLabel, SnapLabel, SnapScan, EndLabel, EndScan}
 use Rattle.engine.specs.declared.Request.{Request}
 use Rattle.engine.specs.declared.Task.{Task}
+use Rattle.engine.specs.declared.Handed.{Handed}
 
--- a request as a call with this room for its report
-abbrev pub callOf : Request → ℕ → Call
+-- a request as a call with what is lent for its report
+abbrev pub callOf : Request → Room → Call
 callOf q room = called (q .line) (q .code) (q .station) (q .job) room
 
 -- a task as a move of the machine
 abbrev pub actionOf : Task → Calls.Move
 actionOf x = moveOf (x .place) (x .job) (x .action)
 
--- what a task asks for: a well-formed table and a place in it; the job, the newest station, the scan order and the room where its move needs them
-pub record Prepared (a : Arrays) (x : Task) (order : Lists.List ℕ) (room : ℕ) : Type 0 where
+-- what a task asks for: a well-formed table and a place in it; the job, the newest station and the scan order where its move needs them
+pub record Prepared (a : Arrays) (x : Task) (order : Lists.List ℕ) : Type 0 where
   pub passed : wellFormed a ≡ true
   pub high : a .count ≤ 32
   pub inside : x .place < a .count
   pub jobFits : x .action ≡ BeginLabel → x .job ≤ 4294967295
   pub isNewest : x .action ≡ SnapLabel → x .newest ≡ newest (a .count) (standsIn (a .count) (getD (a .labels) 0 []))
   pub isOrder : x .action ≡ SnapScan → order ≡ orderOf (a .count) (getD (a .labels) 0 [])
-  pub hasRoom : x .action ≡ EndScan → a .count * 29 ≤ room
 
--- the answer of the machine to a move, on the state that the arrays hold
-abbrev pub answerTo : Arrays → ℕ → Calls.Move → Machine.Answer Labels.Label
-answerTo a line w = moved (a .count) (digits (a .count)) (stateOf a) line w
+-- how many entries a move hands out, of n stations
+abbrev pub shown : ℕ → Move → ℕ
+shown n (Refused r) = 0
+shown n BeginLabel = 0
+shown n SnapLabel = 0
+shown n SnapScan = 0
+shown n Moves.Update = 0
+shown n EndLabel = 0
+shown n EndScan = n
 
--- the move w, carried out on the arrays a: the arrays, the reply and the report buffer left, all of it
-pub record Performs (a : Arrays) (line : ℕ) (w : Calls.Move) (buffer : Lists.List ℕ) (a′ : Arrays) (r : Reply) (buffer′ : Lists.List ℕ) : Type 0 where
-  pub table : a′ ≡ arraysOf (a .count) (answerTo a line w .state)
-  pub number : refusalNumber (r .refusal) ≡ answerTo a line w .refusal
-  pub count : r .written ≡ length (answerTo a line w .bytes)
-  pub report : buffer′ ≡ over (answerTo a line w .bytes) buffer
+-- what the machine makes of the state that the arrays hold: the state after a move, and the outcome for what is not labels
+abbrev pub outcomeOf : Arrays → Calls.Move → Machine.Outcome
+outcomeOf a w = outcome (a .count) (digits (a .count)) (stateOf a) w
 
--- the answer to a task, and the task carried out
-abbrev pub doneOf : Arrays → Task → Machine.Answer Labels.Label
-doneOf a x = answerTo a (x .line) (actionOf x)
+abbrev pub stateAfter : Arrays → Calls.Move → State Labels.Label
+stateAfter a w = record { labels = labelsAfter (a .count) (digits (a .count)) (stateOf a) w; rest = outcomeOf a w .rest }
 
-abbrev pub Carries : Arrays → Task → Lists.List ℕ → Arrays → Reply → Lists.List ℕ → Type 0
-Carries a x = Performs a (x .line) (actionOf x)
+-- the move w of the process at place k, carried out on the arrays a: the arrays left, the refusal, and the entries of the result there, all of it
+pub record Performs (a : Arrays) (k : ℕ) (w : Calls.Move) (a′ : Arrays) (r : Handed) : Type 0 where
+  pub table : a′ ≡ arraysOf (a .count) (stateAfter a w)
+  pub number : refusalNumber (r .refusal) ≡ outcomeOf a w .refusal
+  pub place : r .place ≡ k
+  pub handed : outcomeOf a w .handed ≡ resultOf (r .entries) (getD (a′ .results) k [])
+
+-- a task carried out
+abbrev pub Carries : Arrays → Task → Arrays → Handed → Type 0
+Carries a x a′ r = Performs a (x .place) (actionOf x) a′ r × (r .entries ≡ shown (a .count) (x .action))
 
 -- the call that q makes, judged on a table of n stations with these control bytes, room for its report and newest station: the task x
-pub record Judges (n : ℕ) (control : Rows) (q : Request) (room top : ℕ) (x : Task) : Type 0 where
+pub record Judges (n : ℕ) (control : Rows) (q : Request) (room : Room) (top : ℕ) (x : Task) : Type 0 where
   pub place : x .place ≡ placeOf n (q .station)
-  pub action : moveOf (x .place) (q .job) (x .action) ≡ judgeIn n (phaseFor (cell control 0 (x .place) 0)) (callOf q room)
+  pub action : moveOf (x .place) (q .job) (x .action) ≡ judgeIn false n (phaseFor (cell control 0 (x .place) 0)) (callOf q room)
   pub job : x .job ≡ q .job
-  pub line : x .line ≡ q .line
   pub newest : x .newest ≡ top
+
+-- the place of the station that a call names, as it is judged; 0 where the table is not
+abbrev pub placeIn : Arrays → Call → ℕ
+placeIn a c = cond (wellFormed a) (placeOf (a .count) (c .station)) 0
+
+-- the call c on the arrays a, up to what is written of it: the arrays left, the refusal, and the entries that make its report, for which there is room
+pub record Hands (a : Arrays) (c : Call) (a′ : Arrays) (r : Handed) : Type 0 where
+  pub table : a′ ≡ stepOf lent a c .table
+  pub number : refusalNumber (r .refusal) ≡ stepOf lent a c .refusal
+  pub place : r .place ≡ placeIn a c
+  pub inside : r .place < 32
+  pub few : r .entries ≤ 32
+  pub room : holds (c .room) (r .entries) ≡ true
+  pub report : stepOf lent a c .report ≡ written (c .line) (c .room) (resultOf (r .entries) (getD (a′ .results) (r .place) []))
+
+-- a record of a panel as three numbers
+abbrev pub rowOf : PanelRecord → Lists.List ℕ
+rowOf r = r .place ∷ r .station ∷ r .job ∷ []
+
+abbrev pub recordOf : Lists.List ℕ → PanelRecord
+recordOf l = record { place = getD l 0 0; station = getD l 1 0; job = getD l 2 0 }

@@ -2,21 +2,22 @@
 ghost use mathlib.Core.Path.{_≡_};
 ghost use mathlib.Core.Logic.{_≢_};
 ghost use mathlib.Core.Bool.{true};
+ghost use mathlib.Core.List.{map};
 ghost use Prim.Native.Nat.{ℕ, _*_, _≤_, _<_};
 ghost use lib.ListN.{length, getD, replicate};
 ghost use Rattle.basics.specs.Tests.{newest};
 ghost use Rattle.rows.specs.Held.{standsIn, Orderly};
-ghost use Rattle.simulation.specs.Calls.{reportLines};
+ghost use Rattle.simulation.specs.Calls.{Buffer, Panel, reportLines, panelRecords, Bytes, Records};
 ghost use Rattle.transition.specs.Forms.{over};
 ghost use Rattle.transition.specs.Sequences.{Steps};
-ghost use Rattle.moves.specs.Moves.{refusalNumber};
+ghost use Rattle.moves.specs.Moves.{roomOf, refusalNumber};
 ghost use Rattle.moves.specs.declared.Move.the-variants.{SnapLabel, SnapScan};
 ghost use Rattle.moves.specs.declared.Refusal.the-variants.{Accepted};
 ghost use Rattle.arrays.specs.Arrays.{arrays, resultOf};
 ghost use Rattle.arrays.specs.WellFormed.{wellFormed};
 ghost use Rattle.arrays.specs.Form.{lent};
 ghost use Rattle.engine.specs.Scans.{orderOf, scanRows};
-ghost use Rattle.engine.specs.Contracts.{callOf, Prepared, Carries, Judges};
+ghost use Rattle.engine.specs.Contracts.{callOf, Prepared, Carries, Judges, Hands, rowOf, recordOf};
 use arrays::Control;
 use arrays::END_LABEL;
 use arrays::END_SCAN;
@@ -24,11 +25,11 @@ use arrays::IDLE;
 use arrays::Jobs;
 use arrays::Labels;
 use arrays::Results;
-use arrays::SNAP_LABEL;
-use arrays::SNAP_SCAN;
+use arrays::SNAP;
 use arrays::UPDATE;
 use moves::Move;
 use moves::Refusal;
+use moves::Room;
 
 // The planes.
 const CURRENT: usize = 0;
@@ -37,7 +38,7 @@ const PENDING: usize = 1;
 
 const PHASE: usize = 0;
 
-// What a caller is told: the refusal, and how many bytes of report were written.
+// What a caller is told: the refusal, and how many bytes or records of report were written.
 pub struct Reply {
     pub refusal: Refusal,
     pub written: usize,
@@ -51,13 +52,19 @@ pub struct Request {
     pub line: u64,
 }
 
-// A call that has been judged: its move, the place of its station, its job, the number that its report lines bear, and the newest station.
+// A call that has been judged: its move, the place of its station, its job, and the newest station.
 pub struct Task {
     pub action: Move,
     pub place: usize,
     pub job: u64,
-    pub line: u64,
     pub newest: usize,
+}
+
+// What a call hands out, before it is written anywhere: its refusal, and so many entries of the scan result at a place.
+pub struct Handed {
+    pub refusal: Refusal,
+    pub place: usize,
+    pub entries: usize,
 }
 
 // The first n stations of an order, from 1, with their jobs; nothing past them.
@@ -78,35 +85,55 @@ fn scan_result(order: &[usize; 32], jobs: &[u32; 32], n: usize) -> [[u32; 32]; 2
     [stations, listed]
 }
 
-// Writes the report lines of the first n entries of a scan result to the front of `out`.
-fn write_result(rows: &[[u32; 32]; 2], n: usize, line: u64, out: &mut [u8])
-    requires { ⌜ n ≤ 32 ⌝ }
-    requires { ⌜ n * 29 ≤ length (now out) ⌝ }
-    ensures { λ _. ⌜ now (out .exit) ≡ over (reportLines line 1 (resultOf n (now (rows .entry)))) (now (out .entry)) ⌝ }
+// Writes the report lines of the first k entries of a scan result to the front of `out`, and hands back their bytes.
+pub fn write_result(rows: &[[u32; 32]; 2], k: usize, line: u64, out: &mut [u8]) -> usize
+    requires { ⌜ k ≤ 32 ⌝ }
+    requires { ⌜ k * 29 ≤ length (now out) ⌝ }
+    ensures { λ r. ⌜ r ≡ k * 29 ⌝ }
+    ensures { λ _. ⌜ now (out .exit) ≡ over (reportLines line 1 (resultOf k (now (rows .entry)))) (now (out .entry)) ⌝ }
 {
+    if k == 0 {
+        return 0;
+    }
     let mut head = [0u8; 11];
     columns::write_head(&mut head, line, 0);
-    let mut k = 0;
-    while k < n {
-        let at = k * 29;
+    let mut p = 0;
+    while p < k {
+        let at = p * 29;
         columns::write_listed_line(
             &mut out[at..at + 29],
             head,
-            k as u64 + 1,
-            rows[0][k],
-            rows[1][k],
+            p as u64 + 1,
+            rows[0][p],
+            rows[1][p],
         );
-        k += 1;
+        p += 1;
+    }
+    k * 29
+}
+
+// Writes the first k entries of a scan result to the first records of a panel; a record is place, station and job.
+fn fill(rows: &[[u32; 32]; 2], k: usize, panel: &mut [[u32; 3]])
+    requires { ⌜ k ≤ 32 ⌝ }
+    requires { ⌜ k ≤ length (now panel) ⌝ }
+    ensures { λ _. ⌜ now (panel .exit) ≡ over (map rowOf (panelRecords 1 (resultOf k (now (rows .entry))))) (now (panel .entry)) ⌝ }
+{
+    let mut i: usize = 0;
+    while i < k {
+        let record = [(i + 1) as u32, rows[0][i], rows[1][i]];
+        panel[i] = record;
+        i += 1;
     }
 }
 
-// The reply to a call that is served.
-fn done(written: usize) -> Reply
-    ensures { λ r. ⌜ r ≡ record { refusal = Accepted; written = written } ⌝ }
+// A call that is served, with so many entries of the result at its place.
+fn accepted(place: usize, entries: usize) -> Handed
+    ensures { λ r. ⌜ r ≡ record { refusal = Accepted; place = place; entries = entries } ⌝ }
 {
-    Reply {
+    Handed {
         refusal: Refusal::Accepted,
-        written,
+        place,
+        entries,
     }
 }
 
@@ -119,28 +146,24 @@ pub fn carry_out(
     jobs: &mut Jobs,
     control: &mut Control,
     results: &mut Results,
-    report: &mut [u8],
-) -> Reply
-    requires { ⌜ Prepared (arrays n (now labels) (now jobs) (now control) (now results)) task (now order) (length (now report)) ⌝ }
+) -> Handed
+    requires { ⌜ Prepared (arrays n (now labels) (now jobs) (now control) (now results)) task (now order) ⌝ }
     ensures { λ r. ⌜ Carries (arrays n (now (labels .entry)) (now (jobs .entry)) (now (control .entry)) (now (results .entry))) task
-        (now (report .entry)) (arrays n (now (labels .exit)) (now (jobs .exit)) (now (control .exit)) (now (results .exit))) r (now (report .exit)) ⌝ }
+        (arrays n (now (labels .exit)) (now (jobs .exit)) (now (control .exit)) (now (results .exit))) r ⌝ }
 {
     arrays::shaped(*labels, *jobs, *control, *results);
     let m = task.action;
     let place = task.place;
     match m {
-        Move::Refused(refusal) => Reply {
+        Move::Refused(refusal) => Handed {
             refusal,
-            written: 0,
+            place,
+            entries: 0,
         },
         Move::BeginLabel => {
             jobs[PENDING][place] = task.job as u32;
-            control[PHASE][place] = SNAP_LABEL;
-            done(0)
-        }
-        Move::BeginScan => {
-            control[PHASE][place] = SNAP_SCAN;
-            done(0)
+            control[PHASE][place] = SNAP;
+            accepted(place, 0)
         }
         Move::SnapLabel => {
             let own = labels[PENDING][place];
@@ -152,35 +175,34 @@ pub fn carry_out(
                 own,
             );
             control[PHASE][place] = UPDATE;
-            done(0)
+            accepted(place, 0)
         }
         Move::SnapScan => {
             results[place] = scan_result(order, &jobs[CURRENT], n);
             control[PHASE][place] = END_SCAN;
-            done(0)
+            accepted(place, 0)
         }
         Move::Update => {
             labels[CURRENT][place] = labels[PENDING][place];
             jobs[CURRENT][place] = jobs[PENDING][place];
             control[PHASE][place] = END_LABEL;
-            done(0)
+            accepted(place, 0)
         }
         Move::EndLabel => {
             control[PHASE][place] = IDLE;
-            done(0)
+            accepted(place, 0)
         }
         Move::EndScan => {
             control[PHASE][place] = IDLE;
-            write_result(&results[place], n, task.line, report);
-            done(n * 29)
+            accepted(place, n)
         }
     }
 }
 
-// Judges a call on a table of n stations with this room for its report; `top` is the newest station, as far as it is known.
-pub fn judge(n: usize, q: Request, control: &Control, room: usize, top: usize) -> Task
+// Judges a call on a table of n stations with what is lent for its report; `top` is the newest station, as far as it is known.
+pub fn judge(n: usize, q: Request, control: &Control, room: Room, top: usize) -> Task
     requires { ⌜ (2 ≤ n) × (n ≤ 32) ⌝ }
-    ensures { λ r. ⌜ Judges n (now (control .entry)) q room top r ⌝ }
+    ensures { λ r. ⌜ Judges n (now (control .entry)) q (roomOf room) top r ⌝ }
 {
     let station = q.station;
     let job = q.job;
@@ -190,7 +212,6 @@ pub fn judge(n: usize, q: Request, control: &Control, room: usize, top: usize) -
         action: moves::judge(n, phase, q.code, station, job, room),
         place,
         job,
-        line: q.line,
         newest: top,
     }
 }
@@ -223,26 +244,55 @@ fn order_for(m: Move, rows: &[[u8; 31]; 32], n: usize) -> [usize; 32]
 fn serve(
     n: usize,
     request: Request,
+    room: Room,
     labels: &mut Labels,
     jobs: &mut Jobs,
     control: &mut Control,
     results: &mut Results,
-    report: &mut [u8],
-) -> Reply
+) -> Handed
     requires { ⌜ wellFormed (arrays n (now labels) (now jobs) (now control) (now results)) ≡ true ⌝ }
-    ensures { λ r. ⌜ Steps lent (arrays n (now (labels .entry)) (now (jobs .entry)) (now (control .entry)) (now (results .entry)))
-        (callOf request (length (now (report .entry)))) (now (report .entry))
-        (arrays n (now (labels .exit)) (now (jobs .exit)) (now (control .exit)) (now (results .exit)))
-        (refusalNumber (r .refusal)) (r .written) (now (report .exit)) ⌝ }
+    ensures { λ r. ⌜ Hands (arrays n (now (labels .entry)) (now (jobs .entry)) (now (control .entry)) (now (results .entry)))
+        (callOf request (roomOf room)) (arrays n (now (labels .exit)) (now (jobs .exit)) (now (control .exit)) (now (results .exit))) r ⌝ }
 {
-    let mut task = judge(n, request, control, report.len(), 0);
+    let mut task = judge(n, request, control, room, 0);
     let m = task.action;
     task.newest = newest_for(m, &labels[CURRENT], n);
     let order = order_for(m, &labels[CURRENT], n);
-    carry_out(n, task, &order, labels, jobs, control, results, report)
+    carry_out(n, task, &order, labels, jobs, control, results)
 }
 
-// A step call on a table of unknown content: 13 is judged first, on all that is lent. A refused call changes nothing.
+// A step call on a table of unknown content, up to what is written of it: 13 is judged first, on all that is lent. A refused call changes nothing.
+pub fn perform(
+    count: u64,
+    request: Request,
+    room: Room,
+    labels: &mut Labels,
+    jobs: &mut Jobs,
+    control: &mut Control,
+    results: &mut Results,
+) -> Handed
+    ensures { λ r. ⌜ Hands (arrays count (now (labels .entry)) (now (jobs .entry)) (now (control .entry)) (now (results .entry)))
+        (callOf request (roomOf room)) (arrays count (now (labels .exit)) (now (jobs .exit)) (now (control .exit)) (now (results .exit))) r ⌝ }
+{
+    if !well_formed::well_formed(count, labels, jobs, control, results) {
+        return Handed {
+            refusal: Refusal::IllFormedTable,
+            place: 0,
+            entries: 0,
+        };
+    }
+    serve(
+        count as usize,
+        request,
+        room,
+        labels,
+        jobs,
+        control,
+        results,
+    )
+}
+
+// A step call with a report buffer.
 pub fn step(
     count: u64,
     request: Request,
@@ -253,23 +303,41 @@ pub fn step(
     report: &mut [u8],
 ) -> Reply
     ensures { λ r. ⌜ Steps lent (arrays count (now (labels .entry)) (now (jobs .entry)) (now (control .entry)) (now (results .entry)))
-        (callOf request (length (now (report .entry)))) (now (report .entry))
+        (callOf request (Buffer (length (now (report .entry))))) (Bytes (now (report .entry)))
         (arrays count (now (labels .exit)) (now (jobs .exit)) (now (control .exit)) (now (results .exit)))
-        (refusalNumber (r .refusal)) (r .written) (now (report .exit)) ⌝ }
+        (refusalNumber (r .refusal)) (r .written) (Bytes (now (report .exit))) ⌝ }
 {
-    if !well_formed::well_formed(count, labels, jobs, control, results) {
-        return Reply {
-            refusal: Refusal::IllFormedTable,
-            written: 0,
-        };
+    let room = Room::Buffer(report.len());
+    let h = perform(count, request, room, labels, jobs, control, results);
+    let refusal = h.refusal;
+    let place = h.place;
+    let written = write_result(&results[place], h.entries, request.line, report);
+    Reply { refusal, written }
+}
+
+// A step call with a panel; `written` counts its records.
+pub fn step_shown(
+    count: u64,
+    request: Request,
+    labels: &mut Labels,
+    jobs: &mut Jobs,
+    control: &mut Control,
+    results: &mut Results,
+    panel: &mut [[u32; 3]],
+) -> Reply
+    ensures { λ r. ⌜ Steps lent (arrays count (now (labels .entry)) (now (jobs .entry)) (now (control .entry)) (now (results .entry)))
+        (callOf request (Panel (length (now (panel .entry))))) (Records (map recordOf (now (panel .entry))))
+        (arrays count (now (labels .exit)) (now (jobs .exit)) (now (control .exit)) (now (results .exit)))
+        (refusalNumber (r .refusal)) (r .written) (Records (map recordOf (now (panel .exit)))) ⌝ }
+{
+    let room = Room::Panel(panel.len());
+    let h = perform(count, request, room, labels, jobs, control, results);
+    let refusal = h.refusal;
+    let place = h.place;
+    fill(&results[place], h.entries, panel);
+    let shown = h.entries;
+    Reply {
+        refusal,
+        written: shown,
     }
-    serve(
-        count as usize,
-        request,
-        labels,
-        jobs,
-        control,
-        results,
-        report,
-    )
 }

@@ -1,4 +1,4 @@
--- Demand 3 of the exported functions: of every sequence of calls of tickets_step on a table that tickets_fresh made.
+-- Demand 3 of the exported functions: of every sequence of calls of tickets_step and tickets_step_panel on a table that tickets_fresh made.
 use Prim.Native.Nat.{ℕ}
 use native.Mathlib.Omega.{arith}
 use mathlib.Core.Path.{_≡_, refl, subst, _∙_}

@@ -1,11 +1,14 @@
 // The functions exported to programs in C and Rust: step calls on a table in four arrays, which its owner lends, and whole schedule files.
 ghost use mathlib.Core.Path.{_≡_};
 ghost use mathlib.Core.Logic.{_≢_};
+ghost use mathlib.Core.List.{map};
 ghost use lib.ListN.{length};
+ghost use Rattle.simulation.specs.Calls.{Buffer, Panel, Bytes, Records};
 ghost use Rattle.transition.specs.Sequences.{Steps};
 ghost use Rattle.moves.specs.Moves.{called};
 ghost use Rattle.arrays.specs.Arrays.{arrays};
 ghost use Rattle.arrays.specs.Form.{lent};
+ghost use Rattle.engine.specs.Contracts.{recordOf};
 ghost use Rattle.file.specs.Contracts.{ReportsFile};
 ghost use Rattle.exports.specs.Contracts.{Starts};
 use arrays::Control;
@@ -14,7 +17,7 @@ use arrays::Labels;
 use arrays::Results;
 use engine::Request;
 
-// What a caller is told: document 01's number, 0 if the call is served, and how many bytes of report were written.
+// What a caller is told: document 01's number, 0 if the call is served, and how many bytes or records of report were written.
 #[repr(C)]
 pub struct Answer {
     pub refusal: u64,
@@ -57,9 +60,9 @@ pub extern "C" fn tickets_step(
     report: &mut [u8],
 ) -> Answer
     ensures { λ r. ⌜ Steps lent (arrays count (now (labels .entry)) (now (jobs .entry)) (now (control .entry)) (now (results .entry)))
-        (called 0 code station job (length (now (report .entry)))) (now (report .entry))
+        (called 0 code station job (Buffer (length (now (report .entry))))) (Bytes (now (report .entry)))
         (arrays count (now (labels .exit)) (now (jobs .exit)) (now (control .exit)) (now (results .exit)))
-        (r .refusal) (r .written) (now (report .exit)) ⌝ }
+        (r .refusal) (r .written) (Bytes (now (report .exit))) ⌝ }
     ensures { λ r. ⌜ (r .refusal ≢ 0 → arrays count (now (labels .exit)) (now (jobs .exit)) (now (control .exit)) (now (results .exit))
         ≡ arrays count (now (labels .entry)) (now (jobs .entry)) (now (control .entry)) (now (results .entry))) ⌝ }
 {
@@ -75,6 +78,41 @@ pub extern "C" fn tickets_step(
     Answer {
         refusal: refusal.number(),
         written: reply.written as u64,
+    }
+}
+
+// A step call with a panel in place of the report buffer; a record is place, station and job. `written` counts records.
+#[no_mangle]
+pub extern "C" fn tickets_step_panel(
+    count: u64,
+    labels: &mut Labels,
+    jobs: &mut Jobs,
+    control: &mut Control,
+    results: &mut Results,
+    code: u64,
+    station: u64,
+    job: u64,
+    panel: &mut [[u32; 3]],
+) -> Answer
+    ensures { λ r. ⌜ Steps lent (arrays count (now (labels .entry)) (now (jobs .entry)) (now (control .entry)) (now (results .entry)))
+        (called 0 code station job (Panel (length (now (panel .entry))))) (Records (map recordOf (now (panel .entry))))
+        (arrays count (now (labels .exit)) (now (jobs .exit)) (now (control .exit)) (now (results .exit)))
+        (r .refusal) (r .written) (Records (map recordOf (now (panel .exit)))) ⌝ }
+    ensures { λ r. ⌜ (r .refusal ≢ 0 → arrays count (now (labels .exit)) (now (jobs .exit)) (now (control .exit)) (now (results .exit))
+        ≡ arrays count (now (labels .entry)) (now (jobs .entry)) (now (control .entry)) (now (results .entry))) ⌝ }
+{
+    arrays::shaped(*labels, *jobs, *control, *results);
+    let request = Request {
+        code,
+        station,
+        job,
+        line: 0,
+    };
+    let shown = engine::step_shown(count, request, labels, jobs, control, results, panel);
+    let refusal = shown.refusal;
+    Answer {
+        refusal: refusal.number(),
+        written: shown.written as u64,
     }
 }
 

@@ -10,7 +10,7 @@ use native.Mathlib.Omega.{arith}
 use lib.ListN.{length, take, drop, length-append, length-take, length-drop, drop-of-length-le}
 use lib.Seq.{take-at, length-take-le}
 use borrow.Rule.Slice.PartMut.{midOf, putMid}
-use Rattle.simulation.specs.Calls.{Call}
+use Rattle.simulation.specs.Calls.{Buffer, Call}
 use Rattle.transition.specs.Forms.{over}
 use Rattle.moves.specs.Moves.{refusalNumber, called}
 use Rattle.moves.specs.declared.Refusal.{Refusal}
@@ -165,10 +165,10 @@ module _ {s : Session Arrays} {chunk out₀ : Lists.List ℕ} {a : Arrays} {line
 
       -- a line that is served
       pub sofar-more : (station code job : ℕ) → nextLine lines l ≡ Step station code job → {a′ : Arrays} {n : ℕ} {x : Lists.List ℕ}
-          → Prints a (called (lines + 1) code station job 928) (midOf written k out) a′ n x → length x ≡ length (midOf written k out)
+          → Prints a (called (lines + 1) code station job (Buffer 928)) (midOf written k out) a′ n x → length x ≡ length (midOf written k out)
           → Sofar s chunk out₀ a′ (lines + 1) (written + n) (at + length l) (putMid written k out x)
       sofar-more station code job q {x = x} g y =
-          let b = shownOf lent a (called (lines + 1) code station job 928) in
+          let b = shownOf lent a (called (lines + 1) code station job (Buffer 928)) in
           let mid : length (midOf written k out) ≡ 928 = length-take-le k (drop written out) (rw length-drop (omega (arith, e, room-here))) ∙ e in
           let few : length b ≤ 928 = omega (arith, over-short b (midOf written k out) x (g .report) y, mid) in
           record {

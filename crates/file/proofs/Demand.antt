@@ -1,4 +1,5 @@
--- Demand 3 of schedule files on the tables that are lent: for every list of bytes whose header is accepted.
+-- Schedule files on the tables that are lent: demand 3, for every list of bytes whose header is accepted; and what Card 1 leaves as it was, for every list of
+-- bytes.
 use Prim.Native.Nat.{ℕ}
 use mathlib.Core.Path.{_≡_}
 use mathlib.Core.List.{List}
@@ -7,8 +8,13 @@ use Rattle.arrays.specs.Form.{lent}
 use Rattle.arrays.proofs.States.{lent-lawful}
 use Rattle.schedule.specs.Lines.{headerRead}
 use Rattle.schedule.specs.Demand.{FileDemand}
+use Rattle.schedule.specs.Before.{ListsAsBefore}
 use Rattle.schedule.proofs.FileTheorem.{file-demand}
+use Rattle.schedule.proofs.Before.{lists-as-before}
 use Rattle.schedule.specs.declared.Header.the-variants.{Stations}
 
 pub demand : (bs : List ℕ) (n : ℕ) → headerRead (take 18 bs) ≡ Stations n → FileDemand lent bs n
 demand = file-demand lent lent-lawful
+
+pub listed-before : (bs : List ℕ) → ListsAsBefore lent bs
+listed-before = lists-as-before lent lent-lawful

@@ -7,7 +7,7 @@ use mathlib.Core.List as Lists
 use mathlib.Core.List.{[]}
 use lib.ListN.{length, getD}
 use lib.Dec.{leb}
-use Rattle.simulation.specs.Calls.{Call}
+use Rattle.simulation.specs.Calls.{Call, bytesOf}
 use Rattle.transition.specs.Forms.{over, freshTable, stepOf, after}
 use Rattle.moves.specs.Moves.{refusalNumber}
 use Rattle.arrays.specs.Arrays.{Arrays}
@@ -29,8 +29,8 @@ pub record Runnable (a : Arrays) (order : Lists.List ℕ) : Type 0 where
 -- the step call c on the table a, and what its line prints into the buffer: n bytes
 pub record Prints (a : Arrays) (c : Call) (buffer : Lists.List ℕ) (a′ : Arrays) (n : ℕ) (buffer′ : Lists.List ℕ) : Type 0 where
   pub table : a′ ≡ stepOf lent a c .table
-  pub count : n ≡ length (printed (c .line) (stepOf lent a c .refusal) (stepOf lent a c .bytes))
-  pub report : buffer′ ≡ over (printed (c .line) (stepOf lent a c .refusal) (stepOf lent a c .bytes)) buffer
+  pub count : n ≡ length (printed (c .line) (stepOf lent a c .refusal) (bytesOf (stepOf lent a c .report)))
+  pub report : buffer′ ≡ over (printed (c .line) (stepOf lent a c .refusal) (bytesOf (stepOf lent a c .report))) buffer
 
 -- how many lines the first bytes of a part of the file are cut into
 abbrev pub readLines : ℕ → ℕ

@@ -5,6 +5,7 @@ ghost use mathlib.Core.List.{[], _++_};
 ghost use Prim.Native.Nat.{_+_, _≤_, _<_};
 ghost use lib.ListN.{length, take, drop};
 ghost use Rattle.rows.specs.Held.{Orderly, OrderedBefore};
+ghost use Rattle.simulation.specs.Calls.{Buffer};
 ghost use Rattle.transition.specs.Forms.{over, freshTable};
 ghost use Rattle.moves.specs.Moves.{refusalNumber};
 ghost use Rattle.moves.specs.declared.Refusal.the-variants.{Accepted};
@@ -24,6 +25,7 @@ use engine::Reply;
 use engine::Request;
 use moves::Move;
 use moves::Refusal;
+use moves::Room;
 use schedule::Header;
 use schedule::Line;
 
@@ -103,16 +105,18 @@ fn serve_line(
     requires { ⌜ Runnable (arrays n (now labels) (now jobs) (now control) (now results)) (now order) ⌝ }
     requires { ⌜ length (now out) ≡ 928 ⌝ }
     ensures { λ r. ⌜ Prints (arrays n (now (labels .entry)) (now (jobs .entry)) (now (control .entry)) (now (results .entry)))
-        (callOf request 928) (now (out .entry))
+        (callOf request (Buffer 928)) (now (out .entry))
         (arrays n (now (labels .exit)) (now (jobs .exit)) (now (control .exit)) (now (results .exit))) r (now (out .exit)) ⌝ }
     ensures { λ _. ⌜ Runnable (arrays n (now (labels .exit)) (now (jobs .exit)) (now (control .exit)) (now (results .exit))) (now (order .exit)) ⌝ }
 {
-    let task = engine::judge(n, request, control, ROOM, order[n - 1]);
-    let reply = engine::carry_out(n, task, order, labels, jobs, control, results, out);
+    let task = engine::judge(n, request, control, Room::Buffer(ROOM), order[n - 1]);
+    let h = engine::carry_out(n, task, order, labels, jobs, control, results);
     let m = task.action;
-    refresh_order(m, task.place, &labels[0], n, order);
-    let refusal = reply.refusal;
-    reply.written + print_refusal(request.line, refusal, out)
+    let place = task.place;
+    refresh_order(m, place, &labels[0], n, order);
+    let refusal = h.refusal;
+    let written = engine::write_result(&results[place], h.entries, request.line, out);
+    written + print_refusal(request.line, refusal, out)
 }
 
 // Serves the lines of a part of the file after `lines` others, and writes what they print: up to a final refusal, or until there is no room for the report
@@ -282,7 +286,7 @@ pub fn report(file: &[u8], out: &mut [u8]) -> Reply
         Header::Refused(refusal) => {
             if out.len() < 29 {
                 return Reply {
-                    refusal: Refusal::BufferTooShort,
+                    refusal: Refusal::NoRoom,
                     written: 0,
                 };
             }
@@ -293,7 +297,7 @@ pub fn report(file: &[u8], out: &mut [u8]) -> Reply
             let rest = from(file, header.len());
             if out.len() < report_size(n, rest, out.len()) {
                 return Reply {
-                    refusal: Refusal::BufferTooShort,
+                    refusal: Refusal::NoRoom,
                     written: 0,
                 };
             }

@@ -1,3 +1,4 @@
 pub mod Lent
+pub mod Local
 pub mod Numbers
 pub mod Report

@@ -1,6 +1,7 @@
 // The step calls on a table that its owner lends. Each calls the step by value of the same name.
 ghost use mathlib.Core.List.{[]};
 ghost use lib.ListN.{length};
+ghost use Rattle.simulation.specs.Calls.{Buffer, Bytes};
 ghost use Rattle.transition.specs.Sequences.{Steps};
 ghost use Rattle.moves.specs.Moves.{refusalNumber, called};
 ghost use Rattle.table.specs.Tables.{declared};
@@ -10,8 +11,8 @@ use table::Table;
 
 // A step call.
 pub fn step(t: &mut Table, code: u64, station: u64, job: u64, report: &mut [u8]) -> Reply
-    ensures { λ r. ⌜ Steps declared (now (t .entry)) (called 0 code station job (length (now (report .entry)))) (now (report .entry))
-        (now (t .exit)) (refusalNumber (r .refusal)) (r .written) (now (report .exit)) ⌝ }
+    ensures { λ r. ⌜ Steps declared (now (t .entry)) (called 0 code station job (Buffer (length (now (report .entry))))) (Bytes (now (report .entry)))
+        (now (t .exit)) (refusalNumber (r .refusal)) (r .written) (Bytes (now (report .exit))) ⌝ }
 {
     let next = step::step(*t, code, station, job, report);
     *t = next.table;
@@ -20,25 +21,28 @@ pub fn step(t: &mut Table, code: u64, station: u64, job: u64, report: &mut [u8])
 
 // A station begins to take a label for a job.
 pub fn begin_label(t: &mut Table, station: u64, job: u64) -> Reply
-    ensures { λ r. ⌜ Steps declared (now (t .entry)) (called 0 1 station job 0) [] (now (t .exit)) (refusalNumber (r .refusal)) (r .written) [] ⌝ }
+    ensures { λ r. ⌜ Steps declared (now (t .entry)) (called 0 1 station job (Buffer 0)) (Bytes []) (now (t .exit)) (refusalNumber (r .refusal)) (r .written)
+        (Bytes []) ⌝ }
 {
     let next = step::begin_label(*t, station, job);
     *t = next.table;
     next.reply
 }
 
-// A station begins a scan.
-pub fn begin_scan(t: &mut Table, station: u64) -> Reply
-    ensures { λ r. ⌜ Steps declared (now (t .entry)) (called 0 2 station 0 0) [] (now (t .exit)) (refusalNumber (r .refusal)) (r .written) [] ⌝ }
+// A station scans: it begins, and takes its snapshot.
+pub fn scan(t: &mut Table, station: u64) -> Reply
+    ensures { λ r. ⌜ Steps declared (now (t .entry)) (called 0 2 station 0 (Buffer 0)) (Bytes []) (now (t .exit)) (refusalNumber (r .refusal)) (r .written)
+        (Bytes []) ⌝ }
 {
-    let next = step::begin_scan(*t, station);
+    let next = step::scan(*t, station);
     *t = next.table;
     next.reply
 }
 
-// A station takes its snapshot.
+// A station takes its snapshot for a label.
 pub fn snap(t: &mut Table, station: u64) -> Reply
-    ensures { λ r. ⌜ Steps declared (now (t .entry)) (called 0 3 station 0 0) [] (now (t .exit)) (refusalNumber (r .refusal)) (r .written) [] ⌝ }
+    ensures { λ r. ⌜ Steps declared (now (t .entry)) (called 0 3 station 0 (Buffer 0)) (Bytes []) (now (t .exit)) (refusalNumber (r .refusal)) (r .written)
+        (Bytes []) ⌝ }
 {
     let next = step::snap(*t, station);
     *t = next.table;
@@ -47,7 +51,8 @@ pub fn snap(t: &mut Table, station: u64) -> Reply
 
 // A station writes its pending label and job.
 pub fn update(t: &mut Table, station: u64) -> Reply
-    ensures { λ r. ⌜ Steps declared (now (t .entry)) (called 0 4 station 0 0) [] (now (t .exit)) (refusalNumber (r .refusal)) (r .written) [] ⌝ }
+    ensures { λ r. ⌜ Steps declared (now (t .entry)) (called 0 4 station 0 (Buffer 0)) (Bytes []) (now (t .exit)) (refusalNumber (r .refusal)) (r .written)
+        (Bytes []) ⌝ }
 {
     let next = step::update(*t, station);
     *t = next.table;
@@ -56,8 +61,8 @@ pub fn update(t: &mut Table, station: u64) -> Reply
 
 // A station ends its operation; a scan is reported.
 pub fn end(t: &mut Table, station: u64, report: &mut [u8]) -> Reply
-    ensures { λ r. ⌜ Steps declared (now (t .entry)) (called 0 5 station 0 (length (now (report .entry)))) (now (report .entry))
-        (now (t .exit)) (refusalNumber (r .refusal)) (r .written) (now (report .exit)) ⌝ }
+    ensures { λ r. ⌜ Steps declared (now (t .entry)) (called 0 5 station 0 (Buffer (length (now (report .entry))))) (Bytes (now (report .entry)))
+        (now (t .exit)) (refusalNumber (r .refusal)) (r .written) (Bytes (now (report .exit))) ⌝ }
 {
     let next = step::end(*t, station, report);
     *t = next.table;
@@ -66,8 +71,8 @@ pub fn end(t: &mut Table, station: u64, report: &mut [u8]) -> Reply
 
 // The owner of a table lends it for a step call, and hands it back: whoever calls this has no reference to a table.
 pub fn step_owned(t: Table, code: u64, station: u64, job: u64, report: &mut [u8]) -> Outcome
-    ensures { λ r. ⌜ Steps declared t (called 0 code station job (length (now (report .entry)))) (now (report .entry))
-        (r .table) (refusalNumber (r .reply .refusal)) (r .reply .written) (now (report .exit)) ⌝ }
+    ensures { λ r. ⌜ Steps declared t (called 0 code station job (Buffer (length (now (report .entry))))) (Bytes (now (report .entry)))
+        (r .table) (refusalNumber (r .reply .refusal)) (r .reply .written) (Bytes (now (report .exit))) ⌝ }
 {
     let mut own = t;
     let reply = step(&mut own, code, station, job, report);

@@ -16,28 +16,27 @@ use Rattle.simulation.specs.Calls.{Call, judgeIn}
 use Rattle.simulation.proofs.Judged.{begin-fits, verdict}
 use Rattle.moves.specs.Moves.{moveOf, placeOf}
 use Rattle.moves.specs.declared.Move.{Move}
-use Rattle.moves.specs.declared.Move.the-variants.{Refused, BeginLabel, BeginScan, SnapLabel, SnapScan, Update, EndLabel, EndScan}
+use Rattle.moves.specs.declared.Move.the-variants.{Refused, BeginLabel, SnapLabel, SnapScan, Update, EndLabel, EndScan}
 use Rattle.moves.specs.declared.Refusal.{Refusal}
 use Rattle.moves.proofs.Move.{the-type}
 
 -- a fact about every move, from one for each
-pub by-move : (P : Move → Type 0) → ((x : Refusal) → P (Refused x)) → P BeginLabel → P BeginScan → P SnapLabel → P SnapScan → P Update → P EndLabel
-    → P EndScan → (m : Move) → P m
-by-move P r a b c d e f g (Refused x) = r x
-by-move P r a b c d e f g BeginLabel = a
-by-move P r a b c d e f g BeginScan = b
-by-move P r a b c d e f g SnapLabel = c
-by-move P r a b c d e f g SnapScan = d
-by-move P r a b c d e f g Update = e
-by-move P r a b c d e f g EndLabel = f
-by-move P r a b c d e f g EndScan = g
+pub by-move : (P : Move → Type 0) → ((x : Refusal) → P (Refused x)) → P BeginLabel → P SnapLabel → P SnapScan → P Update → P EndLabel → P EndScan
+    → (m : Move) → P m
+by-move P r a b c d e f (Refused x) = r x
+by-move P r a b c d e f BeginLabel = a
+by-move P r a b c d e f SnapLabel = b
+by-move P r a b c d e f SnapScan = c
+by-move P r a b c d e f Update = d
+by-move P r a b c d e f EndLabel = e
+by-move P r a b c d e f EndScan = f
 
 -- a move in an arm for these tags is none that the arm leaves out
 pub not-among : (tags : List ℕ) (x : Move) → T (not (hasKey tags (tagOf the-type x))) → (m : Move) → OneOf tags (tagOf the-type m) → m ≢ x
 not-among tags x out m h e = miss tags (tagOf the-type x) out (subst (λ y. OneOf tags (tagOf the-type y)) e h)
 
 -- a label operation that is judged to begin has a job of 32 bits
-pub begun-job : (n : ℕ) (ph : Calls.Phase) (c : Call) (k : ℕ) (m : Move) → moveOf k (c .job) m ≡ judgeIn n ph c → m ≡ BeginLabel → c .job ≤ 4294967295
+pub begun-job : (n : ℕ) (ph : Calls.Phase) (c : Call) (k : ℕ) (m : Move) → moveOf k (c .job) m ≡ judgeIn false n ph c → m ≡ BeginLabel → c .job ≤ 4294967295
 begun-job n ph c k m h e = begin-fits (verdict n c ph) (sym h ∙ ap (moveOf k (c .job)) e)
 
 -- the place of a station that there is, and of one that there is not

@@ -1,4 +1,4 @@
--- What a step call amounts to: the declared phases, refusals and moves as the machine has them, a call from its parts and the place of its station.
+-- What a step call amounts to: the declared phases, room, refusals and moves as the machine has them, a call from its parts and the place of its station.
 use Prim.Native.Nat.{ℕ, _-_}
 use mathlib.Core.Bool.{cond}
 use Rattle.basics.specs.Tests.{within}
@@ -8,13 +8,15 @@ use Rattle.moves.specs.declared.Operation.{Operation}
 use Rattle.moves.specs.declared.Operation.the-variants.{Label, Scan}
 use Rattle.moves.specs.declared.Phase.{Phase}
 use Rattle.moves.specs.declared.Phase.the-variants.{Idle, Snap, Update, End}
+use Rattle.moves.specs.declared.Room.{Room}
+use Rattle.moves.specs.declared.Room.the-variants.{Buffer, Panel}
 use Rattle.moves.specs.declared.Refusal.{Refusal}
 use Rattle.moves.specs.declared.Refusal.the-variants.{Accepted, StationCount, UnknownStation, Busy, NoSnapDue, NoUpdateDue, NothingToEnd}
-use Rattle.moves.specs.declared.Refusal.the-variants.{BufferTooShort, IncompleteLine, MalformedColumn, UnknownStep, JobOutOfRange, TooManyLines}
+use Rattle.moves.specs.declared.Refusal.the-variants.{NoRoom, IncompleteLine, MalformedColumn, UnknownStep, JobOutOfRange, TooManyLines}
 use Rattle.moves.specs.declared.Refusal.the-variants.{IllFormedTable}
 use Rattle.moves.specs.declared.Move.{Move}
 use Rattle.moves.specs.declared.Move.the-variants as Moves
-use Rattle.moves.specs.declared.Move.the-variants.{Refused, BeginLabel, BeginScan, SnapLabel, SnapScan, EndLabel, EndScan}
+use Rattle.moves.specs.declared.Move.the-variants.{Refused, BeginLabel, SnapLabel, SnapScan, EndLabel, EndScan}
 
 -- the declared operations and phases as the machine's
 abbrev pub operationOf : Operation → Calls.Operation
@@ -23,9 +25,14 @@ operationOf Scan = Calls.Scan
 
 abbrev pub phaseOf : Phase → Calls.Phase
 phaseOf Idle = Calls.Idle
-phaseOf (Snap o) = Calls.Snap (operationOf o)
+phaseOf Snap = Calls.Snap Calls.Label
 phaseOf Update = Calls.Update
 phaseOf (End o) = Calls.End (operationOf o)
+
+-- and what is lent
+abbrev pub roomOf : Room → Calls.Room
+roomOf (Buffer b) = Calls.Buffer b
+roomOf (Panel r) = Calls.Panel r
 
 -- 01, "When a step is turned down": the number of each refusal
 abbrev pub refusalNumber : Refusal → ℕ
@@ -36,7 +43,7 @@ refusalNumber Busy = 3
 refusalNumber NoSnapDue = 4
 refusalNumber NoUpdateDue = 5
 refusalNumber NothingToEnd = 6
-refusalNumber BufferTooShort = 7
+refusalNumber NoRoom = 7
 refusalNumber IncompleteLine = 8
 refusalNumber MalformedColumn = 9
 refusalNumber UnknownStep = 10
@@ -48,7 +55,6 @@ refusalNumber IllFormedTable = 13
 abbrev pub moveOf : ℕ → ℕ → Move → Calls.Move
 moveOf k job (Refused r) = Calls.Move.refused (refusalNumber r)
 moveOf k job BeginLabel = Calls.Move.begins k job Calls.Label
-moveOf k job BeginScan = Calls.Move.begins k job Calls.Scan
 moveOf k job SnapLabel = Calls.Move.snaps k Calls.Label
 moveOf k job SnapScan = Calls.Move.snaps k Calls.Scan
 moveOf k job Moves.Update = Calls.Move.updates k
@@ -56,7 +62,7 @@ moveOf k job EndLabel = Calls.Move.ends k Calls.Label
 moveOf k job EndScan = Calls.Move.ends k Calls.Scan
 
 -- a call from its parts
-abbrev pub called : ℕ → ℕ → ℕ → ℕ → ℕ → Call
+abbrev pub called : ℕ → ℕ → ℕ → ℕ → Calls.Room → Call
 called line code station job room = record { line = line; code = code; station = station; job = job; room = room }
 
 -- the place of a station of n, from 0; 0 if there is no such station

@@ -1,8 +1,9 @@
 // What a step call amounts to, and its refusal.
 ghost use mathlib.Core.Path.{_≡_};
+ghost use mathlib.Core.Bool.{false};
 ghost use Prim.Native.Nat.{ℕ, _-_, _≤_};
-ghost use Rattle.simulation.specs.Calls.{snaps, ends, unless, jobFits, roomFor, byPhase, judgeIn};
-ghost use Rattle.moves.specs.Moves.{operationOf, phaseOf, refusalNumber, moveOf, called, placeOf};
+ghost use Rattle.simulation.specs.Calls.{refused, unless, jobFits, notDue, holds, byPhase, judgeIn};
+ghost use Rattle.moves.specs.Moves.{phaseOf, roomOf, refusalNumber, moveOf, called, placeOf};
 
 // What a process is doing: it takes a label, or it scans (document 01: mark, list).
 pub enum Operation {
@@ -10,12 +11,19 @@ pub enum Operation {
     Scan,
 }
 
-// What a process is due to do next (document 01: idle; due to look, write, end). The paper's pc with its op.
+// What a process is due to do next (document 01: idle; due to look, write, end). The paper's pc with its op. A scan snaps as it begins, so a snap that is
+// due is for a label.
 pub enum Phase {
     Idle,
-    Snap(Operation),
+    Snap,
     Update,
     End(Operation),
+}
+
+// What a caller lends for the report of a scan: a buffer of so many bytes, or a panel of so many records.
+pub enum Room {
+    Buffer(usize),
+    Panel(usize),
 }
 
 // Why a call is turned down, in the order of document 01's numbers; `Accepted` is 0. Its trade words stand beside the names.
@@ -27,7 +35,7 @@ pub enum Refusal {
     NoSnapDue, // 4, no look due
     NoUpdateDue, // 5, no write due
     NothingToEnd, // 6
-    BufferTooShort, // 7, short paper
+    NoRoom, // 7, short paper
     IncompleteLine, // 8, torn line
     MalformedColumn, // 9, bad column
     UnknownStep, // 10
@@ -49,7 +57,7 @@ impl Refusal {
             Refusal::NoSnapDue => 4,
             Refusal::NoUpdateDue => 5,
             Refusal::NothingToEnd => 6,
-            Refusal::BufferTooShort => 7,
+            Refusal::NoRoom => 7,
             Refusal::IncompleteLine => 8,
             Refusal::MalformedColumn => 9,
             Refusal::UnknownStep => 10,
@@ -60,11 +68,10 @@ impl Refusal {
     }
 }
 
-// What a call amounts to.
+// What a call amounts to; a scan's begin is part of its snap.
 pub enum Move {
     Refused(Refusal),
     BeginLabel,
-    BeginScan,
     SnapLabel,
     SnapScan,
     Update,
@@ -72,93 +79,89 @@ pub enum Move {
     EndScan,
 }
 
-// A begin (code 1 or 2), which asks for an idle station.
-fn begins(code: u64, p: Phase) -> Move
-    requires { ⌜ (1 ≤ code) × (code ≤ 2) ⌝ }
-    ensures { λ r. ⌜ ((n line station job room : ℕ) → moveOf (station - 1) job r ≡ byPhase n (called line code station job room) (phaseOf p)) ⌝ }
+// Whether there is room for n stations.
+fn room_for(n: usize, room: Room) -> bool
+    requires { ⌜ n ≤ 32 ⌝ }
+    ensures { λ r. ⌜ r ≡ holds (roomOf room) n ⌝ }
+{
+    match room {
+        Room::Buffer(bytes) => n * 29 <= bytes,
+        Room::Panel(records) => n <= records,
+    }
+}
+
+// The refusal of a step that is not due.
+fn not_due(code: u64) -> Move
+    requires { ⌜ code ≤ 5 ⌝ }
+    ensures { λ r. ⌜ ((k job : ℕ) → moveOf k job r ≡ refused (notDue code)) ⌝ }
+{
+    if code <= 2 {
+        return Move::Refused(Refusal::Busy);
+    }
+    if code == 3 {
+        return Move::Refused(Refusal::NoSnapDue);
+    }
+    if code == 4 {
+        return Move::Refused(Refusal::NoUpdateDue);
+    }
+    Move::Refused(Refusal::NothingToEnd)
+}
+
+// What a known step with a fitting job amounts to, by the phase of its station.
+fn by_phase(n: usize, code: u64, room: Room, p: Phase) -> Move
+    requires { ⌜ n ≤ 32 ⌝ }
+    requires { ⌜ code ≤ 5 ⌝ }
+    ensures { λ r. ⌜ ((line station job : ℕ) → moveOf (station - 1) job r ≡ byPhase false n (called line code station job (roomOf room)) (phaseOf p)) ⌝ }
 {
     match p {
         Phase::Idle => {
             if code == 1 {
-                Move::BeginLabel
-            } else {
-                Move::BeginScan
+                return Move::BeginLabel;
             }
-        }
-        Phase::Snap(_) => Move::Refused(Refusal::Busy),
-        Phase::Update => Move::Refused(Refusal::Busy),
-        Phase::End(_) => Move::Refused(Refusal::Busy),
-    }
-}
-
-fn snap_for(o: Operation) -> Move
-    ensures { λ r. ⌜ ((k job : ℕ) → moveOf k job r ≡ snaps k (operationOf o)) ⌝ }
-{
-    match o {
-        Operation::Label => Move::SnapLabel,
-        Operation::Scan => Move::SnapScan,
-    }
-}
-
-// A snap, by the operation that it is due for.
-fn snaps(p: Phase) -> Move
-    ensures { λ r. ⌜ ((n line station job room : ℕ) → moveOf (station - 1) job r ≡ byPhase n (called line 3 station job room) (phaseOf p)) ⌝ }
-{
-    match p {
-        Phase::Idle => Move::Refused(Refusal::NoSnapDue),
-        Phase::Snap(o) => snap_for(o),
-        Phase::Update => Move::Refused(Refusal::NoSnapDue),
-        Phase::End(_) => Move::Refused(Refusal::NoSnapDue),
-    }
-}
-
-fn updates(p: Phase) -> Move
-    ensures { λ r. ⌜ ((n line station job room : ℕ) → moveOf (station - 1) job r ≡ byPhase n (called line 4 station job room) (phaseOf p)) ⌝ }
-{
-    match p {
-        Phase::Idle => Move::Refused(Refusal::NoUpdateDue),
-        Phase::Snap(_) => Move::Refused(Refusal::NoUpdateDue),
-        Phase::Update => Move::Update,
-        Phase::End(_) => Move::Refused(Refusal::NoUpdateDue),
-    }
-}
-
-fn end_of(o: Operation, n: usize, room: usize) -> Move
-    requires { ⌜ n ≤ 32 ⌝ }
-    ensures { λ r. ⌜ ((line station job : ℕ) → moveOf (station - 1) job r ≡ unless (roomFor n (called line 5 station job room) (operationOf o)) 7
-        (ends (station - 1) (operationOf o))) ⌝ }
-{
-    match o {
-        Operation::Label => Move::EndLabel,
-        Operation::Scan => {
-            if n * 29 <= room {
-                Move::EndScan
-            } else {
-                Move::Refused(Refusal::BufferTooShort)
+            if code == 2 {
+                return Move::SnapScan;
             }
+            not_due(code)
         }
-    }
-}
-
-// An end; that of a scan asks for room for the report lines of n stations.
-fn ends(p: Phase, n: usize, room: usize) -> Move
-    requires { ⌜ n ≤ 32 ⌝ }
-    ensures { λ r. ⌜ ((line station job : ℕ) → moveOf (station - 1) job r ≡ byPhase n (called line 5 station job room) (phaseOf p)) ⌝ }
-{
-    match p {
-        Phase::Idle => Move::Refused(Refusal::NothingToEnd),
-        Phase::Snap(_) => Move::Refused(Refusal::NothingToEnd),
-        Phase::Update => Move::Refused(Refusal::NothingToEnd),
-        Phase::End(o) => end_of(o, n, room),
+        Phase::Snap => {
+            if code == 3 {
+                return Move::SnapLabel;
+            }
+            not_due(code)
+        }
+        Phase::Update => {
+            if code == 4 {
+                return Move::Update;
+            }
+            not_due(code)
+        }
+        Phase::End(o) => match o {
+            Operation::Label => {
+                if code == 5 {
+                    return Move::EndLabel;
+                }
+                not_due(code)
+            }
+            Operation::Scan => {
+                if code != 5 {
+                    return not_due(code);
+                }
+                if room_for(n, room) {
+                    Move::EndScan
+                } else {
+                    Move::Refused(Refusal::NoRoom)
+                }
+            }
+        },
     }
 }
 
 // What a known step of one of n stations amounts to: its job is judged first, and then the phase.
-fn by_code(n: usize, code: u64, job: u64, room: usize, p: Phase) -> Move
+fn by_code(n: usize, code: u64, job: u64, room: Room, p: Phase) -> Move
     requires { ⌜ n ≤ 32 ⌝ }
-    requires { ⌜ (1 ≤ code) × (code ≤ 5) ⌝ }
+    requires { ⌜ code ≤ 5 ⌝ }
     ensures { λ r. ⌜ ((line station : ℕ) → moveOf (station - 1) job r ≡ unless (jobFits code job) 11
-        (byPhase n (called line code station job room) (phaseOf p))) ⌝ }
+        (byPhase false n (called line code station job (roomOf room)) (phaseOf p))) ⌝ }
 {
     if code == 1 {
         if job < 1 {
@@ -167,27 +170,18 @@ fn by_code(n: usize, code: u64, job: u64, room: usize, p: Phase) -> Move
         if 4294967295 < job {
             return Move::Refused(Refusal::JobOutOfRange);
         }
-        return begins(1, p);
+        return by_phase(n, code, room, p);
     }
     if job != 0 {
         return Move::Refused(Refusal::JobOutOfRange);
     }
-    if code == 2 {
-        return begins(2, p);
-    }
-    if code == 3 {
-        return snaps(p);
-    }
-    if code == 4 {
-        return updates(p);
-    }
-    ends(p, n, room)
+    by_phase(n, code, room, p)
 }
 
 // What a call amounts to for a station in this phase, of n stations.
-pub fn judge(n: usize, p: Phase, code: u64, station: u64, job: u64, room: usize) -> Move
+pub fn judge(n: usize, p: Phase, code: u64, station: u64, job: u64, room: Room) -> Move
     requires { ⌜ n ≤ 32 ⌝ }
-    ensures { λ r. ⌜ ((line : ℕ) → moveOf (placeOf n station) job r ≡ judgeIn n (phaseOf p) (called line code station job room)) ⌝ }
+    ensures { λ r. ⌜ ((line : ℕ) → moveOf (placeOf n station) job r ≡ judgeIn false n (phaseOf p) (called line code station job (roomOf room))) ⌝ }
 {
     if code < 1 {
         return Move::Refused(Refusal::UnknownStep);

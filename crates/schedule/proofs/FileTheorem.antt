@@ -1,26 +1,32 @@
 -- Demand 3 of schedule files on tables of every lawful form.
-use Prim.Native.Nat.{ℕ, _+_, _≤_}
+use Prim.Native.Nat.{ℕ, _+_, _*_, _≤_}
 use native.Mathlib.Omega.{arith}
 use mathlib.Core.Path.{_≡_, refl, sym, ap, _∙_}
 use mathlib.Core.Logic.{_≢_}
+use mathlib.Core.Bool.{true}
 use mathlib.Core.List as Lists
 use mathlib.Core.List.{[], _∷_, _++_, map, append-nil, append-assoc}
 use lib.ListN.{length, take}
+use borrow.Author.Tests.{le-leb}
 use Rattle.basics.specs.Tests.{All}
-use Rattle.simulation.specs.Calls.{Call}
+use Rattle.basics.proofs.Facts.{tf}
+use Rattle.simulation.specs.Calls.{Call, Buffer, holds, bytesOf}
+use Rattle.simulation.specs.Machine.{Seen}
 use Rattle.transition.specs.Forms.{Form, freshTable, stepOf}
 use Rattle.transition.specs.Demand.{run, seen, Demand3}
-use Rattle.transition.proofs.Theorem.{Lawful, demand, ReachedTable, table-fresh, table-short, table-step}
+use Rattle.transition.proofs.Theorem.{Lawful, demand, ReachedTable, table-fresh, table-refusals, table-step, same-seen}
 use Rattle.moves.specs.Moves.{refusalNumber, called}
 use Rattle.moves.specs.declared.Refusal.the-variants.{Accepted}
 use Rattle.schedule.specs.Lines.{nextLine, headerRead}
 use Rattle.schedule.specs.Sessions.{Session, session, Served, ended, stepLine}
-use Rattle.schedule.specs.Files.{stepLines, printed, runLines}
+use Rattle.schedule.specs.Files.{stepLines, refusalLine, printed, runLines, fileReport}
 use Rattle.schedule.specs.Demand.{callThen, stepCalls, endThen, ending, roomy, fileCalls, printedCalls, endPrinted, FileDemand}
 use Rattle.schedule.proofs.SessionLaws.{Numbered, next-numbered, header-stations, Live, fresh-live, live-final, live-serve, next-live}
-use Rattle.schedule.proofs.Runs.{final-run, file-served}
+use Rattle.schedule.proofs.Runs.{final-run, file-refused, file-served}
 use Rattle.schedule.specs.declared.Line.{Line}
 use Rattle.schedule.specs.declared.Line.the-variants.{Step, Refused}
+use Rattle.schedule.specs.declared.Header.{Header}
+use Rattle.schedule.specs.declared.Header.the-variants as Headers
 use Rattle.schedule.specs.declared.Header.the-variants.{Stations}
 
 module _ (F : Form) (L : Lawful F) (n : ℕ) (low : 2 ≤ n) (high : n ≤ 32) where
@@ -58,9 +64,9 @@ module _ (F : Form) (L : Lawful F) (n : ℕ) (low : 2 ≤ n) (high : n ≤ 32) w
           rw (final-run F (ended s r) ls d)
           (append-nil (printed (s .lines + 1) (refusalNumber r) []) ∙ ap (λ i. printed i (refusalNumber r) []) number)
       go (Step st k j) d ih =
-          let c = called (s .lines + 1) k st j 928 in
+          let c = called (s .lines + 1) k st j (Buffer 928) in
           let a = stepOf F (s .table) c in
-          let here = printed (s .lines + 1) (a .refusal) (a .bytes) in
+          let here = printed (s .lines + 1) (a .refusal) (bytesOf (a .report)) in
           let others = printedCalls cs (map (seen F) (run F (a .table) cs)) in
           let number : s .lines + 1 + length cs + 1 ≡ s .lines + length (c ∷ cs) + 1 = omega arith in
           ap (λ b. here ++ b) (ih (session (s .lines + 1) (s .refusal) (a .table)) (next-live F L n low high s v c (s .lines + 1)))
@@ -69,13 +75,16 @@ module _ (F : Form) (L : Lawful F) (n : ℕ) (low : 2 ≤ n) (high : n ≤ 32) w
 
   -- ROOM: with that for 32 report lines no call is refused by 7
 
-  never-short : (cs : Lists.List Call) → All (λ c. c .room ≡ 928) cs → (t : F .Table) → ReachedTable F n t → All (λ a. a .refusal ≢ 7) (run F t cs)
+  never-short : (cs : Lists.List Call) → All (λ c. c .room ≡ Buffer 928) cs → (t : F .Table) → ReachedTable F n t → All (λ a. a .refusal ≢ 7) (run F t cs)
   unfolding run
   never-short [] h t r = tt
   never-short (c ∷ cs) h t r =
-      (λ z. omega (arith, table-short F L n low high t r c z, h .0), never-short cs (h .1) (stepOf F t c .table) (table-step F L n low high t r c))
+      (λ z. tf (enough c (h .0)) (table-refusals F L n low high t r c .short z), never-short cs (h .1) (stepOf F t c .table) (table-step F L n low high t r c))
+    where
+      enough : (c : Call) → c .room ≡ Buffer 928 → holds (c .room) n ≡ true
+      enough c e = ap (λ r. holds r n) e ∙ le-leb (n * 29) 928 (omega arith)
 
-lines-roomy : (lines : ℕ) (ls : Lists.List (Lists.List ℕ)) → All (λ c. c .room ≡ 928) (stepCalls lines (map roomy ls))
+lines-roomy : (lines : ℕ) (ls : Lists.List (Lists.List ℕ)) → All (λ c. c .room ≡ Buffer 928) (stepCalls lines (map roomy ls))
 unfolding stepCalls
 lines-roomy lines [] = tt
 lines-roomy lines (l ∷ ls) = go (nextLine lines l) (lines-roomy (lines + 1) ls)
@@ -83,7 +92,7 @@ lines-roomy lines (l ∷ ls) = go (nextLine lines l) (lines-roomy (lines + 1) ls
     cs : Lists.List Call
     cs = stepCalls (lines + 1) (map roomy ls)
 
-    go : (w : Line) → All (λ c. c .room ≡ 928) cs → All (λ c. c .room ≡ 928) (callThen lines 928 w cs)
+    go : (w : Line) → All (λ c. c .room ≡ Buffer 928) cs → All (λ c. c .room ≡ Buffer 928) (callThen lines 928 w cs)
     go (Refused r) h = tt
     go (Step st k j) h = (refl, h)
 
@@ -105,3 +114,27 @@ file-demand F L bs n e = record {
 
     d : Demand3 F n (fileCalls bs)
     d = demand F L n low high (fileCalls bs)
+
+-- THE REPORT OF A FILE is the same in every lawful form
+pub same-report : (F G : Form) → Lawful F → Lawful G → (bs : Lists.List ℕ) → fileReport F bs ≡ fileReport G bs
+same-report F G L M bs = go (headerRead (take 18 bs)) refl
+  where
+    go : (h : Header) → headerRead (take 18 bs) ≡ h → fileReport F bs ≡ fileReport G bs
+    go (Headers.Refused r) e = refused F ∙ sym (refused G)
+      where
+        refused : (F : Form) → fileReport F bs ≡ refusalLine 1 (refusalNumber r)
+        refused F = ap (λ (o : Served (F .Table)). o .bytes) (file-refused F bs r e)
+    go (Stations n) e = served F L ∙ ap shown (same-seen F G L M n low high (fileCalls bs)) ∙ sym (served G M)
+      where
+        low : 2 ≤ n
+        low = header-stations (take 18 bs) n e .0
+
+        high : n ≤ 32
+        high = header-stations (take 18 bs) n e .1
+
+        shown : Lists.List Seen → Lists.List ℕ
+        shown x = printedCalls (fileCalls bs) x ++ endPrinted 1 (map roomy (stepLines bs))
+
+        served : (F : Form) → Lawful F → fileReport F bs ≡ shown (map (seen F) (run F (freshTable F n) (fileCalls bs)))
+        served F L = ap (λ (o : Served (F .Table)). o .bytes) (file-served F bs n e)
+            ∙ played F L n low high (stepLines bs) (session 1 Accepted (freshTable F n)) (fresh-live F L n low high 1)

@@ -3,3 +3,4 @@ pub mod SessionTheorem
 pub mod Runs
 pub mod Cuts
 pub mod FileTheorem
+pub mod Before

@@ -13,7 +13,7 @@ use borrow.Author.Tests.{eq-eqb, ne-eqb, leb-true, leb-false}
 use borrow.Rule.Slice.PartMut.{midOf, putMid}
 use Rattle.columns.specs.Columns.{reportLine}
 use Rattle.columns.proofs.ColumnLaws.{length-report-line}
-use Rattle.simulation.specs.Calls.{Call}
+use Rattle.simulation.specs.Calls.{Call, Buffer, bytesOf}
 use Rattle.transition.specs.Forms.{Form, over, freshTable, stepOf}
 use Rattle.moves.specs.Moves.{refusalNumber, called}
 use Rattle.moves.specs.declared.Refusal.{Refusal}
@@ -43,7 +43,7 @@ module _ (F : Form) where
 
   -- what a step line prints
   abbrev pub shownOf : F .Table → Call → Lists.List ℕ
-  shownOf t c = let a = stepOf F t c in printed (c .line) (a .refusal) (a .bytes)
+  shownOf t c = let a = stepOf F t c in printed (c .line) (a .refusal) (bytesOf (a .report))
 
   -- one line, on a well-formed table
   module _ (s : Session (F .Table)) (l : Lists.List ℕ) (going : refusalNumber (s .refusal) ≡ 0) (ok : F .wellFormed (s .table) ≡ true) where
@@ -58,7 +58,7 @@ module _ (F : Form) where
         ≡ record { session = ended s r; refusal = refusalNumber r; bytes = printed (s .lines + 1) (refusalNumber r) [] }
     run-refused r e = run-line ∙ rw e refl
 
-    pub run-step : (station code job : ℕ) → nextLine (s .lines) l ≡ Step station code job → let c = called (s .lines + 1) code station job 928 in
+    pub run-step : (station code job : ℕ) → nextLine (s .lines) l ≡ Step station code job → let c = called (s .lines + 1) code station job (Buffer 928) in
         runLines F s (l ∷ [])
         ≡ record {
           session = session (s .lines + 1) (s .refusal) (stepOf F (s .table) c .table);

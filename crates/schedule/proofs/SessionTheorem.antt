@@ -6,11 +6,11 @@ use mathlib.Core.List as Lists
 use mathlib.Core.List.{[], _∷_, map, map-map}
 use lib.ListN.{length, take, drop}
 use Rattle.basics.specs.Tests.{All}
-use Rattle.simulation.specs.Calls.{Call}
+use Rattle.simulation.specs.Calls.{Call, Buffer, Bytes, bytesOf, size}
 use Rattle.simulation.specs.Machine as Machine
 use Rattle.transition.specs.Forms.{Form, over, freshTable, stepOf}
 use Rattle.transition.specs.Demand.{run, seen, unbounded, Demand3}
-use Rattle.transition.proofs.Theorem.{Lawful, demand}
+use Rattle.transition.proofs.Theorem.{Lawful, step-bytes, demand}
 use Rattle.transition.proofs.Sequences.{bytes-read, bytes-counted, rest-kept, same-counts}
 use Rattle.moves.specs.Moves.{refusalNumber, called}
 use Rattle.moves.specs.declared.Refusal.{Refusal}
@@ -48,7 +48,7 @@ module _ (F : Form) where
 
   -- every buffer keeps what was not written
   lines-kept : (s : Session (F .Table)) (xs : Lists.List (ServedLine (F .Table))) → ServedBy F s xs
-      → All (λ x. x .buffer′ ≡ over (replied x .bytes) (x .buffer)) xs
+      → All (λ x. x .buffer′ ≡ over (take (x .written) (x .buffer′)) (x .buffer)) xs
   lines-kept s [] q = tt
   lines-kept s (x ∷ xs) q =
       (rest-kept (serveOf F s (x .line) (length (x .buffer)) .bytes) (x .buffer) (q .0 .count) (q .0 .report), lines-kept (x .session) xs (q .1))
@@ -57,7 +57,7 @@ module _ (F : Form) where
 
 record Reads (F : Form) (s : Session (F .Table)) (xs : Lists.List (ServedLine (F .Table))) (calls : Lists.List Call) (r : Refusal) : Type 0 where
   answers : map replied (take (length calls) xs) ≡ run F (s .table) calls
-  counts : map (λ x. x .written) (take (length calls) xs) ≡ map (λ x. length (replied x .bytes)) (take (length calls) xs)
+  counts : map (λ x. x .written) (take (length calls) xs) ≡ map (λ x. size (replied x .report)) (take (length calls) xs)
   final : All (Stays (ended (left s (take (length calls) xs)) r)) (drop (length calls) xs)
 
 module _ (F : Form) (L : Lawful F) (n : ℕ) (low : 2 ≤ n) (high : n ≤ 32) where
@@ -90,15 +90,15 @@ module _ (F : Form) (L : Lawful F) (n : ℕ) (low : 2 ≤ n) (high : n ≤ 32) w
         final = (standing-stays F (ended s r) x y, final-stays F (ended s r) d xs (go-on F x xs y (q .1)));
       }
       go (Step st k j) d y ih =
-          let c = called (s .lines + 1) k st j room in
+          let c = called (s .lines + 1) k st j (Buffer room) in
           let a = stepOf F (s .table) c in
           let i = ih (session (s .lines + 1) (s .refusal) (a .table)) (next-live F L n low high s v c (s .lines + 1)) (go-on F x xs y (q .1)) in
-          let told : replied x ≡ a = λ e.
-          record { table = y .session e .table; refusal = y .number e; bytes = bytes-read (a .bytes) (x .buffer) (y .count) (y .report) e } in
+          let read = ap Bytes (bytes-read (bytesOf (a .report)) (x .buffer) (y .count) (y .report)) ∙ sym (step-bytes F (s .table) c room refl) in
+          let told : replied x ≡ a = λ e. record { table = y .session e .table; refusal = y .number e; report = read e } in
           let l = length calls in
           record {
             answers = ap₂ _∷_ told (i .answers);
-            counts = ap₂ _∷_ (bytes-counted (a .bytes) (x .buffer) (y .count) (y .report)) (i .counts);
+            counts = ap₂ _∷_ (bytes-counted (bytesOf (a .report)) (x .buffer) (y .count) (y .report)) (i .counts);
             final = subst (λ (z : Session (F .Table)). All (Stays (ended (left z (take l xs)) end)) (drop l xs)) (sym (y .session)) (i .final);
           }
 
@@ -109,7 +109,7 @@ module _ (F : Form) (L : Lawful F) where
   session-demand header n e xs q = record {
     demand = d;
     same = same;
-    counted = r .counts ∙ same-counts n (λ x. seen F (replied x)) (steps xs) (unbounded n (d .advances) (sessionCalls xs)) same;
+    counted = r .counts ∙ same-counts n (λ x. seen F (replied x)) (steps xs) (unbounded (F .board) n (d .advances) (sessionCalls xs)) same;
     kept = lines-kept F (headerOf F header) xs q;
     final = r .final;
   }
@@ -127,5 +127,5 @@ module _ (F : Form) (L : Lawful F) where
       r = reads F L n (sized .0) (sized .1) xs start (fresh-live F L n (sized .0) (sized .1) 1)
           (subst (λ h. ServedBy F (openedBy F h) xs) e q)
 
-      same : map (λ x. seen F (replied x)) (steps xs) ≡ map (Machine.seen n) (unbounded n (d .advances) (sessionCalls xs))
+      same : map (λ x. seen F (replied x)) (steps xs) ≡ map (Machine.seen n) (unbounded (F .board) n (d .advances) (sessionCalls xs))
       same = sym (map-map (seen F) replied (steps xs)) ∙ ap (map (seen F)) (r .answers) ∙ d .same

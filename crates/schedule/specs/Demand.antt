@@ -7,7 +7,7 @@ use mathlib.Core.List as Lists
 use mathlib.Core.List.{[], _∷_, _++_, map}
 use lib.ListN.{length, take, drop}
 use Rattle.basics.specs.Tests.{All}
-use Rattle.simulation.specs.Calls.{Call}
+use Rattle.simulation.specs.Calls.{Call, Buffer, Bytes, bytesOf, size}
 use Rattle.simulation.specs.Machine as Machine
 use Rattle.simulation.specs.Machine.{Seen}
 use Rattle.transition.specs.Forms.{Form, TableAnswer, over, freshTable}
@@ -31,7 +31,7 @@ pub record Given : Type 0 where
 -- the lines that follow `lines` others, up to a final refusal, as step calls with their line numbers
 abbrev pub callThen : ℕ → ℕ → Line → Lists.List Call → Lists.List Call
 callThen lines room (Refused r) rest = []
-callThen lines room (Step station code job) rest = called (lines + 1) code station job room ∷ rest
+callThen lines room (Step station code job) rest = called (lines + 1) code station job (Buffer room) ∷ rest
 
 unfoldable pub stepCalls : ℕ → Lists.List Given → Lists.List Call
 stepCalls lines [] = []
@@ -83,7 +83,7 @@ module _ {T : Type 0} where
 
   -- what the caller sees of a step line: the table, the refusal number, and the bytes that are counted
   abbrev pub replied : ServedLine T → TableAnswer T
-  replied x = record { table = x .session .table; refusal = x .refusal; bytes = take (x .written) (x .buffer′) }
+  replied x = record { table = x .session .table; refusal = x .refusal; report = Bytes (take (x .written) (x .buffer′)) }
 
   -- the session that the calls leave
   abbrev pub left : Session T → Lists.List (ServedLine T) → Session T
@@ -101,9 +101,9 @@ pub record Stays {T : Type 0} (z : Session T) (x : ServedLine T) : Type 0 where
 -- sees of them, and their counts are of the bytes that it writes; every buffer keeps what was not written; and all other calls meet the final refusal
 pub record SessionDemand (F : Form) (n : ℕ) (xs : Lists.List (ServedLine (F .Table))) : Type 0 where
   pub demand : Demand3 F n (sessionCalls xs)
-  pub same : map (λ x. seen F (replied x)) (steps xs) ≡ map (Machine.seen n) (unbounded n (demand .advances) (sessionCalls xs))
-  pub counted : map (λ x. x .written) (steps xs) ≡ map (λ a. length (a .bytes)) (unbounded n (demand .advances) (sessionCalls xs))
-  pub kept : All (λ x. x .buffer′ ≡ over (replied x .bytes) (x .buffer)) xs
+  pub same : map (λ x. seen F (replied x)) (steps xs) ≡ map (Machine.seen n) (unbounded (F .board) n (demand .advances) (sessionCalls xs))
+  pub counted : map (λ x. x .written) (steps xs) ≡ map (λ a. size (a .report)) (unbounded (F .board) n (demand .advances) (sessionCalls xs))
+  pub kept : All (λ x. x .buffer′ ≡ over (take (x .written) (x .buffer′)) (x .buffer)) xs
   pub final : All (Stays (ended (left (session 1 Accepted (freshTable F n)) (steps xs)) (sessionEnding xs))) (later xs)
 
 -- FILES: the report is what the unbounded table prints for the step lines, and then the line of the final refusal, if there is one
@@ -119,7 +119,7 @@ fileCalls bs = stepCalls 1 (map roomy (stepLines bs))
 unfoldable pub printedCalls : Lists.List Call → Lists.List Seen → Lists.List ℕ
 printedCalls [] ss = []
 printedCalls (c ∷ cs) [] = []
-printedCalls (c ∷ cs) (s ∷ ss) = printed (c .line) (s .refusal) (s .bytes) ++ printedCalls cs ss
+printedCalls (c ∷ cs) (s ∷ ss) = printed (c .line) (s .refusal) (bytesOf (s .report)) ++ printedCalls cs ss
 
 -- what the final refusal prints, with the number of the line behind `lines` others and the step lines
 abbrev pub endPrinted : ℕ → Lists.List Given → Lists.List ℕ
@@ -129,5 +129,5 @@ endPrinted lines gs = printed (lines + length (stepCalls lines gs) + 1) (refusal
 pub record FileDemand (F : Form) (bs : Lists.List ℕ) (n : ℕ) : Type 0 where
   pub demand : Demand3 F n (fileCalls bs)
   pub report : fileReport F bs
-      ≡ printedCalls (fileCalls bs) (map (Machine.seen n) (unbounded n (demand .advances) (fileCalls bs))) ++ endPrinted 1 (map roomy (stepLines bs))
+      ≡ printedCalls (fileCalls bs) (map (Machine.seen n) (unbounded (F .board) n (demand .advances) (fileCalls bs))) ++ endPrinted 1 (map roomy (stepLines bs))
   pub never7 : All (λ a. a .refusal ≢ 7) (run F (freshTable F n) (fileCalls bs))

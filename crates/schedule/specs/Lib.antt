@@ -2,3 +2,4 @@ pub mod Lines
 pub mod Sessions
 pub mod Files
 pub mod Demand
+pub mod Before

@@ -7,6 +7,7 @@ use mathlib.Core.List as Lists
 use mathlib.Core.List.{[]}
 use lib.ListN.{length}
 use lib.Dec.{eqb, ltb}
+use Rattle.simulation.specs.Calls.{Buffer, bytesOf}
 use Rattle.transition.specs.Forms.{Form, over, freshTable, stepOf}
 use Rattle.moves.specs.Moves.{refusalNumber, called}
 use Rattle.moves.specs.declared.Refusal.{Refusal}
@@ -67,8 +68,8 @@ module _ (F : Form) where
   abbrev pub stepLine : Session (F .Table) → ℕ → Line → Served (F .Table)
   stepLine s room (Refused r) = stopped s r
   stepLine s room (Step station code job) =
-      let a = stepOf F (s .table) (called (s .lines + 1) code station job room) in
-      record { session = session (s .lines + 1) (s .refusal) (a .table); refusal = a .refusal; bytes = a .bytes }
+      let a = stepOf F (s .table) (called (s .lines + 1) code station job (Buffer room)) in
+      record { session = session (s .lines + 1) (s .refusal) (a .table); refusal = a .refusal; bytes = bytesOf (a .report) }
 
   -- a line: the final refusal comes first, then 13, 12, 8, 9, and then what the step gives
   unfoldable pub serveOf : Session (F .Table) → Lists.List ℕ → ℕ → Served (F .Table)

@@ -7,8 +7,9 @@ use mathlib.Core.Bool.{Bool, true, false, cond}
 use mathlib.Core.List as Lists
 use mathlib.Core.List.{[]}
 use borrow.Author.Tests.{lt-ltb}
-use Rattle.simulation.specs.Calls.{Call}
-use Rattle.transition.specs.Forms.{Form, TableAnswer, refuse, stepOf}
+use Rattle.simulation.specs.Calls.{Buffer, Call, reportLines, bytesOf}
+use Rattle.transition.specs.Forms.{Form, TableAnswer}
+use Rattle.transition.proofs.Theorem.{step-ill-formed}
 use Rattle.moves.specs.Moves.{refusalNumber, called}
 use Rattle.moves.specs.declared.Refusal.{Refusal}
 use Rattle.schedule.specs.Lines.{nextLine}
@@ -25,17 +26,18 @@ module _ (F : Form) (s : Session (F .Table)) (line : Lists.List ℕ) (room : ℕ
       go false w = serve-ill-formed F s line room none w
 
   pub serve-step : (station code job : ℕ) → nextLine (s .lines) line ≡ Step station code job → serveOf F s line room ≡ stepLine F s room (Step station code job)
+  unfolding reportLines
   serve-step station code job e = go (F .wellFormed (s .table)) refl
     where
       c : Call
-      c = called (s .lines + 1) code station job room
+      c = called (s .lines + 1) code station job (Buffer room)
 
       go : (b : Bool) → F .wellFormed (s .table) ≡ b → serveOf F s line room ≡ stepLine F s room (Step station code job)
       go true w = serve-next F s line room none w (Step station code job) e
       go false w =
-          let a : stepOf F (s .table) c ≡ refuse (s .table) 13 = unfold stepOf in rw (w, stepOf) refl in
           serve-ill-formed F s line room none w
           ∙ ap (λ b. record { session = session (cond b (s .lines + 1) (s .lines)) (s .refusal) (s .table); refusal = 13; bytes = [] })
           (lt-ltb (s .lines) 1000001 (omega (arith, next-within (s .lines) line station code job e)))
           ∙ sym (ap (λ (x : TableAnswer (F .Table)).
-          record { session = session (s .lines + 1) (s .refusal) (x .table); refusal = x .refusal; bytes = x .bytes }) a)
+          record { session = session (s .lines + 1) (s .refusal) (x .table); refusal = x .refusal; bytes = bytesOf (x .report) })
+          (step-ill-formed F (s .table) c w))

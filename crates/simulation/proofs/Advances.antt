@@ -44,7 +44,7 @@ module _ (n : ℕ) (l : Labelling ℕ) (v : ℕ) where
 labels-tell : (B : Board) (n : ℕ) (s : State ℕ) (c : Call) (v a : ℕ) → let w = labelStep (B .judge n (s .rest) c) in
     relabelled n (numbers a) (s .labels) w ≡ relabelled n (numbered v) (s .labels) w → step B n (numbers a) s c ≡ step B n (numbered v) s c
 unfolding step
-labels-tell B n s c v a = ap (λ (l : Labelling ℕ). answer (c .line) l (carryOut (ordered n (stands (numbered v) (s .labels))) (s .rest)
+labels-tell B n s c v a = ap (λ (l : Labelling ℕ). answer c l (carryOut (ordered n (stands (numbered v) (s .labels))) (s .rest)
     (B .judge n (s .rest) c)))
 
 -- all calls: the same answers, and all advances used up

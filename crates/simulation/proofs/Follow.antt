@@ -29,7 +29,7 @@ abbrev pub shadow : {A : Type 0} → Labelling ℕ → State A → State ℕ
 shadow ν s = record { labels = ν; rest = s .rest }
 
 abbrev pub like : {A : Type 0} → Labelling ℕ → Answer A → Answer ℕ
-like ν a = record { state = shadow ν (a .state); refusal = a .refusal; bytes = a .bytes }
+like ν a = record { state = shadow ν (a .state); refusal = a .refusal; report = a .report }
 
 -- rules that read no number are given none
 module _ {A : Type 0} (B : Board) (n : ℕ) (r : Rules A) (s : State A) (c : Call) (cs : Lists.List Call) where
@@ -66,7 +66,7 @@ module _ {A : Type 0} {n : ℕ} {r : Rules A} {a₀ : A} {Able : LabelStep → T
     follows : (f : ℕ → ℕ) → Rising f → (v : ℕ) → (1 ≤ snapsOf B n s c → v ≡ f (e .number))
         → step B n (numbered v) (shadow (through (λ x. f (e .shift x)) N) s) c ≡ like (through f (e .beside)) (step B n r s c)
     unfolding step snapsOf
-    follows f rise v h = ap₂ (λ (order : Lists.List ℕ) (l : Labelling ℕ). answer (c .line) l (carryOut order (s .rest) (B .judge n (s .rest) c)))
+    follows f rise v h = ap₂ (λ (order : Lists.List ℕ) (l : Labelling ℕ). answer c l (carryOut order (s .rest) (B .judge n (s .rest) c)))
         (sym (ordered-same n n _ _ (le-refl n) (order-kept L (s .labels) N i (λ x. f (e .shift x)) (λ x y u. rise _ _ (S .rising x y u)) v)))
         (S .follow f rise v h)
 

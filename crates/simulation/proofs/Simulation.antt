@@ -1,5 +1,5 @@
 -- The bounded labels owe what the sequence theorem asks, for every number of processes: the paper's invariant (sections 5 to 7) is the relation. So the
--- theorem holds of document 01's board.
+-- theorem holds of the original board.
 use Prim.Native.Nat.{ℕ, suc, _-_, _≤_, _<_}
 use native.Mathlib.Omega.{arith}
 use native.Mathlib.Decide.{ℕ-discrete}
@@ -102,7 +102,7 @@ bounded n some = let size : n ≡ suc (n - 1) = omega arith in record {
   updates = updates n (n - 1) size;
 }
 
--- DOCUMENT 01'S BOARD
+-- THE ORIGINAL BOARD
 module _ (n : ℕ) (some : 1 ≤ n) where
   -- the invariant after a call
   pub ready-step : (s : State Label) (N : Labelling ℕ) (c : Call) → Ready (n - 1) (s .labels) N

@@ -8,9 +8,9 @@ use mathlib.Core.List.{[]}
 use lib.Dec.{eqb}
 use borrow.Author.Tests.{ne-eqb}
 use Rattle.basics.proofs.Facts.{by-here}
-use Rattle.simulation.specs.Calls.{Call, place, Label, Scan, Phase, Entry, Rest, Move, reportLines}
-use Rattle.simulation.specs.Machine.{Labelling, Rules, pendingAfter, labelStep, relabelled, scanOf, carryOut, State, moved}
-use Rattle.simulation.proofs.Judged.{Own, own-place, Verdict, turned, begins, updates, snaps, ends}
+use Rattle.simulation.specs.Calls.{Call, place, Label, Scan, Phase, Entry, Rest, Move, written}
+use Rattle.simulation.specs.Machine.{Labelling, Rules, pendingAfter, labelStep, relabelled, scanOf, carryOut, State, labelsAfter, outcome, answer}
+use Rattle.simulation.proofs.Judged.{Own, own-place, Verdict, turned, begins, scans, updates, snaps, ends}
 
 -- the process that takes the move
 abbrev pub touched : Move → ℕ → Bool
@@ -73,20 +73,21 @@ apart {n} {c} {ph} v i d = go v
 
     go : {w : Move} → Verdict n c ph w → touched w i ≡ false
     go (turned x f) = refl
-    go (begins own e o) = other own
+    go (begins own e) = other own
+    go (scans own e) = other own
     go (updates own e) = other own
     go (snaps own o e) = other own
     go (ends own o e r) = other own
 
 -- a refused move leaves the state and hands out nothing
-pub refused-stays : {A : Type 0} (n : ℕ) (r : Rules A) (s : State A) (line : ℕ) (w : Move) → moved n r s line w .refusal ≢ 0
-    → moved n r s line w ≡ record { state = s; refusal = moved n r s line w .refusal; bytes = [] }
-unfolding carryOut relabelled reportLines
-refused-stays n r s line (Move.refused x) d = refl
-refused-stays n r s line (Move.begins k job Label) d = absurd (d refl)
-refused-stays n r s line (Move.begins k job Scan) d = absurd (d refl)
-refused-stays n r s line (Move.updates k) d = absurd (d refl)
-refused-stays n r s line (Move.snaps k Label) d = absurd (d refl)
-refused-stays n r s line (Move.snaps k Scan) d = absurd (d refl)
-refused-stays n r s line (Move.ends k Label) d = absurd (d refl)
-refused-stays n r s line (Move.ends k Scan) d = absurd (d refl)
+pub refused-stays : {A : Type 0} (n : ℕ) (r : Rules A) (s : State A) (c : Call) (w : Move) → let a = outcome n r s w in
+    a .refusal ≢ 0 → answer c (labelsAfter n r s w) a ≡ record { state = s; refusal = a .refusal; report = written (c .line) (c .room) [] }
+unfolding carryOut relabelled
+refused-stays n r s c (Move.refused x) d = refl
+refused-stays n r s c (Move.begins k job Label) d = absurd (d refl)
+refused-stays n r s c (Move.begins k job Scan) d = absurd (d refl)
+refused-stays n r s c (Move.updates k) d = absurd (d refl)
+refused-stays n r s c (Move.snaps k Label) d = absurd (d refl)
+refused-stays n r s c (Move.snaps k Scan) d = absurd (d refl)
+refused-stays n r s c (Move.ends k Label) d = absurd (d refl)
+refused-stays n r s c (Move.ends k Scan) d = absurd (d refl)

@@ -1,5 +1,6 @@
 -- Demand 3 of the step routines: every sequence of calls from a fresh table, each made on the table that the one before it handed back. By value or lent,
--- by name or by code, the calls keep the one contract `Steps declared`, so one theorem is about all of them.
+-- by name or by code, with a report buffer or with a panel (crates lent_table and panel), the calls keep the one contract `Steps declared`, so one theorem is
+-- about every sequence of them, of whatever kinds.
 use Prim.Native.Nat.{ℕ, _≤_}
 use mathlib.Core.List as Lists
 use Rattle.transition.specs.Forms.{freshTable}

@@ -1,61 +1,67 @@
 -- A step call on the declared table is one on its arrays: of a refused call the table is the one that came in, of an accepted one it is put together from
 -- the arrays that are left.
-use Prim.Native.Nat.{ℕ}
+use Prim.Native.Nat.{ℕ, _≤_}
 use native.Mathlib.Omega.{arith}
-use mathlib.Core.Path.{_≡_, refl, sym, ap, subst, _∙_}
+use mathlib.Core.Path.{_≡_, refl, sym, ap, ap₂, subst, _∙_}
 use mathlib.Core.Logic.{_≢_}
 use mathlib.Core.Bool.{Bool, true, false}
-use mathlib.Core.List as Lists
+use mathlib.Core.List as List
 use mathlib.Core.List.{[], _∷_}
-use lib.ListN.{length}
-use Rattle.simulation.specs.Calls.{Call}
-use Rattle.transition.specs.Forms.{Form, TableAnswer, refuse, over, stepOf}
+use lib.ListN.{length, getD}
+use Rattle.basics.proofs.Facts.{tabulate-same}
+use Rattle.simulation.specs.Calls as Calls
+use Rattle.simulation.specs.Calls.{Room, Call, Panel, PanelRecord, panelRecords, Report, Bytes, Records, size}
+use Rattle.transition.specs.Forms.{TableAnswer, over, onto, stepOf}
 use Rattle.transition.specs.Sequences.{Steps}
-use Rattle.transition.proofs.Theorem.{step-written, step-kept}
-use Rattle.arrays.specs.Arrays.{Arrays}
+use Rattle.transition.proofs.Theorem.{step-written, step-ill-formed, step-kept}
+use Rattle.moves.specs.Moves.{refusalNumber, called}
+use Rattle.arrays.specs.Arrays.{Rows, Arrays, resultOf}
 use Rattle.arrays.specs.WellFormed.{wellFormed}
 use Rattle.arrays.specs.Form.{lent}
-use Rattle.table.specs.Tables.{apart, together, declared}
-use Rattle.table.proofs.Apart.{Whole, declared-written}
+use Rattle.engine.specs.Contracts.{callOf, placeIn, Hands}
+use Rattle.engine.proofs.Served.{steps-records, records-fit}
+use Rattle.table.specs.Tables.{blank, entriesOf, apart, together, declared}
+use Rattle.table.proofs.Apart.{element, Whole, declared-written}
+use Rattle.step.specs.Contracts.{firstEntries, Lists}
+use Rattle.engine.specs.declared.Request.{Request}
+use Rattle.engine.specs.declared.Handed.{Handed}
+use Rattle.table.specs.declared.Entry.{Entry}
 use Rattle.table.specs.declared.Table.{Table}
-
-ill-formed : (F : Form) (t : F .Table) (c : Call) → F .wellFormed t ≡ false → stepOf F t c ≡ refuse t 13
-unfolding stepOf
-ill-formed F t c e = rw (e, stepOf) refl
+use Rattle.step.specs.declared.Listing.{Listing}
 
 module _ (t : Table) (w : Whole t) (c : Call) where
-  -- both forms give the same number and the same bytes
+  -- both forms give the same number and the same report
   record Alike : Type 0 where
     number : stepOf declared t c .refusal ≡ stepOf lent (apart t) c .refusal
-    bytes : stepOf declared t c .bytes ≡ stepOf lent (apart t) c .bytes
+    report : stepOf declared t c .report ≡ stepOf lent (apart t) c .report
 
   alike-by : (b : Bool) → wellFormed (apart t) ≡ b → Alike
   unfolding apart
   alike-by true e =
       let p = step-written declared t c e in
       let q = step-written lent (apart t) c e in
-      record { number = ap (λ x. x .refusal) p ∙ sym (ap (λ x. x .refusal) q); bytes = ap (λ x. x .bytes) p ∙ sym (ap (λ x. x .bytes) q) }
+      record { number = ap (λ x. x .refusal) p ∙ sym (ap (λ x. x .refusal) q); report = ap (λ x. x .report) p ∙ sym (ap (λ x. x .report) q) }
   alike-by false e =
-      let p = ill-formed declared t c e in
-      let q = ill-formed lent (apart t) c e in
-      record { number = ap (λ x. x .refusal) p ∙ sym (ap (λ x. x .refusal) q); bytes = ap (λ x. x .bytes) p ∙ sym (ap (λ x. x .bytes) q) }
+      let p = step-ill-formed declared t c e in
+      let q = step-ill-formed lent (apart t) c e in
+      record { number = ap (λ x. x .refusal) p ∙ sym (ap (λ x. x .refusal) q); report = ap (λ x. x .report) p ∙ sym (ap (λ x. x .report) q) }
 
   alike : Alike
   alike = alike-by (wellFormed (apart t)) refl
 
-  module _ {buffer buffer′ : Lists.List ℕ} {a a′ : Arrays} {number written : ℕ} (e : a ≡ apart t) (made : Steps lent a c buffer a′ number written buffer′) where
-    L : Steps lent (apart t) c buffer a′ number written buffer′
-    L = subst (λ (u : Arrays). Steps lent u c buffer a′ number written buffer′) e made
+  module _ {r r′ : Report} {a a′ : Arrays} {number written : ℕ} (e : a ≡ apart t) (made : Steps lent a c r a′ number written r′) where
+    L : Steps lent (apart t) c r a′ number written r′
+    L = subst (λ (u : Arrays). Steps lent u c r a′ number written r′) e made
 
-    steps-with : {t′ : Table} → t′ ≡ stepOf declared t c .table → Steps declared t c buffer t′ number written buffer′
+    steps-with : {t′ : Table} → t′ ≡ stepOf declared t c .table → Steps declared t c r t′ number written r′
     steps-with q = record {
       table = q;
       number = L .number ∙ sym (alike .number);
-      count = L .count ∙ ap length (sym (alike .bytes));
-      report = L .report ∙ ap (λ b. over b buffer) (sym (alike .bytes));
+      count = L .count ∙ ap size (sym (alike .report));
+      report = L .report ∙ ap (λ b. onto b r) (sym (alike .report));
     }
 
-    pub refused-call : number ≢ 0 → Steps declared t c buffer t number written buffer′
+    pub refused-call : number ≢ 0 → Steps declared t c r t number written r′
     refused-call d = steps-with (sym (ap (λ (x : TableAnswer Table). x .table)
         (step-kept declared t (declared-written t w) c (λ z. d (L .number ∙ sym (alike .number) ∙ z)))))
 
@@ -64,14 +70,73 @@ module _ (t : Table) (w : Whole t) (c : Call) where
     accepted true ok z = ap together (L .table ∙ ap (λ (x : TableAnswer Arrays). x .table) (step-written lent (apart t) c ok))
         ∙ sym (ap (λ (x : TableAnswer Table). x .table) (step-written declared t c ok))
     accepted false bad z =
-        let x : number ≡ 13 = L .number ∙ ap (λ (x : TableAnswer Arrays). x .refusal) (ill-formed lent (apart t) c bad) in
+        let x : number ≡ 13 = L .number ∙ ap (λ (x : TableAnswer Arrays). x .refusal) (step-ill-formed lent (apart t) c bad) in
         absurd (omega arith)
 
-    pub accepted-call : number ≡ 0 → {t′ : Table} → t′ ≡ together a′ → Steps declared t c buffer t′ number written buffer′
+    pub accepted-call : number ≡ 0 → {t′ : Table} → t′ ≡ together a′ → Steps declared t c r t′ number written r′
     accepted-call z q = steps-with (q ∙ accepted (wellFormed (apart t)) refl z)
 
 -- an empty buffer stays empty
-pub empty-buffer : {t t′ : Table} {c : Call} {number written : ℕ} (buffer : Lists.List ℕ) → Steps declared t c [] t′ number written buffer → length buffer ≡ 0
-    → Steps declared t c [] t′ number written []
+pub empty-buffer : {t t′ : Table} {c : Call} {number written : ℕ} (buffer : List.List ℕ) → Steps declared t c (Bytes []) t′ number written (Bytes buffer)
+    → length buffer ≡ 0 → Steps declared t c (Bytes []) t′ number written (Bytes [])
 empty-buffer [] s e = s
 empty-buffer (x ∷ l) s e = absurd (omega arith)
+
+-- DIRECT CALLS
+
+-- the request of a direct call
+abbrev pub directly : ℕ → ℕ → ℕ → Request
+directly code station job = record { code = code; station = station; job = job; line = 0 }
+
+pub steps-directly : {t t′ : Table} {r r′ : Report} {number written : ℕ} (code station job : ℕ) (room : Room) (q : Request) → q ≡ directly code station job
+    → Steps declared t (callOf q room) r t′ number written r′ → Steps declared t (called 0 code station job room) r t′ number written r′
+steps-directly {t} {t′} {r} {r′} {number} {written} code station job room q e s =
+    subst (λ (x : Request). Steps declared t (callOf x room) r t′ number written r′) e s
+
+-- A CALL WITH A PANEL
+
+-- the first entries of a result, read from its rows or from the struct
+first-entries : (k : ℕ) (rows : Rows) → k ≤ 32 → resultOf k rows ≡ firstEntries k (entriesOf rows)
+first-entries k rows h = tabulate-same k 0 _ _ (λ p l. sym (ap (λ (e : Entry). Calls.entry (e .station) (e .job)) (element _ blank p (omega arith))))
+
+module _ (t : Table) (w : Whole t) (code station job records : ℕ) {a a′ : Arrays} {h : Handed} (e : a ≡ apart t)
+    (q : Request) (direct : q ≡ directly code station job) (handed : Hands a (callOf q (Panel records)) a′ h) (es : List.List Entry)
+    (put : es ≡ entriesOf (getD (a′ .results) (h .place) [])) where
+  abbrev c : Call
+  c = called 0 code station job (Panel records)
+
+  made : Hands a c a′ h
+  made = subst (λ (x : Request). Hands a (callOf x (Panel records)) a′ h) direct handed
+
+  -- what is handed back, with this table
+  abbrev listing : Table → Listing
+  listing t′ = record { outcome = record { table = t′; reply = record { refusal = h .refusal; written = h .entries } }; entries = es }
+
+  -- on any panel, what the engine's step comes to
+  abbrev Made : List.List PanelRecord → Type 0
+  Made panel = Steps lent a c (Records panel) a′ (refusalNumber (h .refusal)) (h .entries)
+      (Records (over (panelRecords 1 (firstEntries (h .entries) es)) panel))
+
+  made-on : (panel : List.List PanelRecord) → length panel ≡ records → Made panel
+  made-on panel l = steps-records made (ap Panel (sym l)) (ap (λ x. over (panelRecords 1 x) panel)
+      (sym (first-entries (h .entries) (getD (a′ .results) (h .place) []) (made .few) ∙ ap (firstEntries (h .entries)) (sym put))))
+
+  entries-there : es ≡ entriesOf (getD (stepOf lent (apart t) c .table .results) (placeIn (apart t) c) [])
+  entries-there = put ∙ ap₂ (λ (u : Arrays) (k : ℕ). entriesOf (getD (u .results) k [])) (made .table ∙ ap (λ u. stepOf lent u c .table) e)
+      (made .place ∙ ap (λ u. placeIn u c) e)
+
+  pub listed-refused : refusalNumber (h .refusal) ≢ 0 → Lists t code station job records (listing t)
+  listed-refused d = record {
+    entries = entries-there;
+    short = made .few;
+    fits = records-fit made records refl;
+    steps = λ panel l. refused-call t w c e (made-on panel l) d;
+  }
+
+  pub listed-accepted : refusalNumber (h .refusal) ≡ 0 → {t′ : Table} → t′ ≡ together a′ → Lists t code station job records (listing t′)
+  listed-accepted z q = record {
+    entries = entries-there;
+    short = made .few;
+    fits = records-fit made records refl;
+    steps = λ panel l. accepted-call t w c e (made-on panel l) z q;
+  }

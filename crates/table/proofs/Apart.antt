@@ -16,6 +16,7 @@ use Rattle.label.specs.Labels as Labels
 use Rattle.label.specs.Rows.{row}
 use Rattle.simulation.specs.Calls as Calls
 use Rattle.simulation.specs.Machine.{State}
+use Rattle.transition.proofs.Written.{Kept}
 use Rattle.transition.proofs.Theorem.{Lawful}
 use Rattle.moves.specs.Moves.{operationOf, phaseOf}
 use Rattle.moves.specs.declared.Operation.{Operation}
@@ -81,19 +82,22 @@ operation-back Scan = refl
 
 pub declared-back : (p : Phase) → declaredPhase (phaseOf p) ≡ p
 declared-back Idle = refl
-declared-back (Snap o) = ap Snap (operation-back o)
+declared-back Snap = refl
 declared-back Update = refl
 declared-back (End o) = ap End (operation-back o)
 
-machine-operation : (o : Calls.Operation) → operationOf (declaredOperation o) ≡ o
-machine-operation Calls.Label = refl
-machine-operation Calls.Scan = refl
+declared-kept : (p : Phase) → Kept (phaseOf p)
+declared-kept Idle = tt
+declared-kept Snap = tt
+declared-kept Update = tt
+declared-kept (End o) = tt
 
-machine-back : (p : Calls.Phase) → phaseOf (declaredPhase p) ≡ p
-machine-back Calls.Idle = refl
-machine-back (Calls.Snap o) = ap Calls.Snap (machine-operation o)
-machine-back Calls.Update = refl
-machine-back (Calls.End o) = ap Calls.End (machine-operation o)
+declared-number : (p : Calls.Phase) → phaseNumber (phaseOf (declaredPhase p)) ≡ phaseNumber p
+declared-number Calls.Idle = refl
+declared-number (Calls.Snap o) = refl
+declared-number Calls.Update = refl
+declared-number (Calls.End Calls.Label) = refl
+declared-number (Calls.End Calls.Scan) = refl
 
 -- SCAN RESULTS
 
@@ -111,7 +115,7 @@ entries-back l e = tabulate-is 32 l blank _ e (λ p u. ap₂ entry (element (λ 
 
 -- ARRAYS, PUT TOGETHER
 
-module _ (a : Arrays) (g : Shaped a) (known : (i : ℕ) → i < 32 → cell (a .control) 0 i 0 ≤ 5) where
+module _ (a : Arrays) (g : Shaped a) (known : (i : ℕ) → i < 32 → cell (a .control) 0 i 0 ≤ 4) where
   put-at : (i : ℕ) → i < 32 → at (together a) i ≡ stationOf a i
   unfolding together
   put-at i h = element (stationOf a) _ i h
@@ -139,7 +143,7 @@ module _ (a : Arrays) (g : Shaped a) (known : (i : ℕ) → i < 32 → cell (a .
 
       control : apart (together a) .control ≡ a .control
       control = ap (λ b. b ∷ []) (plane-back (a .control) 0 0 (λ s. phaseNumber (phaseOf (s .phase))) (g .control .each 0 (omega arith))
-          (λ i l. ap phaseNumber (machine-back (phaseFor (cell (a .control) 0 i 0))) ∙ number-back _ (known i l)))
+          (λ i l. declared-number (phaseFor (cell (a .control) 0 i 0)) ∙ number-back _ (known i l)))
           ∙ one-list (a .control) [] (g .control .long)
 
       results : apart (together a) .results ≡ a .results
@@ -153,7 +157,7 @@ module _ (n : ℕ) (s : State Labels.Label) where
   written-shaped = made-shaped n (λ x i. row 31 (s .labels x i)) (jobsOf s) _
       (λ i y q. let e = getD (s .rest .result i) q (Calls.entry 0 0) in cond y (e .job) (e .station)) (λ x i h. length-tabulate 31 0 _)
 
-  written-known : (i : ℕ) → i < 32 → cell (arraysOf n s .control) 0 i 0 ≤ 5
+  written-known : (i : ℕ) → i < 32 → cell (arraysOf n s .control) 0 i 0 ≤ 4
   unfolding arraysOf
   written-known i l = rw (element (λ j. phaseNumber (s .rest .process j .phase)) 0 i l) (phase-low (s .rest .process i .phase))
 
@@ -163,6 +167,7 @@ module _ (n : ℕ) (s : State Labels.Label) where
 pub declared-lawful : Lawful declared
 unfolding together arraysOf
 declared-lawful = record {
+  board = refl;
   counted = λ n s. refl;
   held = λ n h s w. ap stateOf (written-apart n s) ∙ lent-lawful .held n h s w;
   passes = λ n l h s r. ap wellFormed (written-apart n s) ∙ lent-lawful .passes n l h s r;
@@ -191,7 +196,7 @@ module _ (t : Table) (w : Whole t) where
     «pending_job» = element (λ k. at t k .«pending_job») 0 i h y;
     «scan_result» = (ap entriesOf (element (λ k. rowsOf (at t k .«scan_result»)) [] i h) ∙ entries-back (at t i .«scan_result») (w .each i h .result)) y;
     phase = (ap (λ b. declaredPhase (phaseFor b)) (element (λ k. phaseNumber (phaseOf (at t k .phase))) 0 i h)
-        ∙ ap declaredPhase (phase-back (phaseOf (at t i .phase))) ∙ declared-back (at t i .phase)) y;
+        ∙ ap declaredPhase (phase-back (phaseOf (at t i .phase)) (declared-kept (at t i .phase))) ∙ declared-back (at t i .phase)) y;
   }
 
   pub together-apart : together (apart t) ≡ t

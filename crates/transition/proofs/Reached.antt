@@ -2,7 +2,7 @@
 use Prim.Native.Nat.{ℕ, suc, _+_, _-_, _≤_, _<_}
 use native.Mathlib.Omega.{arith}
 use mathlib.Core.Path.{_≡_, refl, ap, _∙_}
-use mathlib.Core.Bool.{Bool, true}
+use mathlib.Core.Bool.{Bool, true, false}
 use mathlib.Core.List as Lists
 use mathlib.Core.List.{map}
 use lib.ListN.{length, getD, length-map, List·getD-map}
@@ -58,6 +58,7 @@ module _ (n : ℕ) (some : 1 ≤ n) where
     writable = record {
       behind = λ x i p h. refl;
       long = λ i. length-tabulate n 0 _;
+      phase = λ i. tt;
       past = λ i l. record { labels = λ x. refl; process = refl; result = refl };
     };
     once = fresh-once;
@@ -85,7 +86,7 @@ module _ (n : ℕ) (some : 1 ≤ n) where
     N = next .0;
     ready = next .1;
     writable = writable-step n high s (r .writable) c (reached-lead r);
-    once = unfold step in results-all (Once n) _ (s .rest) (scan-once (s .rest) (stands (digits n) (s .labels))) (r .once) (judge n (s .rest) c);
+    once = unfold step in results-all (Once n) _ (s .rest) (scan-once (s .rest) (stands (digits n) (s .labels))) (r .once) (judge false n (s .rest) c);
   }
     where
       next : (N′ : Labelling ℕ) × Ready (n - 1) (step original n (digits n) s c .state .labels) N′

@@ -1,6 +1,6 @@
 -- Demand 3 for step calls on tables of every lawful form: calls on the table of a reached state are the bounded machine's, written down, and the unbounded
 -- machine answers as that one does.
-use Prim.Native.Nat.{ℕ, zero, suc, _+_, _*_, _≤_, _<_}
+use Prim.Native.Nat.{ℕ, zero, suc, _+_, _≤_}
 use native.Mathlib.Omega.{arith}
 use mathlib.Core.Path.{_≡_, refl, sym, ap, ap₂, subst, _∙_}
 use mathlib.Core.Logic.{_≢_}
@@ -10,7 +10,7 @@ use mathlib.Core.List.{[], _∷_, map}
 use lib.ListN.{take}
 use Rattle.basics.specs.Tests.{ordered, All}
 use Rattle.label.specs.Labels as Labels
-use Rattle.simulation.specs.Calls.{Call, judge}
+use Rattle.simulation.specs.Calls.{Call, Buffer, Entry, reportLines, Bytes, bytesOf, written}
 use Rattle.simulation.specs.Machine as Machine
 use Rattle.simulation.specs.Machine.{original, digits, numbers, stands, State, fresh, step, snapsOf, Bounded}
 use Rattle.simulation.proofs.Judged.{Refusal, refusals}
@@ -22,8 +22,9 @@ use Rattle.transition.specs.Demand.{run, snaps, seen, unbounded, Demand3
 use Rattle.transition.proofs.Written.{Writable}
 use Rattle.transition.proofs.Reached.{Reached, reached-fresh, reached-step}
 
--- what a form owes: a table holds the state that was written down, and is well-formed if that state is reached
+-- what a form of the original board owes: a table holds the state that was written down, and is well-formed if that state is reached
 pub record Lawful (F : Form) : Type 0 where
+  pub board : F .board ≡ original
   pub counted : (n : ℕ) (s : State Labels.Label) → F .count (F .written n s) ≡ n
   pub held : (n : ℕ) → n ≤ 32 → (s : State Labels.Label) → Writable n s → F .state (F .written n s) ≡ s
   pub passes : (n : ℕ) → 2 ≤ n → n ≤ 32 → (s : State Labels.Label) → Reached n s → F .wellFormed (F .written n s) ≡ true
@@ -38,33 +39,57 @@ all-taken P n (suc k) (c ∷ cs) s al a = (a .0, all-taken P n k cs _ _ (a .1))
 
 -- on a well-formed table a step call is the machine's step, written down
 pub step-written : (F : Form) (t : F .Table) (c : Call) → F .wellFormed t ≡ true → let n = F .count t in
-    stepOf F t c ≡ answered F n (step original n (digits n) (F .state t) c)
+    stepOf F t c ≡ answered F n (step (F .board) n (digits n) (F .state t) c)
 unfolding stepOf
 step-written F t c e = rw (e, stepOf) refl
 
--- so its number is one that `judge` gives
-pub step-refusals : (F : Form) (t : F .Table) (c : Call) → F .wellFormed t ≡ true → Refusal (F .count t) c (stepOf F t c .refusal)
+-- so on the original board its number is one that `judge` gives
+pub step-refusals : (F : Form) → F .board ≡ original → (t : F .Table) (c : Call) → F .wellFormed t ≡ true → Refusal (F .count t) c (stepOf F t c .refusal)
 unfolding step
-step-refusals F t c e = subst (λ (a : TableAnswer (F .Table)). Refusal (F .count t) c (a .refusal)) (sym (step-written F t c e))
-    (refusals (F .count t) c (ordered (F .count t) (stands (digits (F .count t)) (F .state t .labels))) (F .state t .rest))
+step-refusals F b t c e = subst (λ (a : TableAnswer (F .Table)). Refusal n c (a .refusal))
+    (sym (step-written F t c e ∙ ap (λ B. answered F n (step B n (digits n) (F .state t) c)) b))
+    (refusals n c (ordered n (stands (digits n) (F .state t .labels))) (F .state t .rest))
+  where
+    n : ℕ
+    n = F .count t
+
+-- on any other it is refused by 13
+pub step-ill-formed : (F : Form) (t : F .Table) (c : Call) → F .wellFormed t ≡ false → stepOf F t c ≡ refuse t c 13
+unfolding stepOf
+step-ill-formed F t c e = rw (e, stepOf) refl
+
+-- what it writes is of the kind that is lent
+pub step-report : (F : Form) (t : F .Table) (c : Call) → (l : Lists.List Entry) × (stepOf F t c .report ≡ written (c .line) (c .room) l)
+unfolding step
+step-report F t c = go (F .wellFormed t) refl
+  where
+    go : (b : Bool) → F .wellFormed t ≡ b → (l : Lists.List Entry) × (stepOf F t c .report ≡ written (c .line) (c .room) l)
+    go true e = (_, ap (λ (a : TableAnswer (F .Table)). a .report) (step-written F t c e))
+    go false e = ([], ap (λ (a : TableAnswer (F .Table)). a .report) (step-ill-formed F t c e))
+
+-- so it is bytes where a buffer is lent
+pub step-bytes : (F : Form) (t : F .Table) (c : Call) (k : ℕ) → c .room ≡ Buffer k → stepOf F t c .report ≡ Bytes (bytesOf (stepOf F t c .report))
+step-bytes F t c k e =
+    let h = step-report F t c in
+    let g : stepOf F t c .report ≡ Bytes (reportLines (c .line) 1 (h .0)) = h .1 ∙ ap (λ r. written (c .line) r (h .0)) e in
+    g ∙ sym (ap (λ r. Bytes (bytesOf r)) g)
 
 -- a refused call changes nothing and writes nothing, on a table that is the one of the state that it holds
 pub step-kept : (F : Form) (t : F .Table) → (F .wellFormed t ≡ true → F .written (F .count t) (F .state t) ≡ t) → (c : Call)
-    → stepOf F t c .refusal ≢ 0 → stepOf F t c ≡ refuse t (stepOf F t c .refusal)
+    → stepOf F t c .refusal ≢ 0 → stepOf F t c ≡ refuse t c (stepOf F t c .refusal)
 unfolding step
 step-kept F t same c d = go (F .wellFormed t) refl
   where
     n : ℕ
     n = F .count t
 
-    go : (b : Bool) → F .wellFormed t ≡ b → stepOf F t c ≡ refuse t (stepOf F t c .refusal)
+    go : (b : Bool) → F .wellFormed t ≡ b → stepOf F t c ≡ refuse t c (stepOf F t c .refusal)
     go true e =
         let w = step-written F t c e in
-        let x : stepOf F t c .refusal ≡ step original n (digits n) (F .state t) c .refusal = ap (λ (a : TableAnswer (F .Table)). a .refusal) w in
-        w ∙ ap (answered F n) (refused-stays n (digits n) (F .state t) (c .line) (judge n (F .state t .rest) c) (λ z. d (x ∙ z)))
-        ∙ (λ i. refuse (same e i) (sym x i))
-    go false e = let s : stepOf F t c ≡ refuse t 13 = unfold stepOf in rw (e, stepOf) refl in s
-        ∙ ap (refuse t) (sym (ap (λ (a : TableAnswer (F .Table)). a .refusal) s))
+        let x : stepOf F t c .refusal ≡ step (F .board) n (digits n) (F .state t) c .refusal = ap (λ (a : TableAnswer (F .Table)). a .refusal) w in
+        w ∙ ap (answered F n) (refused-stays n (digits n) (F .state t) c (F .board .judge n (F .state t .rest) c) (λ z. d (x ∙ z)))
+        ∙ (λ i. refuse (same e i) c (sym x i))
+    go false e = let s = step-ill-formed F t c e in s ∙ ap (refuse t c) (sym (ap (λ (a : TableAnswer (F .Table)). a .refusal) s))
 
 -- a sequence of calls on the table of the state s is one on the bounded machine, and none of them is refused by 13
 pub record Runs (F : Form) (n : ℕ) (s : State Labels.Label) (cs : Lists.List Call) : Type 0 where
@@ -87,13 +112,17 @@ module _ (F : Form) (L : Lawful F) (n : ℕ) (low : 2 ≤ n) (high : n ≤ 32) w
       -- a step call on the table of a reached state is the machine's
       pub reached-written : stepOf F (F .written n s) c ≡ answered F n (answer s c)
       reached-written = step-written F (F .written n s) c reached-passes
+          ∙ ap (λ B. answered F m (step B m (digits m) (F .state (F .written n s)) c)) (L .board)
           ∙ ap₂ (λ k u. answered F k (step original k (digits k) u c)) (L .counted n s) reached-held
+        where
+          m : ℕ
+          m = F .count (F .written n s)
 
       pub reached-next : Reached n (answer s c .state)
       reached-next = reached-step n (omega arith) high s r c
 
       seen-written : seen F (answered F n (answer s c)) ≡ Machine.seen n (answer s c)
-      seen-written = ap₂ (λ k u. Machine.seen k (record { state = u; refusal = answer s c .refusal; bytes = answer s c .bytes }))
+      seen-written = ap₂ (λ k u. Machine.seen k (record { state = u; refusal = answer s c .refusal; report = answer s c .report }))
           (L .counted n (answer s c .state)) (L .held n high (answer s c .state) (reached-next .writable))
 
       not-13 : answer s c .refusal ≢ 13
@@ -107,7 +136,11 @@ module _ (F : Form) (L : Lawful F) (n : ℕ) (low : 2 ≤ n) (high : n ≤ 32) w
       snaps-written : (cs : Lists.List Call) → snaps F (F .written n s) (c ∷ cs) ≡ snapsOf original n s c + snaps F (F .written n (answer s c .state)) cs
       unfolding snaps snapsOf
       snaps-written cs = rw (reached-passes, reached-written)
-          (ap₂ (λ k (u : State Labels.Label). snapsOf original k u c + snaps F (F .written n (answer s c .state)) cs) (L .counted n s) reached-held)
+          (ap (λ B. snapsOf B (F .count (F .written n s)) (F .state (F .written n s)) c + rest) (L .board)
+          ∙ ap₂ (λ k (u : State Labels.Label). snapsOf original k u c + rest) (L .counted n s) reached-held)
+        where
+          rest : ℕ
+          rest = snaps F (F .written n (answer s c .state)) cs
 
       one-more : (cs : Lists.List Call) → Runs F n (answer s c .state) cs → Runs F n s (c ∷ cs)
       one-more cs R = record {
@@ -127,10 +160,11 @@ module _ (F : Form) (L : Lawful F) (n : ℕ) (low : 2 ≤ n) (high : n ≤ 32) w
     advances = S .advances;
     whole = S .whole;
     each = S .each ∙ sym (R .count);
-    eachᵘ = S .eachᵘ;
-    same = R .same ∙ S .same;
-    bound = λ k. all-taken (Bounded n (snaps F (freshTable F n) calls)) n k calls (fresh 0 n) (S .advances)
-        (subst (λ b. All (Bounded n b) (unbounded n (S .advances) calls)) (sym (R .count)) (S .bound));
+    eachᵘ = S .eachᵘ ∙ ap (λ B. Machine.snaps B n numbers (fresh 0 n) (S .advances) calls) (sym (L .board));
+    same = R .same ∙ S .same ∙ ap (λ B. map (Machine.seen n) (unbounded B n (S .advances) calls)) (sym (L .board));
+    bound = λ k. subst (λ B. All (Bounded n (snaps F (freshTable F n) calls)) (unbounded B n (S .advances) (take k calls))) (sym (L .board))
+        (all-taken (Bounded n (snaps F (freshTable F n) calls)) n k calls (fresh 0 n) (S .advances)
+        (subst (λ b. All (Bounded n b) (unbounded original n (S .advances) calls)) (sym (R .count)) (S .bound)));
     never13 = R .never13;
   }
     where
@@ -157,9 +191,9 @@ module _ (F : Form) (L : Lawful F) (n : ℕ) (low : 2 ≤ n) (high : n ≤ 32) w
     pub table-passes : F .wellFormed t ≡ true
     table-passes = ap (F .wellFormed) (r .holds) ∙ reached-passes F L n low high (r .reached)
 
-    -- a call is refused by 7 only where there is no room for the lines of all stations
-    pub table-short : (c : Call) → stepOf F t c .refusal ≡ 7 → c .room < n * 29
-    table-short c e = subst (λ k. c .room < k * 29) table-count (step-refusals F t c table-passes .short e)
+    -- a call is refused by a number that `judge` gives, and by 7 only where there is no room for all stations
+    pub table-refusals : (c : Call) → Refusal n c (stepOf F t c .refusal)
+    table-refusals c = subst (λ k. Refusal k c (stepOf F t c .refusal)) table-count (step-refusals F (L .board) t c table-passes)
 
     pub table-step : (c : Call) → ReachedTable F n (stepOf F t c .table)
     table-step c = record {
@@ -188,3 +222,9 @@ same-after F G L M n low high cs = machine F L cs (fresh (λ p. 1) n) (reached-f
     machine F L [] s r = L .held n high s (r .writable)
     machine F L (c ∷ cs) s r = ap (λ (a : TableAnswer (F .Table)). F .state (after F (a .table) cs)) (reached-written F L n low high r c)
         ∙ machine F L cs (step original n (digits n) s c .state) (reached-next F L n low high r c)
+
+-- and so is all that is seen of their answers
+pub same-seen : (F G : Form) → Lawful F → Lawful G → (n : ℕ) → 2 ≤ n → n ≤ 32 → (cs : Lists.List Call)
+    → map (seen F) (run F (freshTable F n) cs) ≡ map (seen G) (run G (freshTable G n) cs)
+same-seen F G L M n low high cs =
+    let r = reached-fresh n (omega arith) in runs F L n low high cs (fresh (λ p. 1) n) r .same ∙ sym (runs G M n low high cs (fresh (λ p. 1) n) r .same)

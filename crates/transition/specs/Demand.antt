@@ -9,7 +9,7 @@ use lib.ListN.{length, take}
 use Rattle.basics.specs.Tests.{All}
 use Rattle.simulation.specs.Calls.{Call}
 use Rattle.simulation.specs.Machine as Machine
-use Rattle.simulation.specs.Machine.{original, numbers, snapsOf, Seen, Bounded}
+use Rattle.simulation.specs.Machine.{Board, numbers, snapsOf, Seen, Bounded}
 use Rattle.transition.specs.Forms.{Form, TableAnswer, freshTable, stepOf}
 
 module _ (F : Form) where
@@ -21,15 +21,15 @@ module _ (F : Form) where
   -- how many snaps for a label the table accepts
   unfoldable pub snaps : F .Table → Lists.List Call → ℕ
   snaps t [] = 0
-  snaps t (c ∷ cs) = cond (F .wellFormed t) (snapsOf original (F .count t) (F .state t) c) 0 + snaps (stepOf F t c .table) cs
+  snaps t (c ∷ cs) = cond (F .wellFormed t) (snapsOf (F .board) (F .count t) (F .state t) c) 0 + snaps (stepOf F t c .table) cs
 
-  -- what is compared after each call: the refusal, the bytes written, and the results that all stations hold
+  -- what is compared after each call: the refusal, the bytes or records written, and the results that all stations hold
   abbrev pub seen : TableAnswer (F .Table) → Seen
-  seen a = Machine.seen (F .count (a .table)) (record { state = F .state (a .table); refusal = a .refusal; bytes = a .bytes })
+  seen a = Machine.seen (F .count (a .table)) (record { state = F .state (a .table); refusal = a .refusal; report = a .report })
 
--- the same of the unbounded table of n stations, from its fresh state, with these advances
-abbrev pub unbounded : ℕ → Lists.List ℕ → Lists.List Call → Lists.List (Machine.Answer ℕ)
-unbounded n advances calls = Machine.run original n numbers (Machine.fresh 0 n) advances calls
+-- the same of the board's unbounded table of n stations, from its fresh state, with these advances
+abbrev pub unbounded : Board → ℕ → Lists.List ℕ → Lists.List Call → Lists.List (Machine.Answer ℕ)
+unbounded B n advances calls = Machine.run B n numbers (Machine.fresh 0 n) advances calls
 
 -- for these calls on the fresh table of n stations there are advances, each at least 1, one for each accepted snap for a label, counted on either
 -- table; with them both tables show the same after every call; and after any number k of the calls no number, current or pending, exceeds the
@@ -38,7 +38,7 @@ pub record Demand3 (F : Form) (n : ℕ) (calls : Lists.List Call) : Type 0 where
   pub advances : Lists.List ℕ
   pub whole : All (λ a. 1 ≤ a) advances
   pub each : length advances ≡ snaps F (freshTable F n) calls
-  pub eachᵘ : length advances ≡ Machine.snaps original n numbers (Machine.fresh 0 n) advances calls
-  pub same : map (seen F) (run F (freshTable F n) calls) ≡ map (Machine.seen n) (unbounded n advances calls)
-  pub bound : (k : ℕ) → All (Bounded n (snaps F (freshTable F n) calls)) (unbounded n advances (take k calls))
+  pub eachᵘ : length advances ≡ Machine.snaps (F .board) n numbers (Machine.fresh 0 n) advances calls
+  pub same : map (seen F) (run F (freshTable F n) calls) ≡ map (Machine.seen n) (unbounded (F .board) n advances calls)
+  pub bound : (k : ℕ) → All (Bounded n (snaps F (freshTable F n) calls)) (unbounded (F .board) n advances (take k calls))
   pub never13 : All (λ a. a .refusal ≢ 13) (run F (freshTable F n) calls)

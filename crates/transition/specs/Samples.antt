@@ -10,13 +10,13 @@ use Rattle.basics.specs.Tests.{ordered, tabulate, All}
 use Rattle.label.specs.Labels as Labels
 use Rattle.label.specs.Labels.{below, labelBelow}
 use Rattle.label.specs.Rows.{digit}
-use Rattle.simulation.specs.Calls.{Call}
+use Rattle.simulation.specs.Calls.{Call, Buffer}
 use Rattle.simulation.specs.Machine.{digits, stands, State}
 use Rattle.transition.specs.Forms.{Form, freshTable, after}
 
 -- a direct call of station s; a label operation begins with the job 7
 unfoldable pub call : ℕ → ℕ → Call
-call s code = record { line = 0; code = code; station = s; job = cond (eqb code 1) 7 0; room = 0 }
+call s code = record { line = 0; code = code; station = s; job = cond (eqb code 1) 7 0; room = Buffer 0 }
 
 -- each of these stations in turn takes a label: begin, snap, update, end (01: marks)
 unfoldable pub labelled : Lists.List ℕ → Lists.List Call

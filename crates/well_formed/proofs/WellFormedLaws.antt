@@ -122,7 +122,7 @@ module _ (a : Arrays) where
     rows-at : (i : ℕ) → i < 32 → getD (a .results) i [] ≡ rowsAt a i
     rows-at i h = getD-any (a .results) i [] _ (omega arith)
 
-    pub stations : {l p r : Bool} → l ≡ every n (λ i. bothFit (n - 1) (a .labels) (0 + i)) → p ≡ every n (λ i. leb (cell (a .control) 0 (0 + i) 0) 5)
+    pub stations : {l p r : Bool} → l ≡ every n (λ i. bothFit (n - 1) (a .labels) (0 + i)) → p ≡ every n (λ i. leb (cell (a .control) 0 (0 + i) 0) 4)
         → r ≡ every n (λ i. resultFits n (getD (a .results) i [])) → (l && p && r) ≡ every n (stationFits a)
     unfolding stationFits
     stations e f g = rw (e, f, g, ← every-and, ← every-and) (every-same n _ _ (λ i l. rw (zero-add i, rows-at i (omega arith)) refl))

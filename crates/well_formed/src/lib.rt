@@ -216,7 +216,7 @@ pub fn well_formed(
     let n = count as usize;
     arrays::shaped(*labels, *jobs, *control, *results);
     let stations = labels_fit(n - 1, labels, 0, n)
-        & phases_fit(control, 0, n, 5)
+        & phases_fit(control, 0, n, 4)
         & results_fit(n, results);
     let places = labels_fit(0, labels, n, 32 - n)
         & none_from(n, &jobs[0])

@@ -1,6 +1,6 @@
 -- Each arm is a move of its own, and Carried has a law for it.
 use Rattle.engine.proofs.Served.{orderly, order-inside}
-use Rattle.engine.proofs.Carried.{refused, begins-label, begins-scan, snaps-label, snaps-scan, updates, ends-label, ends-scan}
+use Rattle.engine.proofs.Carried.{refused, begins-label, snaps-label, snaps-scan, updates, ends-label, ends-scan}
 use native.Mathlib.Omega.{arith}
 use mathlib.Core.Path.{refl}
 use borrow.Author.Needs.{needs}
@@ -10,89 +10,74 @@ use Rattle.engine.proofs.carry_out.Tie as tie
 cast-jobs : tie.Need-cast-jobs
 cast-jobs c =
     let t = c .before in
-    let s = t .before .before .before .before .before .before .before .before in
+    let s = t .before .before .before .before .before .before .before in
     omega (arith, s .pre .jobFits (t .enum-told .given .1))
 
 pending-by-requires : tie.Need-pending-by-requires
 pending-by-requires c κs =
     let t = c .before .before in
-    let s = t .before .before .before .before .before .before .before .before in
-    (orderly _ (s .pre .passed), (s .pre .isNewest (t .enum-told3 .given .1), s .pre .inside))
+    let s = t .before .before .before .before .before .before .before in
+    (orderly _ (s .pre .passed), (s .pre .isNewest (t .enum-told2 .given .1), s .pre .inside))
 
 scan-result-requires : tie.Need-scan-result-requires
 scan-result-requires c κs =
     let t = c .before in
-    let s = t .before .before .before .before .before .before .before .before in
-    (s .pre .high, order-inside (s .pre) (t .enum-told4 .given .1))
-
-write-result-requires : tie.Need-write-result-requires
-write-result-requires c κs =
-    let t = c .before .before in
-    let s = t .before .before .before .before .before .before .before .before in
-    (s .pre .high, s .pre .hasRoom (t .enum-told7 .given .1))
+    let s = t .before .before .before .before .before .before .before in
+    (s .pre .high, order-inside (s .pre) (t .enum-told3 .given .1))
 
 returns : tie.Need-returns
 returns c =
     let s = c .before .before .before in
-    refused (s .before .before .before .before .before .before .pre) (s .shaped .ensures _) (c .before .m .given .1) refl
+    refused (s .before .before .before .before .before .pre) (s .shaped .ensures _) (c .before .m .given .1) refl
 
 returns-2 : tie.Need-returns-2
 returns-2 c =
     let t = c .before .before in
     let s = t .before .before in
-    begins-label (s .before .before .before .before .before .before .pre) (s .shaped .ensures _) _ _ (t .enum-told .given .1) (c .done .ensures)
+    begins-label (s .before .before .before .before .before .pre) (s .shaped .ensures _) _ (t .enum-told .given .1) (c .accepted .ensures)
 
 returns-3 : tie.Need-returns-3
 returns-3 c =
-    let t = c .before in
+    let t = c .before .before .before .before in
     let s = t .before .before in
-    begins-scan (s .before .before .before .before .before .before .pre) (s .shaped .ensures _) _ _ (t .enum-told2 .given .1) (c .done2 .ensures)
+    snaps-label (s .before .before .before .before .before .pre) (s .shaped .ensures _)
+    (c .before .pending-by .ensures) _ (t .enum-told2 .given .1) (c .accepted2 .ensures)
 
 returns-4 : tie.Need-returns-4
 returns-4 c =
-    let t = c .before .before .before .before in
+    let t = c .before .before .before in
     let s = t .before .before in
-    snaps-label (s .before .before .before .before .before .before .pre) (s .shaped .ensures _)
-    (c .before .pending-by .ensures) _ _ (t .enum-told3 .given .1) (c .done3 .ensures)
+    snaps-scan (s .before .before .before .before .before .pre) (s .shaped .ensures _)
+    (c .before .scan-result .ensures) _ (t .enum-told3 .given .1) (c .accepted3 .ensures)
 
 returns-5 : tie.Need-returns-5
 returns-5 c =
     let t = c .before .before .before in
     let s = t .before .before in
-    snaps-scan (s .before .before .before .before .before .before .pre) (s .shaped .ensures _)
-    (c .before .scan-result .ensures) _ _ (t .enum-told4 .given .1) (c .done4 .ensures)
+    updates (s .before .before .before .before .before .pre) (s .shaped .ensures _) _ (t .enum-told4 .given .1) (c .accepted4 .ensures)
 
 returns-6 : tie.Need-returns-6
 returns-6 c =
-    let t = c .before .before .before in
+    let t = c .before in
     let s = t .before .before in
-    updates (s .before .before .before .before .before .before .pre) (s .shaped .ensures _) _ _ (t .enum-told5 .given .1) (c .done5 .ensures)
+    ends-label (s .before .before .before .before .before .pre) (s .shaped .ensures _) _ (t .enum-told5 .given .1) (c .accepted5 .ensures)
 
 returns-7 : tie.Need-returns-7
 returns-7 c =
     let t = c .before in
     let s = t .before .before in
-    ends-label (s .before .before .before .before .before .before .pre) (s .shaped .ensures _) _ _ (t .enum-told6 .given .1) (c .done6 .ensures)
-
-returns-8 : tie.Need-returns-8
-returns-8 c =
-    let t = c .before .before .before .before .before .before in
-    let s = t .before .before in
-    ends-scan (s .before .before .before .before .before .before .pre) (s .shaped .ensures _)
-    (c .before .before .before .write-result .ensures) (t .enum-told7 .given .1) (c .done7 .ensures)
+    ends-scan (s .before .before .before .before .before .pre) (s .shaped .ensures _) (t .enum-told6 .given .1) (c .accepted6 .ensures)
 
 pub carry-out-spec : {M : Type 1} → statement M
 carry-out-spec = tie.close (tie.spec (λ c κs. search needs) (λ c. search needs) (λ c. search needs) cast-jobs
     (λ c. search needs) (λ c. search needs) (λ c. search needs) (λ c. search needs) (λ c. search needs)
+    (λ c κs. search needs) (λ c. search needs) (λ c. search needs) (λ c. search needs) (λ c. search needs)
+    (λ c. search needs) pending-by-requires (λ c. search needs) (λ c. search needs) (λ c. search needs)
+    (λ c. search needs) (λ c. search needs) (λ c κs. search needs) (λ c. search needs) (λ c. search needs)
+    scan-result-requires (λ c. search needs) (λ c. search needs) (λ c. search needs) (λ c. search needs)
+    (λ c κs. search needs) (λ c. search needs) (λ c. search needs) (λ c. search needs) (λ c. search needs)
+    (λ c. search needs) (λ c. search needs) (λ c. search needs) (λ c. search needs) (λ c. search needs)
+    (λ c. search needs) (λ c. search needs) (λ c. search needs) (λ c. search needs) (λ c. search needs)
+    (λ c. search needs) (λ c κs. search needs) (λ c. search needs) (λ c. search needs) (λ c. search needs)
     (λ c κs. search needs) (λ c. search needs) (λ c. search needs) (λ c. search needs) (λ c κs. search needs)
-    (λ c. search needs) (λ c. search needs) (λ c. search needs) (λ c. search needs) (λ c. search needs)
-    pending-by-requires (λ c. search needs) (λ c. search needs) (λ c. search needs) (λ c. search needs)
-    (λ c. search needs) (λ c κs. search needs) (λ c. search needs) (λ c. search needs) scan-result-requires
-    (λ c. search needs) (λ c. search needs) (λ c. search needs) (λ c. search needs) (λ c κs. search needs)
-    (λ c. search needs) (λ c. search needs) (λ c. search needs) (λ c. search needs) (λ c. search needs)
-    (λ c. search needs) (λ c. search needs) (λ c. search needs) (λ c. search needs) (λ c. search needs)
-    (λ c. search needs) (λ c. search needs) (λ c. search needs) (λ c. search needs) (λ c. search needs)
-    (λ c κs. search needs) (λ c. search needs) (λ c. search needs) (λ c. search needs) (λ c κs. search needs)
-    (λ c. search needs) (λ c. search needs) (λ c. search needs) (λ c. search needs) (λ c. search needs)
-    write-result-requires (λ c. search needs) (λ c κs. search needs) returns returns-2 returns-3 returns-4 returns-5
-    returns-6 returns-7 (λ c. search needs) returns-8)
+    returns returns-2 returns-3 returns-4 returns-5 returns-6 returns-7)

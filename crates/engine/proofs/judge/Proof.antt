@@ -1,7 +1,8 @@
 use native.Mathlib.Omega.{arith}
 use mathlib.Core.Path.{refl, ap, _∙_}
+use mathlib.Core.Bool.{false}
 use Rattle.simulation.specs.Calls.{judgeIn}
-use Rattle.moves.specs.Moves.{moveOf}
+use Rattle.moves.specs.Moves.{roomOf, moveOf}
 use Rattle.moves.proofs.MoveLaws.{place-below}
 use Rattle.engine.specs.Contracts.{callOf}
 use borrow.Author.Needs.{needs}
@@ -21,9 +22,8 @@ returns c =
     record {
       place = k .place-of .ensures;
       action = ap (λ i. moveOf i (q .job) (c .judge .result)) (k .place-of .ensures) ∙ c .judge .ensures (q .line)
-          ∙ ap (λ p. judgeIn (s .args .n) p (callOf q (s .args .room))) (c .before .phase-of .ensures);
+          ∙ ap (λ p. judgeIn false (s .args .n) p (callOf q (roomOf (s .args .room)))) (c .before .phase-of .ensures);
       job = refl;
-      line = refl;
       newest = refl;
     }
 

@@ -1,16 +1,17 @@
-use Rattle.basics.proofs.Loops.{was-true, was-false}
-use Rattle.engine.proofs.Served.{ill-formed}
+use mathlib.Core.Path.{refl}
+use Rattle.engine.proofs.Served.{steps-bytes}
 use borrow.Author.Needs.{needs}
 use Rattle.engine.proofs.step.Statement.{statement}
 use Rattle.engine.proofs.step.Tie as tie
 
-returns : tie.Need-returns
-returns c = ill-formed _ _ _ (was-false (c .before .well-formed .ensures) (c .if1 .taken))
+write-result-requires : tie.Need-write-result-requires
+write-result-requires c κs = search needs
 
-serve-requires : tie.Need-serve-requires
-serve-requires c κs =
-    let i = c .before .before .before .before .before in
-    was-true (i .before .well-formed .ensures) (i .if1 .left)
+returns : tie.Need-returns
+returns c =
+    let w = c .before .before .write-result .ensures in
+    steps-bytes (c .before .before .before .before .before .perform .ensures) refl (w .0) (w .1)
 
 pub step-spec : {M : Type 1} → statement M
-step-spec = tie.close (tie.spec (λ c κs. search needs) returns serve-requires (λ c. search needs) (λ c. search needs))
+step-spec = tie.close (tie.spec (λ c κs. search needs) (λ c. search needs) (λ c. search needs) write-result-requires
+    (λ c. search needs) returns)

@@ -1,5 +1,7 @@
 use Prim.Native.Nat.{_+_}
-use mathlib.Core.Path.{ap}
+use mathlib.Core.Path.{refl, ap}
+use Rattle.transition.proofs.Sequences.{steps-bytes}
+use Rattle.table.specs.Tables.{declared}
 use Rattle.schedule.specs.Sessions.{session}
 use borrow.Author.Needs.{needs}
 use Rattle.session.proofs.step_line.Statement.{statement}
@@ -10,7 +12,8 @@ returns c =
     let b = c .before .before .before .before in
     let s = b .before .before .before .before .args .s in
     let e = b .call .ensures in
-    record { session = ap (session (s .lines + 1) (s .refusal)) (e .table); number = e .number; count = e .count; report = e .report }
+    let w = steps-bytes declared e _ refl in
+    record { session = ap (session (s .lines + 1) (s .refusal)) (e .table); number = e .number; count = w .0; report = w .1 }
 
 pub step-line-spec : {M : Type 1} → statement M
 step-line-spec = tie.close (tie.spec (λ c. search needs) (λ c. search needs) (λ c κs. search needs)

@@ -1,0 +1,2 @@
+pub mod ArrayField
+pub mod PanelLaws

@@ -1,0 +1,144 @@
+-- A scan that snaps as it begins (02, Card 1), beside one that begins and snaps in steps of their own (01): the two boards judge every other call alike, and
+-- where the begin is directly followed by its snap, they come to the same state.
+use Prim.Native.Nat.{ℕ, suc, _-_}
+use mathlib.Core.Path.{_≡_, refl, sym, ap, ap₂, _∙_, fun-ext}
+use mathlib.Core.Logic.{_⊎_, inl, inr}
+use mathlib.Core.Bool.{Bool, true, false, cond}
+use mathlib.Core.List as Lists
+use mathlib.Core.List.{[], map}
+use lib.Dec.{eqb}
+use borrow.Author.Tests.{eqb-true, eq-eqb}
+use Rattle.basics.specs.Tests.{within, ordered}
+use Rattle.simulation.specs.Calls.{Call, place, Scan, Phase, Idle, Update, Snap, End, entry, Rest, Move, unless, byPhase, judgeIn, judge, written}
+use Rattle.simulation.specs.Machine.{Board, original, apart, Rules, stands, relabelled, inPhase, changed, stored, scanOf, carryOut, State, labelsAfter}
+use Rattle.simulation.specs.Machine.{outcome, Answer, answer, step}
+
+-- JUDGING: document 01's board and the original one find the same move, or the begin of a scan and its snap
+data Judged (n : ℕ) (c : Call) : Move → Move → Type 0 where
+  alike : (w : Move) → Judged n c w w
+  scans : c .code ≡ 2 → within 1 n (c .station) ≡ true → Judged n c (Move.begins (place c) (c .job) Scan) (Move.snaps (place c) Scan)
+
+module _ (n : ℕ) (c : Call) where
+  tested : (b : Bool) (x : ℕ) (w w′ : Move) → (b ≡ true → Judged n c w w′) → Judged n c (unless b x w) (unless b x w′)
+  unfolding unless
+  tested true x w w′ f = f refl
+  tested false x w w′ f = alike (Move.refused x)
+
+  either : (b : Bool) (v w w′ : Move) → Judged n c w w′ → Judged n c (cond b v w) (cond b v w′)
+  either true v w w′ j = alike v
+  either false v w w′ j = j
+
+  by-phase : within 1 n (c .station) ≡ true → (ph : Phase) → Judged n c (byPhase true n c ph) (byPhase false n c ph)
+  by-phase own Idle = either (eqb (c .code) 1) _ _ _ (tested _ _ _ _ (λ e. scans (eqb-true (c .code) 2 e) own))
+  by-phase own (Snap o) = alike _
+  by-phase own Update = alike _
+  by-phase own (End o) = alike _
+
+  judged : (ph : Phase) → Judged n c (judgeIn true n ph c) (judgeIn false n ph c)
+  unfolding judgeIn
+  judged ph = tested _ 10 _ _ (λ _. tested _ 2 _ _ (λ own. tested _ 11 _ _ (λ _. by-phase own ph)))
+
+  -- a step 3 with job 0 is judged by the phase
+  snap-judged : (b : Bool) (ph : Phase) → c .code ≡ 3 → c .job ≡ 0 → within 1 n (c .station) ≡ true → judgeIn b n ph c ≡ byPhase b n c ph
+  unfolding judgeIn unless
+  snap-judged b ph e f own = rw (e, f, own) refl
+
+-- PHASES: a scan sees the same if a phase differs, and of two phases the second stays
+module _ (o : Rest) (k : ℕ) (ph : Phase) where
+  scan-same : (order : Lists.List ℕ) → scanOf (changed o k (inPhase ph)) order ≡ scanOf o order
+  unfolding scanOf
+  scan-same order = ap (λ f. map (λ i. entry (suc i) (f i)) order) (fun-ext (λ i. go (eqb i k) i))
+    where
+      go : (b : Bool) (i : ℕ) → cond b (inPhase ph (o .process i)) (o .process i) .job ≡ o .process i .job
+      go true i = refl
+      go false i = refl
+
+  phase-again : (ph′ : Phase) → changed (changed o k (inPhase ph)) k (inPhase ph′) ≡ changed o k (inPhase ph′)
+  phase-again ph′ = ap (λ f. record { process = f; result = o .result }) (fun-ext (λ i. go (eqb i k) i))
+    where
+      go : (b : Bool) (i : ℕ) → let p = cond b (inPhase ph (o .process i)) (o .process i) in
+          cond b (inPhase ph′ p) p ≡ cond b (inPhase ph′ (o .process i)) (o .process i)
+      go true i = refl
+      go false i = refl
+
+  phase-here : (i : ℕ) → i ≡ k → changed o k (inPhase ph) .process i .phase ≡ ph
+  phase-here i e = rw (eq-eqb i k e) refl
+
+-- STEPS
+
+-- an answer that hands out nothing
+abbrev pub bare : {A : Type 0} → Call → State A → ℕ → Answer A
+bare c s x = record { state = s; refusal = x; report = written (c .line) (c .room) [] }
+
+-- the call d snaps for the scan that c begins
+pub record SnapOf (c d : Call) : Type 0 where
+  pub code : d .code ≡ 3
+  pub station : d .station ≡ c .station
+  pub job : d .job ≡ 0
+
+module _ {A : Type 0} (n : ℕ) (r : Rules A) where
+  -- the call c begins a scan: `apart` then takes two steps to the state that `original` is in after one, and where it refuses the snap
+  pub record Scans (s : State A) (c : Call) : Type 0 where
+    pub code : c .code ≡ 2
+    pub begun : State A
+    pub scanned : State A
+    pub begins : step apart n r s c ≡ bare c begun 0
+    pub snaps : (d : Call) → SnapOf c d → step apart n r begun d ≡ bare d scanned 0
+    pub scans : step original n r s c ≡ bare c scanned 0
+    pub turned : (d : Call) → SnapOf c d → step original n r scanned d ≡ bare d scanned 4
+
+  stepped : (B : Board) (s : State A) (c : Call) (w : Move) → B .judge n (s .rest) c ≡ w → step B n r s c ≡ answer c (labelsAfter n r s w) (outcome n r s w)
+  unfolding step
+  stepped B s c w e = ap (λ v. answer c (labelsAfter n r s v) (outcome n r s v)) e
+
+  module _ (s : State A) (c : Call) where
+    scan-apart : judge true n (s .rest) c ≡ Move.begins (place c) (c .job) Scan → judge false n (s .rest) c ≡ Move.snaps (place c) Scan
+        → c .code ≡ 2 → within 1 n (c .station) ≡ true → Scans s c
+    unfolding relabelled carryOut unless
+    scan-apart e f two own = record {
+      code = two;
+      begun = record { labels = s .labels; rest = due };
+      scanned = record { labels = s .labels; rest = done };
+      begins = stepped apart s c _ e;
+      snaps = λ d h. stepped apart (record { labels = s .labels; rest = due }) d (Move.snaps k Scan) (snap-due d h)
+          ∙ ap (λ o. bare d (record { labels = s .labels; rest = o }) 0) same;
+      scans = stepped original s c _ f;
+      turned = λ d h. stepped original (record { labels = s .labels; rest = done }) d (Move.refused 4) (snap-done d h);
+    }
+      where
+        k : ℕ
+        k = place c
+
+        order : Lists.List ℕ
+        order = ordered n (stands r (s .labels))
+
+        due : Rest
+        due = changed (s .rest) k (inPhase (Snap Scan))
+
+        done : Rest
+        done = stored (changed (s .rest) k (inPhase (End Scan))) k (scanOf (s .rest) order)
+
+        same : stored (changed due k (inPhase (End Scan))) k (scanOf due order) ≡ done
+        same = ap₂ (λ o l. stored o k l) (phase-again (s .rest) k (Snap Scan) (End Scan)) (scan-same (s .rest) k (Snap Scan) order)
+
+        there : (d : Call) → SnapOf c d → place d ≡ k
+        there d h = ap (λ x. x - 1) (h .station)
+
+        by-due : (b : Bool) (o : Rest) (d : Call) → SnapOf c d → judge b n o d ≡ byPhase b n d (o .process (place d) .phase)
+        by-due b o d h = snap-judged n d b _ (h .code) (h .job) (ap (within 1 n) (h .station) ∙ own)
+
+        snap-due : (d : Call) → SnapOf c d → judge true n due d ≡ Move.snaps k Scan
+        snap-due d h = by-due true due d h ∙ ap (byPhase true n d) (phase-here (s .rest) k (Snap Scan) (place d) (there d h))
+            ∙ rw (h .code) (ap (λ i. Move.snaps i Scan) (there d h))
+
+        snap-done : (d : Call) → SnapOf c d → judge false n done d ≡ Move.refused 4
+        snap-done d h = by-due false done d h ∙ ap (byPhase false n d) (phase-here (s .rest) k (End Scan) (place d) (there d h)) ∙ rw (h .code) refl
+
+    -- EVERY CALL is answered alike, or begins a scan
+    pub same-or-scans : (step apart n r s c ≡ step original n r s c) ⊎ Scans s c
+    same-or-scans = go (judged n c (s .rest .process (place c) .phase)) refl refl
+      where
+        go : {w w′ : Move} → Judged n c w w′ → judge true n (s .rest) c ≡ w → judge false n (s .rest) c ≡ w′
+            → (step apart n r s c ≡ step original n r s c) ⊎ Scans s c
+        go (alike w) e f = inl (stepped apart s c w e ∙ sym (stepped original s c w f))
+        go (scans two own) e f = inr (scan-apart e f two own)
