@@ -1,4 +1,4 @@
-// The step calls whose report goes to a panel: a slice of records that is lent, one for each place of a list.
+// The step calls whose report goes to a panel: a slice of records that is lent, one for each place of a scan result.
 ghost use mathlib.Core.Path.{_≡_};
 ghost use Prim.Native.Nat.{_≤_, _<_, min};
 ghost use lib.ListN.{length, take, drop};
@@ -8,7 +8,7 @@ use step::Outcome;
 use table::Entry;
 use table::Table;
 
-// A place of a list, from 1, with its station and job.
+// A place of a scan result, from 1, with its station and job.
 pub struct Record {
     pub place: u32,
     pub station: u32,
@@ -16,11 +16,11 @@ pub struct Record {
 }
 
 // The record of entry i.
-fn record_at(list: [Entry; 32], i: usize) -> Record
+fn record_at(entries: [Entry; 32], i: usize) -> Record
     requires { ⌜ i < 32 ⌝ }
-    ensures { λ r. ⌜ r ≡ recordAt list i ⌝ }
+    ensures { λ r. ⌜ r ≡ recordAt entries i ⌝ }
 {
-    let e = list[i];
+    let e = entries[i];
     Record {
         place: (i + 1) as u32,
         station: e.station,
@@ -29,13 +29,13 @@ fn record_at(list: [Entry; 32], i: usize) -> Record
 }
 
 // Fills the first n records; the others stay.
-fn fill(panel: &mut [Record], list: [Entry; 32], n: usize)
+fn fill(panel: &mut [Record], entries: [Entry; 32], n: usize)
     requires { ⌜ (n ≤ 32) × (n ≤ length (now panel)) ⌝ }
-    ensures { λ _. ⌜ now (panel .exit) ≡ filled list n (now (panel .entry)) ⌝ }
+    ensures { λ _. ⌜ now (panel .exit) ≡ filled entries n (now (panel .entry)) ⌝ }
 {
     let mut i: usize = 0;
     while i < n {
-        panel[i] = record_at(list, i);
+        panel[i] = record_at(entries, i);
         i = i + 1;
     }
 }
@@ -45,8 +45,8 @@ pub fn step(t: Table, code: u64, station: u64, job: u64, panel: &mut [Record]) -
     ensures { λ r. ⌜ Shows t code station job (now (panel .entry)) (r .table) (r .reply) (now (panel .exit)) ⌝ }
 {
     let next = step::listed(t, code, station, job, panel.len());
-    let list = next.entries;
-    fill(panel, list, next.outcome.reply.written);
+    let entries = next.entries;
+    fill(panel, entries, next.outcome.reply.written);
     next.outcome
 }
 
