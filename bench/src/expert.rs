@@ -115,7 +115,7 @@ impl Table {
         self.stations[i].phase = Phase::Update;
     }
 
-    fn begin_scan(&mut self, i: usize) {
+    fn scan(&mut self, i: usize) {
         for (place, &j) in self.order[..self.n].iter().enumerate() {
             let job = self.stations[usize::from(j)].job;
             self.stations[i].result[place] = j + 1;
@@ -159,7 +159,7 @@ impl Table {
                 s.pending_job = job as u32;
                 s.phase = Phase::Snap;
             }
-            (2, Phase::Idle) => self.begin_scan(i),
+            (2, Phase::Idle) => self.scan(i),
             (3, Phase::Snap) => self.snap_label(i),
             (4, Phase::Update) => self.update(i),
             (5, Phase::End(Operation::Label)) => s.phase = Phase::Idle,

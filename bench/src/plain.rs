@@ -220,7 +220,7 @@ impl Table {
         self.stations[station].phase = Phase::Update;
     }
 
-    fn begin_scan(&mut self, station: usize) {
+    fn scan(&mut self, station: usize) {
         let order = self.order();
         for (place, &i) in order[..self.n].iter().enumerate() {
             let job = self.stations[usize::from(i)].job;
@@ -250,7 +250,7 @@ impl Table {
                 s.pending_job = job as u32;
                 s.phase = Phase::Snap;
             }
-            (2, Phase::Idle) => self.begin_scan(i),
+            (2, Phase::Idle) => self.scan(i),
             (3, Phase::Snap) => self.snap_label(i),
             (4, Phase::Update) => {
                 s.label = s.pending_label;

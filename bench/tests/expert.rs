@@ -53,7 +53,7 @@ fn accepted(table: &mut Table, code: u64, station: u64, job: u64) {
 }
 
 /// Codes 1, 3, 4, 5 of each station.
-fn mark(table: &mut Table, stations: &[u64]) {
+fn take_labels(table: &mut Table, stations: &[u64]) {
     for &station in stations {
         accepted(table, 1, station, 7);
         for code in [3, 4, 5] {
@@ -87,24 +87,24 @@ fn samples() {
     }
     // P3 and P4
     let mut two = Table::fresh(2);
-    mark(&mut two, &[1]);
+    take_labels(&mut two, &[1]);
     labels(&two, &[&[2]]);
     order(&two, &[2, 1]);
-    mark(&mut two, &[2, 1, 2, 1]);
+    take_labels(&mut two, &[2, 1, 2, 1]);
     labels(&two, &[&[3], &[5]]);
     order(&two, &[2, 1]);
     // P5
     let mut three = Table::fresh(3);
-    mark(&mut three, &[3]);
+    take_labels(&mut three, &[3]);
     labels(&three, &[&[1, 1], &[1, 1], &[1, 1]]);
     order(&three, &[1, 2, 3]);
     // P6 to P8
     let mut three = Table::fresh(3);
-    mark(&mut three, &[1, 2, 3]);
+    take_labels(&mut three, &[1, 2, 3]);
     labels(&three, &[&[2, 1], &[2, 2], &[3, 1]]);
-    mark(&mut three, &[1, 2, 3]);
+    take_labels(&mut three, &[1, 2, 3]);
     labels(&three, &[&[3, 2], &[4, 1], &[4, 2]]);
-    mark(&mut three, &[1, 2, 3]);
+    take_labels(&mut three, &[1, 2, 3]);
     labels(&three, &[&[5, 1], &[5, 2], &[3, 1]]);
     order(&three, &[1, 2, 3]);
     // P9
@@ -119,13 +119,13 @@ fn samples() {
     for (code, station, job) in [(1, 1, 7), (1, 2, 7), (3, 1, 0), (3, 2, 0), (4, 1, 0), (5, 1, 0)] {
         accepted(&mut three, code, station, job);
     }
-    mark(&mut three, &[3, 1, 3, 1]);
+    take_labels(&mut three, &[3, 1, 3, 1]);
     labels(&three, &[&[2, 5], &[1, 1], &[2, 4]]);
     accepted(&mut three, 4, 2, 0);
     labels(&three, &[&[2, 5], &[2, 1], &[2, 4]]);
     order(&three, &[2, 3, 1]);
     accepted(&mut three, 5, 2, 0);
-    mark(&mut three, &[2]);
+    take_labels(&mut three, &[2]);
     labels(&three, &[&[2, 5], &[3, 1], &[2, 4]]);
 }
 
