@@ -11,7 +11,7 @@ static const struct { uint64_t station, code, job; } calls[] = {
     {1, TICKETS_SNAP, 0},
     {1, TICKETS_UPDATE, 0},
     {1, TICKETS_END, 0},
-    {2, TICKETS_BEGIN_SCAN, 0},
+    {2, TICKETS_SCAN, 0},
     {2, TICKETS_SNAP, 0},
     {2, TICKETS_END, 0},
     {3, TICKETS_SNAP, 0},

@@ -17,8 +17,8 @@
 
 enum { TICKETS_MAX_STATIONS = 32, TICKETS_MAX_DIGITS = 31, TICKETS_LINE = 18, TICKETS_REPORT_LINE = 29 };
 
-/* The steps of a call. A label operation is begin, snap, update, end; a scan is begin, which is its snap too, and end. */
-enum { TICKETS_BEGIN_LABEL = 1, TICKETS_BEGIN_SCAN = 2, TICKETS_SNAP = 3, TICKETS_UPDATE = 4, TICKETS_END = 5 };
+/* The steps of a call. A label operation is begin, snap, update, end. A scan is two: TICKETS_SCAN begins it and snaps, TICKETS_END ends it. */
+enum { TICKETS_BEGIN_LABEL = 1, TICKETS_SCAN = 2, TICKETS_SNAP = 3, TICKETS_UPDATE = 4, TICKETS_END = 5 };
 
 /* What is refused; 0 is a call that was served. */
 enum {

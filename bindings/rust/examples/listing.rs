@@ -10,7 +10,7 @@ const CALLS: [(u64, u64, u64); 8] = [
     (1, code::SNAP, 0),
     (1, code::UPDATE, 0),
     (1, code::END, 0),
-    (2, code::BEGIN_SCAN, 0),
+    (2, code::SCAN, 0),
     (2, code::SNAP, 0),
     (2, code::END, 0),
     (3, code::SNAP, 0),

@@ -11,10 +11,10 @@ pub const MAX_DIGITS: usize = MAX_STATIONS - 1;
 pub const LINE: usize = 18;
 pub const REPORT_LINE: usize = 29;
 
-/// The steps of a call. A label operation is begin, snap, update, end; a scan is begin, which is its snap too, and end.
+/// The steps of a call. A label operation is begin, snap, update, end. A scan is two: `SCAN` begins it and snaps, `END` ends it.
 pub mod code {
     pub const BEGIN_LABEL: u64 = 1;
-    pub const BEGIN_SCAN: u64 = 2;
+    pub const SCAN: u64 = 2;
     pub const SNAP: u64 = 3;
     pub const UPDATE: u64 = 4;
     pub const END: u64 = 5;

@@ -172,7 +172,7 @@ fn listing() {
     for (code, job) in [(code::BEGIN_LABEL, 70), (code::SNAP, 0), (code::UPDATE, 0), (code::END, 0)] {
         assert_eq!(board.step(code, 1, job, &mut report), Ok(0));
     }
-    assert_eq!(board.step(code::BEGIN_SCAN, 2, 0, &mut report), Ok(0));
+    assert_eq!(board.step(code::SCAN, 2, 0, &mut report), Ok(0));
     assert_eq!(board.step(code::SNAP, 2, 0, &mut report), Err(refusal::NO_SNAP_DUE));
     assert_eq!(board.step(code::END, 2, 0, &mut report), Ok(2 * REPORT_LINE));
     assert_eq!(&report[..2 * REPORT_LINE], b"       0  0  1  2          0\n       0  0  2  1         70\n");
@@ -188,7 +188,7 @@ fn listing_on_a_panel() {
     for (code, job) in [(code::BEGIN_LABEL, 70), (code::SNAP, 0), (code::UPDATE, 0), (code::END, 0)] {
         assert_eq!(board.step_panel(code, 1, job, &mut panel), Ok(0));
     }
-    assert_eq!(board.step_panel(code::BEGIN_SCAN, 2, 0, &mut panel), Ok(0));
+    assert_eq!(board.step_panel(code::SCAN, 2, 0, &mut panel), Ok(0));
     assert_eq!(board.step_panel(code::SNAP, 2, 0, &mut panel), Err(refusal::NO_SNAP_DUE));
     assert_eq!(panel, untouched);
     assert_eq!(board.step_panel(code::END, 2, 0, &mut panel), Ok(2));
@@ -203,7 +203,7 @@ fn listing_on_a_panel() {
 fn phases(n: u64) -> Vec<Board> {
     let mut board = Board::fresh(n).unwrap();
     let mut boards = vec![board.clone()];
-    for (code, job) in [(code::BEGIN_LABEL, 70), (code::SNAP, 0), (code::UPDATE, 0), (code::END, 0), (code::BEGIN_SCAN, 0), (code::END, 0)] {
+    for (code, job) in [(code::BEGIN_LABEL, 70), (code::SNAP, 0), (code::UPDATE, 0), (code::END, 0), (code::SCAN, 0), (code::END, 0)] {
         board.step(code, 1, job, &mut [0; MAX_STATIONS * REPORT_LINE]).unwrap();
         boards.push(board.clone());
     }
@@ -217,7 +217,7 @@ fn phases(n: u64) -> Vec<Board> {
 fn panels_of_all_lengths() {
     for n in 2..=MAX_STATIONS {
         for before in phases(n as u64) {
-            let due = [(0, code::BEGIN_LABEL), (0, code::BEGIN_SCAN), (1, code::SNAP), (2, code::UPDATE), (3, code::END), (4, code::END)];
+            let due = [(0, code::BEGIN_LABEL), (0, code::SCAN), (1, code::SNAP), (2, code::UPDATE), (3, code::END), (4, code::END)];
             for (code, refused) in [(1, 3), (2, 3), (3, 4), (4, 5), (5, 6)] {
                 for len in [0, 1, n - 1, n, n + 1, 32, 33, 40] {
                     let mut guarded = Guarded::new(before.clone());
@@ -298,14 +298,14 @@ fn phase_numbers() {
             let mut guarded = Guarded::new(Board::fresh(n).unwrap());
             guarded.board.control[PHASES][1] = number;
             for lent in [Lent::Report(MAX_STATIONS * REPORT_LINE), Lent::Panel(MAX_STATIONS)] {
-                let refused = guarded.call(Call { code: code::BEGIN_SCAN, station: 1, job: 0, lent });
+                let refused = guarded.call(Call { code: code::SCAN, station: 1, job: 0, lent });
                 assert_eq!(refused == refusal::BOARD, number >= 5, "phase {number}");
                 guarded.board.control[PHASES][0] = 0;
             }
             if n < 32 {
                 guarded.board = Board::fresh(n).unwrap();
                 guarded.board.control[PHASES][31] = number;
-                let refused = guarded.call(Call { code: code::BEGIN_SCAN, station: 1, job: 0, lent: Lent::Panel(MAX_STATIONS) });
+                let refused = guarded.call(Call { code: code::SCAN, station: 1, job: 0, lent: Lent::Panel(MAX_STATIONS) });
                 assert_eq!(refused == refusal::BOARD, number > 0, "phase {number} past n");
             }
         }

@@ -10,7 +10,7 @@ use lib.ListN.{length, set, drop, length-append, length-map}
 use lib.Seq.{take-at, drop-at, drop-drop}
 use borrow.Rule.Slice.PartMut.{putMid}
 use Rattle.basics.specs.Tests.{tabulate}
-use Rattle.basics.proofs.Facts.{length-tabulate, map-tabulate}
+use Rattle.basics.proofs.Facts.{map-drop, length-tabulate, map-tabulate}
 use Rattle.basics.proofs.Filled.{front-more}
 use Rattle.columns.specs.Columns.{lineHead, lineTail, reportLine}
 use Rattle.columns.proofs.ColumnLaws.{length-report-line}
@@ -91,9 +91,5 @@ one-record-more k rows panel panel′ h e =
 -- and read as records
 pub records-read : (l : Lists.List PanelRecord) (panel : Rows) → map recordOf (over (map rowOf l) panel) ≡ over l (map recordOf panel)
 records-read l panel = map-append recordOf (map rowOf l) (drop (length (map rowOf l)) panel)
-    ∙ ap₂ _++_ (map-map recordOf rowOf l ∙ map-id l) (map-drop (length (map rowOf l)) panel ∙ ap (λ k. drop k (map recordOf panel)) (length-map l rowOf))
-  where
-    map-drop : (k : ℕ) (p : Rows) → map recordOf (drop k p) ≡ drop k (map recordOf p)
-    map-drop zero p = refl
-    map-drop (suc k) [] = refl
-    map-drop (suc k) (x ∷ p) = map-drop k p
+    ∙ ap₂ _++_ (map-map recordOf rowOf l ∙ map-id l)
+    (map-drop recordOf (length (map rowOf l)) panel ∙ ap (λ k. drop k (map recordOf panel)) (length-map l rowOf))

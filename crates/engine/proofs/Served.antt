@@ -12,21 +12,21 @@ use Rattle.basics.proofs.Facts.{length-tabulate}
 use Rattle.rows.specs.Held.{standsIn, Orderly}
 use Rattle.rows.proofs.OrderLaws.{listed-below, order-front}
 use Rattle.simulation.specs.Calls as Calls
-use Rattle.simulation.specs.Calls.{Room, Call, place, Entry, holds, judgeIn, judge, PanelRecord, reportLines, panelRecords, size, written}
+use Rattle.simulation.specs.Calls.{Room, Call, place, Entry, holds, judgeIn, judge, PanelRecord, reportLines, panelRecords, Report, size, written}
 use Rattle.simulation.specs.Machine.{digits, labelsAfter, answer, step}
 use Rattle.simulation.proofs.Judged.{Verdict, turned, begins, scans, updates, snaps, ends, judge-unknown-station, verdict}
 use Rattle.simulation.proofs.Reports.{records-length}
-use Rattle.transition.specs.Forms.{TableAnswer, over, onto, answered, stepOf}
+use Rattle.transition.specs.Forms.{Form, TableAnswer, over, onto, answered, stepOf}
 use Rattle.transition.specs.Sequences.{Steps}
 use Rattle.transition.proofs.Theorem.{step-written, step-ill-formed}
-use Rattle.moves.specs.Moves.{refusalNumber, moveOf}
+use Rattle.moves.specs.Moves.{refusalNumber, moveOf, called}
 use Rattle.moves.proofs.MoveLaws.{by-move, begun-job, place-below}
 use Rattle.arrays.specs.Arrays.{Rows, Arrays, cell, phaseFor, resultOf, restOf, stateOf}
 use Rattle.arrays.specs.WellFormed.{wellFormed}
 use Rattle.arrays.specs.Form.{lent}
 use Rattle.arrays.proofs.Passed.{passed, label-digits}
 use Rattle.engine.specs.Scans.{orderOf}
-use Rattle.engine.specs.Contracts.{callOf, actionOf, Prepared, shown, outcomeOf, Carries, Judges, Hands, rowOf, recordOf}
+use Rattle.engine.specs.Contracts.{directly, callOf, actionOf, Prepared, shown, outcomeOf, Carries, Judges, Hands, rowOf, recordOf}
 use Rattle.engine.proofs.Reports.{result-length, records-read}
 use Rattle.moves.specs.declared.Move.{Move}
 use Rattle.moves.specs.declared.Move.the-variants.{BeginLabel, SnapLabel, SnapScan}
@@ -185,6 +185,11 @@ module _ {a a′ : Arrays} {c : Call} {r : Handed} (h : Hands a c a′ r) where
       → Steps lent a c (Calls.Records (map recordOf panel)) a′ (refusalNumber (r .refusal)) (r .entries) (Calls.Records (map recordOf panel′))
   steps-rows panel panel′ e f =
       steps-records (e ∙ ap Calls.Panel (sym (length-map panel recordOf))) (ap (map recordOf) f ∙ records-read (panelRecords 1 entries) panel)
+
+-- A DIRECT CALL, on tables of any form
+pub steps-directly : (F : Form) {t t′ : F .Table} {r r′ : Report} {number k : ℕ} (code station job : ℕ) (room : Room) (q : Request)
+    → q ≡ directly code station job → Steps F t (callOf q room) r t′ number k r′ → Steps F t (called 0 code station job room) r t′ number k r′
+steps-directly F {t} {t′} {r} {r′} {number} {k} code station job room q e s = subst (λ (x : Request). Steps F t (callOf x room) r t′ number k r′) e s
 
 -- the order that a scan is given has stations in it
 pub order-inside : {a : Arrays} {x : Task} {order : Lists.List ℕ} → Prepared a x order → x .action ≡ SnapScan

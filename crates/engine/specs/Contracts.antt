@@ -29,6 +29,10 @@ use Rattle.engine.specs.declared.Handed.{Handed}
 abbrev pub callOf : Request → Room → Call
 callOf q room = called (q .line) (q .code) (q .station) (q .job) room
 
+-- the request of a direct call: its report lines bear the number 0 (01, "The schedule file and the report")
+abbrev pub directly : ℕ → ℕ → ℕ → Request
+directly code station job = record { code = code; station = station; job = job; line = 0 }
+
 -- a task as a move of the machine
 abbrev pub actionOf : Task → Calls.Move
 actionOf x = moveOf (x .place) (x .job) (x .action)

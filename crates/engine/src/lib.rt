@@ -17,7 +17,7 @@ ghost use Rattle.arrays.specs.Arrays.{arrays, resultOf};
 ghost use Rattle.arrays.specs.WellFormed.{wellFormed};
 ghost use Rattle.arrays.specs.Form.{lent};
 ghost use Rattle.engine.specs.Scans.{orderOf, scanRows};
-ghost use Rattle.engine.specs.Contracts.{callOf, Prepared, Carries, Judges, Hands, rowOf, recordOf};
+ghost use Rattle.engine.specs.Contracts.{directly, callOf, Prepared, Carries, Judges, Hands, rowOf, recordOf};
 use arrays::Control;
 use arrays::END_LABEL;
 use arrays::END_SCAN;
@@ -50,6 +50,18 @@ pub struct Request {
     pub station: u64,
     pub job: u64,
     pub line: u64,
+}
+
+// A direct call: its report lines bear the number 0.
+pub fn direct(code: u64, station: u64, job: u64) -> Request
+    ensures { λ r. ⌜ r ≡ directly code station job ⌝ }
+{
+    Request {
+        code,
+        station,
+        job,
+        line: 0,
+    }
 }
 
 // A call that has been judged: its move, the place of its station, its job, and the newest station.

@@ -15,7 +15,6 @@ use arrays::Control;
 use arrays::Jobs;
 use arrays::Labels;
 use arrays::Results;
-use engine::Request;
 
 // What a caller is told: document 01's number, 0 if the call is served, and how many bytes or records of report were written.
 #[repr(C)]
@@ -67,12 +66,7 @@ pub extern "C" fn tickets_step(
         ≡ arrays count (now (labels .entry)) (now (jobs .entry)) (now (control .entry)) (now (results .entry))) ⌝ }
 {
     arrays::shaped(*labels, *jobs, *control, *results);
-    let request = Request {
-        code,
-        station,
-        job,
-        line: 0,
-    };
+    let request = engine::direct(code, station, job);
     let reply = engine::step(count, request, labels, jobs, control, results, report);
     let refusal = reply.refusal;
     Answer {
@@ -102,12 +96,7 @@ pub extern "C" fn tickets_step_panel(
         ≡ arrays count (now (labels .entry)) (now (jobs .entry)) (now (control .entry)) (now (results .entry))) ⌝ }
 {
     arrays::shaped(*labels, *jobs, *control, *results);
-    let request = Request {
-        code,
-        station,
-        job,
-        line: 0,
-    };
+    let request = engine::direct(code, station, job);
     let shown = engine::step_shown(count, request, labels, jobs, control, results, panel);
     let refusal = shown.refusal;
     Answer {

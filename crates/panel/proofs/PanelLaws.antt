@@ -8,7 +8,7 @@ use mathlib.Core.List.{List, [], _∷_, _++_, map, map-append}
 use lib.ListN.{length, getD, set, take, drop, length-map}
 use borrow.Table.Elements.{same-len}
 use Rattle.basics.specs.Tests.{tabulate}
-use Rattle.basics.proofs.Facts.{length-tabulate, tabulate-same, map-tabulate}
+use Rattle.basics.proofs.Facts.{map-drop, length-tabulate, tabulate-same, map-tabulate}
 use Rattle.basics.proofs.Filled.{front-more}
 use Rattle.simulation.specs.Calls.{Panel, panelRecords, Records}
 use Rattle.transition.specs.Forms.{over}
@@ -44,18 +44,13 @@ filled-none es ys = refl
 filled-records : (es : List Entry) (n : ℕ) (ys : List Record)
     → over (panelRecords 1 (firstEntries n es)) (map recordOf ys) ≡ map recordOf (filled es n ys)
 filled-records es n ys = ap (λ l. over l (map recordOf ys)) (records-tabulate n 0 _)
-    ∙ ap₂ _++_ first (ap (λ k. drop k (map recordOf ys)) (length-tabulate n 0 _) ∙ sym (map-drop n ys))
+    ∙ ap₂ _++_ first (ap (λ k. drop k (map recordOf ys)) (length-tabulate n 0 _) ∙ sym (map-drop recordOf n ys))
     ∙ sym (map-append recordOf (tabulate n 0 (recordAt es)) (drop n ys))
   where
     first : tabulate n 0 (λ p. let e = getD es p blank in record { place = suc p; station = e .station; job = e .job })
         ≡ map recordOf (tabulate n 0 (recordAt es))
     first = tabulate-same n 0 _ _ (λ p _. ap (λ i. record { place = i; station = getD es p blank .station; job = getD es p blank .job }) (sym (add-one p)))
         ∙ sym (map-tabulate recordOf n 0 (recordAt es))
-
-    map-drop : (k : ℕ) (l : List Record) → map recordOf (drop k l) ≡ drop k (map recordOf l)
-    map-drop zero l = refl
-    map-drop (suc k) [] = refl
-    map-drop (suc k) (x ∷ l) = map-drop k l
 
 pub shown : {t : Table} {code station job : ℕ} (ys : List Record) {zs : List Record} (r : Listing) → Lists t code station job (length ys) r
     → zs ≡ filled (r .entries) (r .outcome .reply .written) ys → Shows t code station job ys (r .outcome .table) (r .outcome .reply) zs

@@ -10,7 +10,7 @@ use mathlib.Core.List.{[], _∷_}
 use lib.ListN.{length, getD}
 use Rattle.basics.proofs.Facts.{tabulate-same}
 use Rattle.simulation.specs.Calls as Calls
-use Rattle.simulation.specs.Calls.{Room, Call, Panel, PanelRecord, panelRecords, Report, Bytes, Records, size}
+use Rattle.simulation.specs.Calls.{Call, Panel, PanelRecord, panelRecords, Report, Bytes, Records, size}
 use Rattle.transition.specs.Forms.{TableAnswer, over, onto, stepOf}
 use Rattle.transition.specs.Sequences.{Steps}
 use Rattle.transition.proofs.Theorem.{step-written, step-ill-formed, step-kept}
@@ -18,7 +18,7 @@ use Rattle.moves.specs.Moves.{refusalNumber, called}
 use Rattle.arrays.specs.Arrays.{Rows, Arrays, resultOf}
 use Rattle.arrays.specs.WellFormed.{wellFormed}
 use Rattle.arrays.specs.Form.{lent}
-use Rattle.engine.specs.Contracts.{callOf, placeIn, Hands}
+use Rattle.engine.specs.Contracts.{directly, callOf, placeIn, Hands}
 use Rattle.engine.proofs.Served.{steps-records, records-fit}
 use Rattle.table.specs.Tables.{blank, entriesOf, apart, together, declared}
 use Rattle.table.proofs.Apart.{element, Whole, declared-written}
@@ -81,17 +81,6 @@ pub empty-buffer : {t t′ : Table} {c : Call} {number written : ℕ} (buffer : 
     → length buffer ≡ 0 → Steps declared t c (Bytes []) t′ number written (Bytes [])
 empty-buffer [] s e = s
 empty-buffer (x ∷ l) s e = absurd (omega arith)
-
--- DIRECT CALLS
-
--- the request of a direct call
-abbrev pub directly : ℕ → ℕ → ℕ → Request
-directly code station job = record { code = code; station = station; job = job; line = 0 }
-
-pub steps-directly : {t t′ : Table} {r r′ : Report} {number written : ℕ} (code station job : ℕ) (room : Room) (q : Request) → q ≡ directly code station job
-    → Steps declared t (callOf q room) r t′ number written r′ → Steps declared t (called 0 code station job room) r t′ number written r′
-steps-directly {t} {t′} {r} {r′} {number} {written} code station job room q e s =
-    subst (λ (x : Request). Steps declared t (callOf x room) r t′ number written r′) e s
 
 -- A CALL WITH A PANEL
 

@@ -29,7 +29,7 @@ pub record TableAnswer (T : Type 0) : Type 0 where
 abbrev pub refuse : {T : Type 0} → T → Call → ℕ → TableAnswer T
 refuse t c x = record { table = t; refusal = x; report = written (c .line) (c .room) [] }
 
--- what is lent, with a list at its front and the rest kept; and a report of its own kind at its front
+-- what is lent, with a list at its front and the rest kept; and with a report at its front, which is of its own kind (any other would leave it)
 abbrev pub over : {A : Type 0} → Lists.List A → Lists.List A → Lists.List A
 over l lent = l ++ drop (length l) lent
 
