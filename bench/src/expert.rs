@@ -1,7 +1,8 @@
-//! The schedule program in plain Rust once more, by an expert. It is the program of `plain` with these three things:
+//! The schedule program in plain Rust once more, by an expert. It is the program of `plain` with these four things:
 //!
 //! - A label is one number, three bits a digit, and labels are compared as numbers.
 //! - The scan order is kept: an update takes one station out and puts it in again by binary search.
+//! - A scan result has the count of the stations that it shows beside it.
 //! - Report lines come from a template: the columns that do not change within a scan are written once, as `plain` does too.
 
 use crate::plain::{fill, put, read_header, read_line, refusal, report_line, write_refusal};
@@ -56,6 +57,8 @@ struct Station {
     job: u32,
     pending_key: Key,
     pending_job: u32,
+    /// How many stations the scan result shows; what its rows hold past them is no part of it.
+    shown: usize,
     result: [u8; MAX_STATIONS],
     result_jobs: [u32; MAX_STATIONS],
     phase: Phase,
@@ -70,17 +73,17 @@ pub struct Table {
 
 impl Table {
     pub fn fresh(n: usize) -> Table {
-        let order = std::array::from_fn(|i| i as u8);
         let stations = std::array::from_fn(|i| Station {
             key: i as Key,
             job: 0,
             pending_key: i as Key,
             pending_job: 0,
-            result: order.map(|i| i + 1),
+            shown: 0,
+            result: [0; MAX_STATIONS],
             result_jobs: [0; MAX_STATIONS],
             phase: Phase::Idle,
         });
-        Table { n, stations, order }
+        Table { n, stations, order: std::array::from_fn(|i| i as u8) }
     }
 
     /// The label of a station, from 0.
@@ -116,11 +119,15 @@ impl Table {
     }
 
     fn scan(&mut self, i: usize) {
-        for (place, &j) in self.order[..self.n].iter().enumerate() {
+        let mut shown = 0;
+        for &j in &self.order[..self.n] {
             let job = self.stations[usize::from(j)].job;
-            self.stations[i].result[place] = j + 1;
-            self.stations[i].result_jobs[place] = job;
+            // A station without a job is written too, and the next one over it.
+            self.stations[i].result[shown] = j + 1;
+            self.stations[i].result_jobs[shown] = job;
+            shown += usize::from(job != 0);
         }
+        self.stations[i].shown = shown;
         self.stations[i].phase = Phase::End(Operation::Scan);
     }
 
@@ -199,7 +206,7 @@ impl<W: Write> Report<'_, W> {
     fn result(&mut self, line: u32, table: &Table, station: usize) -> io::Result<()> {
         let s = &table.stations[station];
         let template = report_line(line, 0);
-        for (place, bytes) in self.lines(table.n)?.chunks_exact_mut(REPORT_LINE).enumerate() {
+        for (place, bytes) in self.lines(s.shown)?.chunks_exact_mut(REPORT_LINE).enumerate() {
             bytes.copy_from_slice(&template);
             put(&mut bytes[11..14], place as u32 + 1);
             put(&mut bytes[14..17], s.result[place].into());

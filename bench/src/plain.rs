@@ -1,4 +1,4 @@
-//! The schedule program in plain Rust, written from document 01 and Card 1 and not from the Rattle code.
+//! The schedule program in plain Rust, written from documents 01 and 02 (Cards 1 and 2) and not from the Rattle code.
 
 use std::cmp::Ordering;
 use std::io::{self, Read, Write};
@@ -55,7 +55,7 @@ pub enum Phase {
     End(Operation),
 }
 
-/// A scan result stands in two rows: the stations, oldest first, and their jobs; zeros past n.
+/// A scan result stands in two rows: the stations that it shows, oldest first, and their jobs; zeros past these.
 #[derive(Clone, PartialEq, Eq, Debug)]
 pub struct Station {
     pub label: Label,
@@ -68,20 +68,21 @@ pub struct Station {
 }
 
 impl Station {
-    pub fn fresh(n: usize) -> Station {
-        let mut result = [0; MAX_STATIONS];
-        for (place, station) in result.iter_mut().take(n).enumerate() {
-            *station = place as u8 + 1;
-        }
+    pub fn fresh() -> Station {
         Station {
             label: [1; MAX_DIGITS],
             job: 0,
             pending_label: [1; MAX_DIGITS],
             pending_job: 0,
-            result,
+            result: [0; MAX_STATIONS],
             result_jobs: [0; MAX_STATIONS],
             phase: Phase::Idle,
         }
+    }
+
+    /// How many stations the scan result shows.
+    pub fn shown(&self) -> usize {
+        self.result.iter().take_while(|&&station| station != 0).count()
     }
 
     fn is_well_formed(&self, n: usize) -> bool {
@@ -89,15 +90,19 @@ impl Station {
             let (used, rest) = label.split_at(n - 1);
             used.iter().all(|d| (1..=5).contains(d)) && rest.iter().all(|&d| d == 1)
         };
+        let (shown, empty) = self.result.split_at(self.shown());
+        let (jobs, no_jobs) = self.result_jobs.split_at(shown.len());
         let mut seen = 0u64;
-        for &station in &self.result[..n] {
+        for &station in shown {
             seen |= if (1..=n).contains(&usize::from(station)) { 1 << station } else { 0 };
         }
         digits(&self.label)
             && digits(&self.pending_label)
-            && seen.count_ones() as usize == n
-            && self.result[n..].iter().all(|&station| station == 0)
-            && self.result_jobs[n..].iter().all(|&job| job == 0)
+            // Different stations of 1 to n, so none past place n.
+            && seen.count_ones() as usize == shown.len()
+            && empty.iter().all(|&station| station == 0)
+            && jobs.iter().all(|&job| job != 0)
+            && no_jobs.iter().all(|&job| job == 0)
     }
 }
 
@@ -126,7 +131,7 @@ fn is_below(a: u8, b: u8) -> bool {
 
 impl Table {
     pub fn fresh(n: usize) -> Table {
-        Table { n, stations: std::array::from_fn(|_| Station::fresh(n)) }
+        Table { n, stations: std::array::from_fn(|_| Station::fresh()) }
     }
 
     /// Whether station i stands before station j; both count from 0 here.
@@ -196,7 +201,7 @@ impl Table {
             return false;
         }
         let (stations, rest) = self.stations.split_at(self.n);
-        let fresh = Station::fresh(self.n);
+        let fresh = Station::fresh();
         stations.iter().all(|s| s.is_well_formed(self.n)) && rest.iter().all(|s| *s == fresh) && self.has_no_ring()
     }
 
@@ -221,18 +226,18 @@ impl Table {
     }
 
     fn scan(&mut self, station: usize) {
+        let (mut result, mut result_jobs) = ([0; MAX_STATIONS], [0; MAX_STATIONS]);
         let order = self.order();
-        for (place, &i) in order[..self.n].iter().enumerate() {
-            let job = self.stations[usize::from(i)].job;
-            self.stations[station].result[place] = i + 1;
-            self.stations[station].result_jobs[place] = job;
+        let with_jobs = order[..self.n].iter().map(|&i| (i + 1, self.stations[usize::from(i)].job)).filter(|&(_, job)| job != 0);
+        for (place, shown) in with_jobs.enumerate() {
+            (result[place], result_jobs[place]) = shown;
         }
-        self.stations[station].phase = Phase::End(Operation::Scan);
+        let s = &mut self.stations[station];
+        (s.result, s.result_jobs, s.phase) = (result, result_jobs, Phase::End(Operation::Scan));
     }
 
-    /// The step on a well-formed table: how much was written, or the refusal. An ended scan is written by `write`, from the number of stations and the
-    /// station with the result.
-    fn serve(&mut self, code: u64, station: u64, job: u64, write: impl FnOnce(usize, &Station) -> Result<usize, u64>) -> Result<usize, u64> {
+    /// The step on a well-formed table: how much was written, or the refusal. An ended scan is written by `write`, from the station with the result.
+    fn serve(&mut self, code: u64, station: u64, job: u64, write: impl FnOnce(&Station) -> Result<usize, u64>) -> Result<usize, u64> {
         if !(1..=5).contains(&code) {
             return Err(refusal::CODE);
         }
@@ -259,7 +264,7 @@ impl Table {
             }
             (5, Phase::End(Operation::Label)) => s.phase = Phase::Idle,
             (5, Phase::End(Operation::Scan)) => {
-                let written = write(self.n, s)?;
+                let written = write(s)?;
                 s.phase = Phase::Idle;
                 return Ok(written);
             }
@@ -274,15 +279,15 @@ impl Table {
 
 /// The direct step call: the refusal (0 if accepted) and the number of report bytes.
 pub fn step(t: &mut Table, code: u64, station: u64, job: u64, report: &mut [u8]) -> (u64, usize) {
-    direct(t, code, station, job, |n, s| write_result(0, n, s, report))
+    direct(t, code, station, job, |s| write_result(0, s, report))
 }
 
 /// The direct step call with records: the refusal (0 if accepted) and the number of records written.
 pub fn step_panel(t: &mut Table, code: u64, station: u64, job: u64, panel: &mut [Record]) -> (u64, usize) {
-    direct(t, code, station, job, |n, s| fill_panel(n, s, panel))
+    direct(t, code, station, job, |s| fill_panel(s, panel))
 }
 
-fn direct(t: &mut Table, code: u64, station: u64, job: u64, write: impl FnOnce(usize, &Station) -> Result<usize, u64>) -> (u64, usize) {
+fn direct(t: &mut Table, code: u64, station: u64, job: u64, write: impl FnOnce(&Station) -> Result<usize, u64>) -> (u64, usize) {
     if !t.is_well_formed() {
         return (refusal::ILL_FORMED, 0);
     }
@@ -330,8 +335,8 @@ pub(crate) fn report_line(line: u32, refused: u64) -> [u8; REPORT_LINE] {
 }
 
 /// Writes a scan result as report lines, if there is room for all.
-fn write_result(line: u32, n: usize, s: &Station, report: &mut [u8]) -> Result<usize, u64> {
-    let report = report.get_mut(..n * REPORT_LINE).ok_or(refusal::SHORT_REPORT)?;
+fn write_result(line: u32, s: &Station, report: &mut [u8]) -> Result<usize, u64> {
+    let report = report.get_mut(..s.shown() * REPORT_LINE).ok_or(refusal::SHORT_REPORT)?;
     let blank = report_line(line, 0);
     for (place, bytes) in report.chunks_exact_mut(REPORT_LINE).enumerate() {
         bytes.copy_from_slice(&blank);
@@ -343,12 +348,12 @@ fn write_result(line: u32, n: usize, s: &Station, report: &mut [u8]) -> Result<u
 }
 
 /// Writes a scan result as records, if there are enough of them.
-fn fill_panel(n: usize, s: &Station, panel: &mut [Record]) -> Result<usize, u64> {
-    let records = panel.get_mut(..n).ok_or(refusal::SHORT_REPORT)?;
+fn fill_panel(s: &Station, panel: &mut [Record]) -> Result<usize, u64> {
+    let records = panel.get_mut(..s.shown()).ok_or(refusal::SHORT_REPORT)?;
     for (place, record) in records.iter_mut().enumerate() {
         *record = Record { place: place as u32 + 1, station: s.result[place].into(), job: s.result_jobs[place] };
     }
-    Ok(n)
+    Ok(records.len())
 }
 
 pub(crate) fn write_refusal(line: u32, refused: u64, report: &mut [u8]) {
@@ -384,7 +389,7 @@ fn serve_line(table: &mut Table, line: u32, bytes: &[u8], report: &mut [u8]) -> 
         return Err(refusal::TOO_MANY);
     }
     let (station, code, job) = read_line(bytes)?;
-    table.serve(code, station, job, |n, s| write_result(line, n, s, report))
+    table.serve(code, station, job, |s| write_result(line, s, report))
 }
 
 /// Reads until the buffer is full or the input ends.

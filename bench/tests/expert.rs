@@ -5,7 +5,7 @@ use std::io::{self, Read};
 use std::path::Path;
 use ticket_bench::expert::{before, key, label, run, Table};
 use ticket_bench::generate::{schedule, Ending, Random};
-use ticket_bench::plain::{self, Label, LINE, MAX_DIGITS, MAX_STATIONS, REPORT_LINE};
+use ticket_bench::plain::{self, Label, Operation, Phase, LINE, MAX_DIGITS, MAX_STATIONS, REPORT_LINE};
 
 fn report(mut schedule: &[u8]) -> Vec<u8> {
     let mut report = Vec::new();
@@ -159,8 +159,9 @@ fn tables_as_in_the_plain_program() {
         let mut expected = plain::Table::fresh(n);
         for bytes in schedule.chunks(LINE).skip(1) {
             let (station, code, job) = (number(&bytes[..3]), number(&bytes[3..6]), number(&bytes[6..17]));
-            let (refused, written) = plain::step(&mut expected, code, station, job, &mut [0; MAX_STATIONS * REPORT_LINE]);
-            let ended = (written > 0).then(|| station as usize - 1);
+            let scanning = |i: &usize| expected.stations.get(*i).is_some_and(|s| s.phase == Phase::End(Operation::Scan));
+            let ended = (station as usize).checked_sub(1).filter(scanning).filter(|_| code == 5);
+            let (refused, _) = plain::step(&mut expected, code, station, job, &mut [0; MAX_STATIONS * REPORT_LINE]);
             assert_eq!(table.serve(bytes), if refused == 0 { Ok(ended) } else { Err(refused) });
             assert!((0..n).all(|i| table.label(i) == expected.stations[i].label));
             assert_eq!(table.order(), &expected.order()[..n]);
@@ -256,7 +257,7 @@ fn jobs() {
         let report = as_plain(
             &[b"  2  0          0\n  1  1", column, b"\n  1  3          0\n  1  4          0\n  2  2          0\n  2  5          0\n"].concat(),
         );
-        report.ends_with(&[b"  0  2  1", column, b"\n"].concat())
+        report.ends_with(&[b"  0  1  1", column, b"\n"].concat())
     };
     for digits in 0..11 {
         let power = 10u64.pow(digits);

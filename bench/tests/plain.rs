@@ -58,6 +58,11 @@ fn label(table: &mut Table, stations: &[u64]) {
     }
 }
 
+/// A row of a scan result: these, then zeros.
+fn row_of<T: Copy + Default>(shown: &[T]) -> [T; MAX_STATIONS] {
+    std::array::from_fn(|place| shown.get(place).copied().unwrap_or_default())
+}
+
 fn row(digits: &[u8]) -> Label {
     std::array::from_fn(|p| digits.get(p).copied().unwrap_or(1))
 }
@@ -157,12 +162,18 @@ const OLD: Record = Record { place: 0, station: 77, job: 4_000_000_000 };
 /// Each call with a report and, on another table, with a panel.
 #[test]
 fn a_panel_shows_what_a_report_shows() {
+    // Scans that show no station, some, and all.
+    let mut kinds = [0; 3];
     for n in 2..=MAX_STATIONS {
         let schedule = schedule(n as u64, 3_000, 100 + n as u64, Ending::Plain);
         let (mut table, mut other) = (Table::fresh(n), Table::fresh(n));
         let mut scans = 0;
+        // For each station that scans, how many had a job at its snap.
+        let mut scanning = [None; MAX_STATIONS + 1];
         for (at, (code, station, job)) in steps(&schedule).enumerate() {
-            let records = [n, n, 32, 33, 40][at % 5];
+            let with_jobs = scanning.get(station as usize).copied().flatten();
+            let exact = with_jobs.unwrap_or(0);
+            let records = [exact, exact + 1, 32, 33, 40][at % 5];
             let mut area = [b'?'; MAX_STATIONS * REPORT_LINE];
             let mut panel = vec![OLD; records];
             let (refused, bytes) = step(&mut table, code, station, job, &mut area);
@@ -173,32 +184,58 @@ fn a_panel_shows_what_a_report_shows() {
                 .map(|line| Record { place: number(&line[11..14]) as u32, station: number(&line[14..17]) as u32, job: number(&line[17..28]) as u32 })
                 .collect();
             assert!(panel.starts_with(&shown) && panel[shown.len()..].iter().all(|&record| record == OLD));
-            if bytes > 0 {
-                assert!(shown.len() == n && shown.iter().zip(1..).all(|(record, place)| record.place == place));
-                scans += 1;
+            assert!(shown.iter().zip(1..).all(|(record, place)| record.place == place && record.job != 0));
+            match (refused, code) {
+                (0, 2) => {
+                    let count = table.stations[..n].iter().filter(|s| s.job != 0).count();
+                    scanning[station as usize] = Some(count);
+                    kinds[usize::from(count > 0) + usize::from(count == n)] += 1;
+                }
+                (0, 5) => {
+                    assert_eq!(shown.len(), exact);
+                    scans += u32::from(with_jobs.is_some());
+                    scanning[station as usize] = None;
+                }
+                _ => assert_eq!(shown, []),
             }
         }
         assert!(scans > 100, "{scans} scans, n = {n}");
     }
+    assert!(kinds[0] > 10 && kinds[1] > 100 && kinds[2] > 1000, "scans of none, some, all: {kinds:?}");
 }
+
+/// Stations 1 to `with_jobs` take labels one after the other, and station n begins a scan.
+fn scanning(n: usize, with_jobs: usize) -> Table {
+    let mut table = Table::fresh(n);
+    label(&mut table, &Vec::from_iter(1..=with_jobs as u64));
+    accepted(&mut table, 2, n as u64, 0);
+    table
+}
+
+/// The number of stations, and how many of them a scan shows: all, the scanning one too, or some.
+const SHOWN: [(usize, usize); 8] = [(2, 1), (2, 2), (3, 2), (3, 3), (31, 30), (32, 1), (32, 31), (32, 32)];
 
 #[test]
 fn a_short_panel_is_refused_last() {
-    for n in [2, 3, 31, 32] {
-        let mut table = Table::fresh(n);
-        accepted(&mut table, 2, 1, 0);
+    for (n, shown) in SHOWN {
+        let mut table = scanning(n, shown);
+        let scans = n as u64;
         let kept = table.clone();
-        for records in [0, 1, n - 1] {
+        for records in 0..shown {
             let mut panel = vec![OLD; records];
-            assert_eq!(step_panel(&mut table, 5, 1, 0, &mut panel), (7, 0));
+            assert_eq!(step_panel(&mut table, 5, scans, 0, &mut panel), (7, 0));
             // What comes before 7 in the order.
-            assert_eq!(step_panel(&mut table, 5, 1, 9, &mut panel), (11, 0));
-            assert_eq!(step_panel(&mut table, 5, 2, 0, &mut panel), (6, 0));
+            assert_eq!(step_panel(&mut table, 5, scans, 9, &mut panel), (11, 0));
+            assert_eq!(step_panel(&mut table, 5, 1, 0, &mut panel), (6, 0));
             assert!(table == kept && panel.iter().all(|&record| record == OLD));
         }
-        let mut panel = vec![OLD; n + 1];
-        assert_eq!(step_panel(&mut table, 5, 1, 0, &mut panel), (0, n));
-        assert!(panel.iter().zip(1..).take(n).all(|(&record, i)| record == Record { place: i, station: i, job: 0 }) && panel[n] == OLD);
+        for more in [0, 1] {
+            table = kept.clone();
+            let mut panel = vec![OLD; shown + more];
+            assert_eq!(step_panel(&mut table, 5, scans, 0, &mut panel), (0, shown));
+            assert!(panel.iter().zip(1..).take(shown).all(|(&record, i)| record == Record { place: i, station: i, job: 7 }));
+            assert!(panel[shown..].iter().all(|&record| record == OLD));
+        }
         // A label's steps need no record.
         accepted(&mut table, 1, 1, 7);
         for code in [3, 4, 5] {
@@ -207,22 +244,44 @@ fn a_short_panel_is_refused_last() {
     }
 }
 
+/// Where no station has a job, a scan shows none and ends with no room at all.
+#[test]
+fn an_empty_scan_needs_no_room() {
+    for n in 2..=MAX_STATIONS {
+        let begun = scanning(n, 0);
+        assert!(begun.stations[n - 1] == Station { phase: Phase::End(Operation::Scan), ..Station::fresh() });
+        for records in [0, 1, 32] {
+            let (mut panel, mut area) = (vec![OLD; records], vec![b'?'; records]);
+            let (mut table, mut other) = (begun.clone(), begun.clone());
+            assert_eq!(step_panel(&mut table, 5, n as u64, 0, &mut panel), (0, 0));
+            assert_eq!(step(&mut other, 5, n as u64, 0, &mut area), (0, 0));
+            assert!(table == Table::fresh(n) && other == table);
+            assert!(panel.iter().all(|&record| record == OLD) && area.iter().all(|&b| b == b'?'));
+        }
+    }
+}
+
 /// The snap of a scan is its begin: labels and jobs of that moment, whatever comes before the end.
 #[test]
 fn a_scan_snaps_as_it_begins() {
     let mut table = Table::fresh(3);
-    label(&mut table, &[1]);
+    label(&mut table, &[3, 1]);
     accepted(&mut table, 2, 3, 0);
-    assert!(table.stations[2].phase == Phase::End(Operation::Scan) && table.stations[2].result[..3] == [2, 3, 1]);
+    assert!(table.stations[2].phase == Phase::End(Operation::Scan) && table.stations[2].result[..3] == [3, 1, 0]);
     let kept = table.stations[2].clone();
+    // Its first job, which comes too late for the scan.
     label(&mut table, &[2]);
     for (code, refused) in [(1, 3), (2, 3), (3, 4), (4, 5)] {
         assert_eq!(step(&mut table, code, 3, u64::from(code == 1), &mut [0; 87]), (refused, 0));
         assert!(table.stations[2] == kept);
     }
     let mut panel = [OLD; 3];
-    assert_eq!(step_panel(&mut table, 5, 3, 0, &mut panel), (0, 3));
-    assert_eq!(panel.map(|record| (record.station, record.job)), [(2, 0), (3, 0), (1, 7)]);
+    assert_eq!(step_panel(&mut table, 5, 3, 0, &mut panel), (0, 2));
+    assert_eq!(panel, [Record { place: 1, station: 3, job: 7 }, Record { place: 2, station: 1, job: 7 }, OLD]);
+    // What the next scan stores leaves nothing of the longer one before it.
+    (table.stations[0].job, table.stations[2].job) = (0, 0);
+    accepted(&mut table, 2, 3, 0);
+    assert!(table.stations[2].result == row_of(&[2]) && table.stations[2].result_jobs == row_of(&[7]));
 }
 
 /// Document 01's table as it was before Card 1, where the snap of a scan was a step of its own: a station that has begun one is kept aside, and begins
@@ -286,22 +345,32 @@ fn old_schedules_list_as_before() {
 
 #[test]
 fn a_short_report_is_refused_last() {
-    for n in [2, 32] {
-        let mut table = Table::fresh(n);
-        accepted(&mut table, 2, 1, 0);
-        let mut area = vec![7; n * REPORT_LINE - 1];
-        assert_eq!(step(&mut table, 5, 1, 0, &mut area), (7, 0));
-        assert_eq!(step(&mut table, 5, 2, 0, &mut area), (6, 0));
-        assert!(area.iter().all(|&b| b == 7));
-        area.push(7);
-        assert_eq!(step(&mut table, 5, 1, 0, &mut area), (0, n * REPORT_LINE));
+    for (n, shown) in SHOWN {
+        let mut table = scanning(n, shown);
+        let scans = n as u64;
+        let kept = table.clone();
+        for bytes in [0, 1, REPORT_LINE - 1, (shown - 1) * REPORT_LINE, shown * REPORT_LINE - 1] {
+            let mut area = vec![b'?'; bytes];
+            assert_eq!(step(&mut table, 5, scans, 0, &mut area), (7, 0));
+            assert_eq!(step(&mut table, 5, 1, 0, &mut area), (6, 0));
+            assert!(table == kept && area.iter().all(|&b| b == b'?'));
+        }
+        assert_eq!(step(&mut table, 5, scans, 0, &mut vec![b'?'; shown * REPORT_LINE]), (0, shown * REPORT_LINE));
     }
+}
+
+/// A table of three stations whose scan results show 1 and 2, none, and 3, 1, 2.
+fn with_results() -> Table {
+    let mut table = Table::fresh(3);
+    (table.stations[0].result, table.stations[0].result_jobs) = (row_of(&[1, 2]), row_of(&[7, 8]));
+    (table.stations[2].result, table.stations[2].result_jobs) = (row_of(&[3, 1, 2]), row_of(&[u32::MAX, 1, 9]));
+    table
 }
 
 #[test]
 fn ill_formed_tables() {
     type Damage = fn(&mut Table);
-    let damages: [Damage; 14] = [
+    let damages: [Damage; 25] = [
         |t| t.n = 0,
         |t| t.n = 1,
         |t| t.n = 33,
@@ -309,31 +378,52 @@ fn ill_formed_tables() {
         |t| t.stations[1].pending_label[1] = 6,
         |t| t.stations[1].label[2] = 2,
         |t| t.stations[0].pending_label[30] = 2,
-        |t| t.stations[0].result[0] = 2,
-        |t| t.stations[0].result[2] = 4,
-        |t| t.stations[0].result[3] = 4,
-        |t| t.stations[0].result_jobs[31] = 1,
+        // A station after a 0.
+        |t| (t.stations[0].result[0], t.stations[0].result_jobs[0]) = (0, 0),
+        |t| (t.stations[1].result[2], t.stations[1].result_jobs[2]) = (3, 9),
+        // A station twice.
+        |t| t.stations[0].result[1] = 1,
+        |t| t.stations[2].result[2] = 3,
+        // No station of the table.
+        |t| t.stations[0].result[1] = 4,
+        |t| (t.stations[0].result[2], t.stations[0].result_jobs[2]) = (255, 9),
+        // A job without a station.
+        |t| t.stations[0].result_jobs[2] = 1,
+        |t| t.stations[1].result_jobs[0] = 1,
+        |t| t.stations[1].result_jobs[31] = 1,
+        |t| t.stations[0].result[1] = 0,
+        // A station without a job.
+        |t| t.stations[0].result_jobs[1] = 0,
+        |t| t.stations[2].result_jobs[0] = 0,
+        |t| t.stations[0].result[2] = 3,
+        // More stations than there are.
+        |t| (t.stations[2].result[3], t.stations[2].result_jobs[3]) = (4, 9),
+        // Past the stations.
         |t| t.stations[3].phase = Phase::Update,
-        |t| t.stations[31] = Station::fresh(32),
+        |t| t.stations[3].result[0] = 1,
+        |t| (t.stations[31].result[0], t.stations[31].result_jobs[0]) = (1, 1),
         |t| (0..3).for_each(|i| t.stations[i].label = row(&[2, 3 + i as u8])),
     ];
-    for damage in damages {
-        let mut table = Table::fresh(3);
+    for (at, damage) in damages.into_iter().enumerate() {
+        let mut table = with_results();
+        assert!(table.is_well_formed());
         damage(&mut table);
         let kept = table.clone();
         for (code, station, job) in [(1, 1, 7), (2, 3, 0), (0, 0, 0), (9, 99, 9)] {
-            assert_eq!(step(&mut table, code, station, job, &mut [0; 928]), (13, 0));
+            assert_eq!(step(&mut table, code, station, job, &mut [0; 928]), (13, 0), "damage {at}");
         }
         assert!(table == kept);
     }
-    // No job and no phase of the stations is judged, and pending labels may close a ring.
-    let mut table = Table::fresh(3);
+    // No job and no phase of the stations is judged, a result may have other jobs than the stations now, and pending labels may close a ring.
+    let mut table = with_results();
     for (i, station) in table.stations[..3].iter_mut().enumerate() {
         station.pending_label = row(&[2, 3 + i as u8]);
-        (station.job, station.pending_job, station.result_jobs[i]) = (u32::MAX, 5, 9);
+        (station.job, station.pending_job) = (if i == 1 { u32::MAX } else { 0 }, 5);
         station.phase = Phase::End(Operation::Scan);
     }
-    assert_eq!(step(&mut table, 5, 3, 0, &mut [0; 928]), (0, 87));
+    for (station, shown) in [(1, 2), (2, 0), (3, 3)] {
+        assert_eq!(step(&mut table, 5, station, 0, &mut [0; 928]), (0, shown * REPORT_LINE));
+    }
 }
 
 #[test]

@@ -1,6 +1,6 @@
 /* Document 01's listing as direct calls with a report buffer, as direct calls with a panel, and as a schedule file. Of a refused call with a report
    buffer this prints the line that the schedule program would print; a direct call's lines bear the number 0. The second call of station 2 is refused by
-   4 in all three: a scan has no snap of its own. From the root:
+   4 in all three: a scan has no snap of its own. Its scan shows station 1 alone, which has a job. From the root:
    rt staticlib exports && cc -Wall -Wextra -O2 bindings/c/example.c target/staticlib/libexports.a -o /tmp/example && /tmp/example */
 #include <inttypes.h>
 #include <stdio.h>

@@ -28,8 +28,8 @@ enum {
     TICKETS_NO_SNAP_DUE = 4,
     TICKETS_NO_UPDATE_DUE = 5,
     TICKETS_NO_END_DUE = 6,
-    TICKETS_SHORT_REPORT = 7,    /* the buffer is shorter than the report: count * 29 bytes at the end of a scan, or that of a whole file; or the end of a
-                                    scan has fewer records than count */
+    TICKETS_SHORT_REPORT = 7,    /* the buffer is shorter than the report: 29 bytes for each station that an ended scan shows, or that of a whole file; or
+                                    the end of a scan has fewer records than it shows stations */
     TICKETS_INCOMPLETE_LINE = 8, /* not 18 bytes, or the last one not a line's end; it ends a file */
     TICKETS_BAD_COLUMN = 9,      /* a column that holds no number as it must; it ends a file */
     TICKETS_BAD_CODE = 10,
@@ -42,7 +42,7 @@ enum {
 enum { TICKETS_CURRENT = 0, TICKETS_PENDING = 1 };
 /* The plane of control: 0 idle, 1 due to snap (for a label), 2 due to update, 3 and 4 due to end a label and a scan. */
 enum { TICKETS_PHASES = 0 };
-/* The rows of a scan result: the stations, from 1, oldest first, and their jobs. */
+/* The rows of a scan result: the stations that it shows, from 1, oldest first, and their jobs, which are not 0; past these, zeros. */
 enum { TICKETS_STATIONS = 0, TICKETS_JOBS = 1 };
 
 /* A table: place i of a plane and of the results belongs to station i + 1. There is no padding, so every byte counts; nothing of it needs to be read or
@@ -95,7 +95,7 @@ struct tickets_answer tickets_step_panel(uint64_t count, uint8_t (*labels)[TICKE
 #define TICKETS_REPORT_ROOM(schedule_len) (((schedule_len) / TICKETS_LINE + 1) * TICKETS_MAX_STATIONS * TICKETS_REPORT_LINE)
 struct tickets_answer tickets_report(const uint8_t *schedule, size_t schedule_len, uint8_t *report, size_t report_len);
 
-/* Makes the board a fresh table of `count` stations; TICKETS_BAD_COUNT leaves it as it is. */
+/* Makes the board a fresh table of `count` stations, which have no job and whose scan results are empty; TICKETS_BAD_COUNT leaves it as it is. */
 static inline uint64_t tickets_board_fresh(struct tickets_board *board, uint64_t count) {
     uint64_t refusal = tickets_fresh(count, board->labels, board->jobs, board->control, board->results);
     if (refusal == 0)
@@ -103,15 +103,16 @@ static inline uint64_t tickets_board_fresh(struct tickets_board *board, uint64_t
     return refusal;
 }
 
-/* A step of a station. A refused call changes neither the board nor the report buffer. The end of a scan writes count report lines of 29 bytes to the
-   front of the buffer, oldest station first; what stands past them stays, and no other step writes any. */
+/* A step of a station. A refused call changes neither the board nor the report buffer. A scan shows the stations whose job at its begin is not 0. Its end
+   writes a report line of 29 bytes for each of them to the front of the buffer, oldest first; where there are none, it writes nothing and needs no room.
+   What stands past the lines stays, and no other step writes any. */
 static inline struct tickets_answer tickets_board_step(struct tickets_board *board, uint64_t code, uint64_t station, uint64_t job, uint8_t *report,
     size_t report_len) {
     return tickets_step(board->count, board->labels, board->jobs, board->control, board->results, code, station, job, report, report_len);
 }
 
-/* The same step with a panel of so many records. A refused call changes neither the board nor the panel. The end of a scan fills the first count records,
-   oldest station first, and answers their count; the others stay, and no other step fills any. */
+/* The same step with a panel of so many records. A refused call changes neither the board nor the panel. The end of a scan fills a record for each station
+   that it shows, oldest first, from the first record on, and answers their count; the others stay, and no other step fills any. */
 static inline struct tickets_answer tickets_board_step_panel(struct tickets_board *board, uint64_t code, uint64_t station, uint64_t job,
     struct tickets_record *panel, size_t panel_len) {
     return tickets_step_panel(board->count, board->labels, board->jobs, board->control, board->results, code, station, job, panel, panel_len);

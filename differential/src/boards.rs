@@ -40,7 +40,7 @@ pub fn board(table: &Table) -> Board {
 
 /// The plain table, if every phase has a meaning and every station in a result is a byte.
 pub fn table(board: &Board) -> Option<Table> {
-    let mut table = Table { n: usize::try_from(board.count).ok()?, stations: from_fn(|_| Station::fresh(MAX_STATIONS)) };
+    let mut table = Table { n: usize::try_from(board.count).ok()?, stations: from_fn(|_| Station::fresh()) };
     for (i, station) in table.stations.iter_mut().enumerate() {
         let mut result = [0; MAX_STATIONS];
         for (to, &number) in result.iter_mut().zip(&board.results[i][STATIONS]) {

@@ -60,21 +60,33 @@ fn label(random: &mut Random, n: usize, tree: u64, stray_in: u64) -> [u8; MAX_DI
     label
 }
 
+/// How many stations the scan result of a station, from 0, shows: those before the first 0.
+fn shown(board: &Board, i: usize) -> usize {
+    board.results[i][STATIONS].iter().take_while(|&&station| station != 0).count()
+}
+
+/// A job of any length, not 0.
+fn job(random: &mut Random) -> u32 {
+    (random.word() as u32 >> random.below(32)).max(1)
+}
+
 /// A well-formed board that no steps need to reach.
 fn made_up(random: &mut Random, n: usize) -> Board {
     let mut board = boards::board(&Table::fresh(n));
     let tree = random.word();
     let stray_in = pick(random, &[2, 4, 16, 64]);
+    let no_job_in = pick(random, &[1, 2, 4, 1 << 40]);
     for i in 0..n {
         board.labels[CURRENT][i] = label(random, n, tree, stray_in);
         // A pending label may be any row of digits, and close a ring.
         board.labels[PENDING][i][..n - 1].iter_mut().for_each(|d| *d = 1 + random.below(5) as u8);
-        board.jobs[CURRENT][i] = random.word() as u32;
+        board.jobs[CURRENT][i] = if random.one_in(no_job_in) { 0 } else { random.word() as u32 };
         board.jobs[PENDING][i] = random.word() as u32 >> random.below(32);
-        for place in 0..n {
-            let other = place + random.below((n - place) as u64) as usize;
-            board.results[i][STATIONS].swap(place, other);
-            board.results[i][JOBS][place] = random.word() as u32 >> random.below(32);
+        let mut stations: Vec<u32> = (1..=n as u32).collect();
+        let some = below(random, n + 1);
+        for place in 0..pick(random, &[0, some, some, n]) {
+            board.results[i][STATIONS][place] = stations.swap_remove(below(random, stations.len()));
+            board.results[i][JOBS][place] = job(random);
         }
         board.control[PHASES][i] = random.below(u64::from(LAST_PHASE) + 1) as u8;
     }
@@ -85,18 +97,58 @@ fn below(random: &mut Random, bound: usize) -> usize {
     random.below(bound as u64) as usize
 }
 
+/// Changes one thing in a scan result, mostly one that shows stations.
+fn damage_result(random: &mut Random, board: &mut Board) {
+    let n = board.count as usize;
+    let not_empty: Vec<usize> = (0..n).filter(|&i| shown(board, i) > 0).collect();
+    let i = if not_empty.is_empty() || random.one_in(4) { below(random, n) } else { pick(random, &not_empty) };
+    let shown = shown(board, i);
+    let job = job(random);
+    // A place with a station, the first without one, and any.
+    let place = below(random, shown.max(1));
+    let next = shown.min(MAX_STATIONS - 1);
+    let any = below(random, MAX_STATIONS);
+    let station = 1 + below(random, n) as u32;
+    let none = pick(random, &[n as u32 + 1, 33, 64, 65, 255, 256, u32::MAX]);
+    let [stations, jobs] = &mut board.results[i];
+    match random.below(14) {
+        // A hole, unless the last station goes; a station after one, mostly.
+        0 => (stations[place], jobs[place]) = (0, 0),
+        1 => (stations[any], jobs[any]) = (station, job),
+        // A station twice.
+        2 => stations[place] = stations[below(random, shown.max(1))],
+        3 => (stations[next], jobs[next]) = (stations[place], job),
+        // A job without a station.
+        4 => stations[place] = 0,
+        5 => jobs[next] = job,
+        6 => jobs[any] = job,
+        // A station without a job.
+        7 => jobs[place] = 0,
+        8 => stations[next] = station,
+        // No station of the board.
+        9 => stations[place] = none,
+        10 => (stations[next], jobs[next]) = (none, job),
+        // A station with a bit more: its low bits are still the station.
+        11 => stations[any] ^= 1 << pick(random, &[6, 7, 8, 9, 15, 16, 17, 24, 30, 31]),
+        // One station more: well-formed, if it is a new one and not past n.
+        12 => (stations[next], jobs[next]) = (station, job),
+        // Shorter: well-formed.
+        _ => {
+            stations[place..].fill(0);
+            jobs[place..].fill(0);
+        }
+    }
+}
+
 /// Changes one thing, mostly into something that is not well formed. A change may also leave the board as it was.
 fn damage(random: &mut Random, board: &mut Board) {
     let n = board.count as usize;
     let i = below(random, n);
     let past = if n < MAX_STATIONS { n + below(random, MAX_STATIONS - n) } else { i };
-    let place = below(random, n);
-    let place_past = if n < MAX_STATIONS { n + below(random, MAX_STATIONS - n) } else { place };
     let position = below(random, MAX_DIGITS);
     let digit = pick(random, &[0, 1, 2, 3, 4, 5, 6, 7, 128, 255]);
-    let number = (random.word() as u32 >> random.below(32)).max(1);
-    let station = n as u32;
-    match random.below(21) {
+    let number = job(random);
+    match random.below(24) {
         0 => board.labels[CURRENT][i][position] = digit,
         1 => board.labels[PENDING][i][position] = digit,
         2 => board.labels[CURRENT][past][position] = digit,
@@ -105,19 +157,16 @@ fn damage(random: &mut Random, board: &mut Board) {
         5 => board.jobs[PENDING][past] = number,
         6 => board.control[PHASES][past] = random.below(8) as u8,
         7 => board.control[PHASES][i] = pick(random, &[5, 5, 6, 7, 8, 127, 128, 255, 0, 2, 4]),
-        8 => board.results[i][STATIONS][place] = board.results[i][STATIONS][below(random, n)],
-        9 => board.results[i][STATIONS][place] = pick(random, &[0, station, station + 1, 33, 64, 65, 255, 256, u32::MAX]),
-        10 => board.results[i][STATIONS][place_past] = pick(random, &[0, 1, station, station + 1, 255, 256, 1 << 31]),
-        11 => board.results[i][JOBS][place_past] = number,
-        12 => board.results[past][STATIONS][below(random, MAX_STATIONS)] = random.below(34) as u32,
-        13 => board.results[past][JOBS][below(random, MAX_STATIONS)] = number,
+        8 => board.results[past][STATIONS][below(random, MAX_STATIONS)] = random.below(34) as u32,
+        9 => board.results[past][JOBS][below(random, MAX_STATIONS)] = number,
+        10 => (board.results[past][STATIONS][0], board.results[past][JOBS][0]) = (1 + random.below(n as u64) as u32, number),
         // Another count: fields that fitted n do not fit it.
-        14 => {
+        11 => {
             let n = n as u64;
             board.count = pick(random, &[0, 1, n - 1, n + 1, 33, 34, n + 32, n + 256, n + (1 << 32), n | 1 << 63, u64::MAX, 1 << 32]);
         }
         // A ring: three stations with the same digits up to a position and 3, 4, 5 there; sometimes only two of the three.
-        15 | 16 => {
+        12 | 13 => {
             let at = below(random, n - 1);
             let mut three = [i, below(random, n), below(random, n)];
             let labels = &mut board.labels[CURRENT];
@@ -132,19 +181,14 @@ fn damage(random: &mut Random, board: &mut Board) {
             }
         }
         // A ring among pending labels is none.
-        17 => {
+        14 => {
             for (k, digit) in [3, 4, 5].into_iter().enumerate() {
                 board.labels[PENDING][(i + k) % n][below(random, n - 1)] = digit;
             }
         }
-        18 => board.labels[CURRENT][i] = board.labels[PENDING][below(random, n)],
-        // A station of a result with a bit more: its low bits are still the station.
-        19 => {
-            let (row, at) = (below(random, MAX_STATIONS), below(random, MAX_STATIONS));
-            board.results[row][STATIONS][at] ^= 1 << pick(random, &[6, 7, 8, 9, 15, 16, 17, 24, 30, 31]);
-        }
+        15 => board.labels[CURRENT][i] = board.labels[PENDING][below(random, n)],
         // Any one number of the small arrays.
-        _ => {
+        16 => {
             let (row, at) = (below(random, MAX_STATIONS), below(random, MAX_STATIONS));
             match random.below(4) {
                 0 => board.labels[CURRENT][row][position] = random.word() as u8,
@@ -153,6 +197,7 @@ fn damage(random: &mut Random, board: &mut Board) {
                 _ => board.control[PHASES][row] = random.word() as u8,
             }
         }
+        _ => damage_result(random, board),
     }
 }
 
@@ -198,21 +243,22 @@ impl Session {
     pub fn call(&mut self) -> Call {
         let Session { random, stations, board, n, .. } = self;
         let step = if random.one_in(self.any_in) { any_step(random, *n) } else { stations.step(random, &board.control[PHASES]) };
-        let n = *n as usize;
-        let exact = n * REPORT_LINE;
+        // What the station has to show, whichever step this is.
+        let records = if (1..=*n).contains(&step.station) { shown(board, step.station as usize - 1) } else { 0 };
+        let bytes = records * REPORT_LINE;
         let lent = match random.below(16) {
-            0 => Lent::Report(exact - 1),
-            1 => Lent::Report(exact + 1),
-            2 => Lent::Report(below(random, exact)),
-            3 => Lent::Report(exact + below(random, 64)),
-            4 => Lent::Report(pick(random, &[0, 1, 28, 29, 58, exact - 29, 928, 929, 1000])),
-            5..8 => Lent::Report(exact),
-            8 => Lent::Panel(n - 1),
-            9 => Lent::Panel(n + 1),
-            10 => Lent::Panel(below(random, n)),
-            11 => Lent::Panel(n + below(random, 40)),
+            0 => Lent::Report(bytes.saturating_sub(1)),
+            1 => Lent::Report(bytes + 1),
+            2 => Lent::Report(below(random, bytes + 1)),
+            3 => Lent::Report(bytes + below(random, 64)),
+            4 => Lent::Report(pick(random, &[0, 1, 28, 29, 58, bytes.saturating_sub(29), 928, 929, 1000])),
+            5..8 => Lent::Report(bytes),
+            8 => Lent::Panel(records.saturating_sub(1)),
+            9 => Lent::Panel(records + 1),
+            10 => Lent::Panel(below(random, records + 1)),
+            11 => Lent::Panel(records + below(random, 40)),
             12 => Lent::Panel(pick(random, &[0, 0, 1, 31, 32, 32, 33, 40])),
-            _ => Lent::Panel(n),
+            _ => Lent::Panel(records),
         };
         Call { step, lent, old: random.word() }
     }

@@ -1,6 +1,6 @@
 //! Document 01's listing as direct calls with a report buffer, as direct calls with a panel, and as a schedule file. Of a refused call with a report
 //! buffer this prints the line that the schedule program would print; a direct call's lines bear the number 0. The second call of station 2 is refused by
-//! 4 in all three: a scan has no snap of its own.
+//! 4 in all three: a scan has no snap of its own. Its scan shows station 1 alone, which has a job.
 
 use std::io::{self, Write};
 use tickets::{code, Board, Record, MAX_STATIONS, REPORT_LINE};

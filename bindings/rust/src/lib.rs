@@ -33,8 +33,8 @@ pub mod refusal {
     pub const NO_SNAP_DUE: u64 = 4;
     pub const NO_UPDATE_DUE: u64 = 5;
     pub const NO_END_DUE: u64 = 6;
-    /// The buffer is shorter than the report: of the end of a scan, 29 bytes for each station, or of a whole file. Or the end of a scan has fewer records
-    /// than stations.
+    /// The buffer is shorter than the report: of the end of a scan, 29 bytes for each station that it shows, or of a whole file. Or the end of a scan has
+    /// fewer records than it shows stations.
     pub const SHORT_REPORT: u64 = 7;
     /// A line that is not 18 bytes, or its last one not a line's end. It ends a file.
     pub const INCOMPLETE: u64 = 8;
@@ -54,7 +54,7 @@ pub const CURRENT: usize = 0;
 pub const PENDING: usize = 1;
 /// The plane of `Board::control`: 0 idle, 1 due to snap (for a label), 2 due to update, 3 and 4 due to end a label and a scan.
 pub const PHASES: usize = 0;
-/// The rows of a scan result in `Board::results`: the stations, from 1, oldest first, and their jobs.
+/// The rows of a scan result in `Board::results`: the stations that it shows, from 1, oldest first, and their jobs, which are not 0; past these, zeros.
 pub const STATIONS: usize = 0;
 pub const JOBS: usize = 1;
 
@@ -169,7 +169,7 @@ pub fn report(schedule: &[u8]) -> (Vec<u8>, Refusal) {
 }
 
 impl Board {
-    /// The fresh table of n stations, 2 to 32.
+    /// The fresh table of n stations, 2 to 32. None has a job, and their scan results are empty.
     pub fn fresh(n: u64) -> Result<Board, Refusal> {
         let mut board = Board {
             count: 0,
@@ -196,14 +196,15 @@ impl Board {
 
     /// A step of a station: how many bytes of report were written to the front of the buffer, or the refusal. A refused call changes nothing.
     ///
-    /// The end of a scan writes a line of 29 bytes for each station, oldest first; no other step writes any.
+    /// A scan shows the stations whose job at its begin is not 0. Its end writes a line of 29 bytes for each of them, oldest first; where there are none,
+    /// it needs no room. No other step writes any.
     pub fn step(&mut self, code: u64, station: u64, job: u64, report: &mut [u8]) -> Result<usize, Refusal> {
         self.answer(code, station, job, report).written()
     }
 
     /// The same step with a panel: how many records were written to its front, or the refusal. A refused call changes nothing.
     ///
-    /// The end of a scan writes a record for each station, oldest first, and leaves those past them; no other step writes any.
+    /// The end of a scan writes a record for each station that it shows, oldest first, and leaves those past them; no other step writes any.
     pub fn step_panel(&mut self, code: u64, station: u64, job: u64, panel: &mut [Record]) -> Result<usize, Refusal> {
         self.answer_panel(code, station, job, panel).written()
     }

@@ -1,4 +1,4 @@
-//! The compiled library against the plain Rust table of `bench`, which was written from documents 01 and 02 (Card 1) alone.
+//! The compiled library against the plain Rust table of `bench`, which was written from documents 01 and 02 (Cards 1 and 2) alone.
 
 use std::array::from_fn;
 use ticket_bench::generate::Random;
@@ -11,7 +11,7 @@ const NAMED: [Phase; 5] = [Phase::Idle, Phase::Snap, Phase::Update, Phase::End(O
 /// The plain table with the contents of a board; none if a phase is no phase's number, or a station in a result no number of a byte. Such boards are
 /// refused by 13.
 fn table(board: &Board) -> Option<Table> {
-    let mut table = Table { n: board.count as usize, stations: from_fn(|_| Station::fresh(MAX_STATIONS)) };
+    let mut table = Table { n: board.count as usize, stations: from_fn(|_| Station::fresh()) };
     for (i, station) in table.stations.iter_mut().enumerate() {
         station.label = board.labels[CURRENT][i];
         station.job = board.jobs[CURRENT][i];
@@ -127,6 +127,11 @@ impl Guarded {
     }
 }
 
+/// How many stations the scan result of a station, from 0, shows: those before the first 0.
+fn shown(board: &Board, i: usize) -> usize {
+    board.results[i][STATIONS].iter().take_while(|&&station| station != 0).count()
+}
+
 /// A call that fits the phase of its station, mostly; now and then one with another code, station or job, also past 32 bits.
 fn random_call(random: &mut Random, board: &Board) -> Call {
     let n = board.count.clamp(1, MAX_STATIONS as u64);
@@ -144,14 +149,14 @@ fn random_call(random: &mut Random, board: &Board) -> Call {
         _ if code == 1 => 1 + random.below(1000),
         _ => 0,
     };
-    let n = n as usize;
-    let lines = n * REPORT_LINE;
+    let records = shown(board, i as usize);
+    let bytes = records * REPORT_LINE;
     let lent = match random.below(16) {
-        0 => Lent::Report([0, 1, lines - 1, lines, lines + 1][random.below(5) as usize]),
-        1..8 => Lent::Report(lines),
-        8 | 9 => Lent::Panel([0, 1, n - 1, n + 1, 33, 40][random.below(6) as usize]),
+        0 => Lent::Report([0, 1, bytes.saturating_sub(1), bytes + 1, MAX_STATIONS * REPORT_LINE][random.below(5) as usize]),
+        1..8 => Lent::Report(bytes),
+        8 | 9 => Lent::Panel([0, 1, records.saturating_sub(1), records + 1, 33, 40][random.below(6) as usize]),
         10 | 11 => Lent::Panel(MAX_STATIONS),
-        _ => Lent::Panel(n),
+        _ => Lent::Panel(records),
     };
     Call { code, station, job, lent }
 }
@@ -174,9 +179,9 @@ fn listing() {
     }
     assert_eq!(board.step(code::SCAN, 2, 0, &mut report), Ok(0));
     assert_eq!(board.step(code::SNAP, 2, 0, &mut report), Err(refusal::NO_SNAP_DUE));
-    assert_eq!(board.step(code::END, 2, 0, &mut report), Ok(2 * REPORT_LINE));
-    assert_eq!(&report[..2 * REPORT_LINE], b"       0  0  1  2          0\n       0  0  2  1         70\n");
-    assert!(report[2 * REPORT_LINE..].iter().all(|&byte| byte == b'?'));
+    assert_eq!(board.step(code::END, 2, 0, &mut report), Ok(REPORT_LINE));
+    assert_eq!(&report[..REPORT_LINE], b"       0  0  1  1         70\n");
+    assert!(report[REPORT_LINE..].iter().all(|&byte| byte == b'?'));
     assert_eq!(board.step(code::SNAP, 3, 0, &mut report), Err(refusal::STATION));
 }
 
@@ -191,17 +196,26 @@ fn listing_on_a_panel() {
     assert_eq!(board.step_panel(code::SCAN, 2, 0, &mut panel), Ok(0));
     assert_eq!(board.step_panel(code::SNAP, 2, 0, &mut panel), Err(refusal::NO_SNAP_DUE));
     assert_eq!(panel, untouched);
-    assert_eq!(board.step_panel(code::END, 2, 0, &mut panel), Ok(2));
-    assert_eq!(panel[..2], [Record { place: 1, station: 2, job: 0 }, Record { place: 2, station: 1, job: 70 }]);
-    assert_eq!(panel[2..], untouched[2..]);
-    let shown = panel;
+    assert_eq!(board.step_panel(code::END, 2, 0, &mut panel), Ok(1));
+    assert_eq!(panel[0], Record { place: 1, station: 1, job: 70 });
+    assert_eq!(panel[1..], untouched[1..]);
+    let filled = panel;
     assert_eq!(board.step_panel(code::SNAP, 3, 0, &mut panel), Err(refusal::STATION));
-    assert_eq!(panel, shown);
+    assert_eq!(panel, filled);
 }
 
-/// A board of n stations, with the phase of station 1 after each number of these calls: it takes a ticket, and then scans.
-fn phases(n: u64) -> Vec<Board> {
+/// A station takes a ticket for job 70 more than its number.
+fn take(board: &mut Board, station: u64) {
+    for (code, job) in [(code::BEGIN_LABEL, 70 + station), (code::SNAP, 0), (code::UPDATE, 0), (code::END, 0)] {
+        assert_eq!(board.step(code, station, job, &mut []), Ok(0));
+    }
+}
+
+/// A board of n stations, of which those from 2 on, so many in all, have taken tickets; with the phase of station 1 after each number of these calls: it
+/// takes a ticket, and then scans.
+fn phases(n: u64, others: u64) -> Vec<Board> {
     let mut board = Board::fresh(n).unwrap();
+    (2..2 + others).for_each(|station| take(&mut board, station));
     let mut boards = vec![board.clone()];
     for (code, job) in [(code::BEGIN_LABEL, 70), (code::SNAP, 0), (code::UPDATE, 0), (code::END, 0), (code::SCAN, 0), (code::END, 0)] {
         board.step(code, 1, job, &mut [0; MAX_STATIONS * REPORT_LINE]).unwrap();
@@ -212,29 +226,30 @@ fn phases(n: u64) -> Vec<Board> {
     boards
 }
 
-/// Each step of a station in each of its phases, with panels around the number of stations: what is answered, and all records.
+/// Each step of a station in each of its phases, with panels around the number of stations shown: what is answered, and all records.
 #[test]
 fn panels_of_all_lengths() {
-    for n in 2..=MAX_STATIONS {
-        for before in phases(n as u64) {
+    for (n, shown) in (2..=MAX_STATIONS).flat_map(|n| [(n, 1), (n, n / 2 + 1), (n, n)]) {
+        for before in phases(n as u64, shown as u64 - 1) {
             let due = [(0, code::BEGIN_LABEL), (0, code::SCAN), (1, code::SNAP), (2, code::UPDATE), (3, code::END), (4, code::END)];
             for (code, refused) in [(1, 3), (2, 3), (3, 4), (4, 5), (5, 6)] {
-                for len in [0, 1, n - 1, n, n + 1, 32, 33, 40] {
+                for len in [0, 1, shown - 1, shown, shown + 1, 32, 33, 40] {
                     let mut guarded = Guarded::new(before.clone());
                     let call = Call { code, station: 1, job: u64::from(code == 1), lent: Lent::Panel(len) };
                     let phase = before.control[PHASES][0];
                     let ends_scan = (phase, code) == (4, code::END);
                     let expected = match due.contains(&(phase, code)) {
                         false => refused,
-                        true if ends_scan && len < n => refusal::SHORT_REPORT,
+                        true if ends_scan && len < shown => refusal::SHORT_REPORT,
                         true => 0,
                     };
                     assert_eq!(guarded.call(call), expected, "{call:?}");
                     assert_eq!(guarded.board == before, expected != 0, "{call:?}");
                     // The scan that begins after station 1's ticket has it last.
-                    let filled = if ends_scan && expected == 0 { n } else { 0 };
-                    let order = (2..=n as u32).chain([1]);
-                    let records = (1..).zip(order).map(|(place, station)| Record { place, station, job: if station == 1 { 70 } else { 0 } });
+                    let filled = if ends_scan && expected == 0 { shown } else { 0 };
+                    let order = (2..=shown as u32).chain([1]);
+                    let records =
+                        (1..).zip(order).map(|(place, station)| Record { place, station, job: if station == 1 { 70 } else { 70 + station } });
                     let all: Vec<Record> = records.take(filled).chain((GUARD + filled..GUARD + len).map(old)).collect();
                     assert_eq!(guarded.panel[GUARD..GUARD + len], all, "{call:?}");
                 }
@@ -243,11 +258,91 @@ fn panels_of_all_lengths() {
     }
 }
 
+/// A scan shows the stations with a job, and needs room for them and no more: none if there are none.
+#[test]
+fn scans_of_some_stations() {
+    for n in 2..=MAX_STATIONS as u64 {
+        for with_jobs in [0, 1, n / 2, n - 1, n] {
+            let mut begun = Board::fresh(n).unwrap();
+            // The highest first: they stand in this order.
+            let order: Vec<u64> = (1..=with_jobs).rev().collect();
+            order.iter().for_each(|&station| take(&mut begun, station));
+            begun.step(code::SCAN, n, 0, &mut []).unwrap();
+            let records: Vec<Record> =
+                (1..).zip(&order).map(|(place, &station)| Record { place, station: station as u32, job: 70 + station as u32 }).collect();
+            let lines: Vec<String> = records.iter().map(|r| format!("{:8}{:3}{:3}{:3}{:11}\n", 0, 0, r.place, r.station, r.job)).collect();
+            let lines = lines.concat().into_bytes();
+            assert_eq!(shown(&begun, n as usize - 1), records.len());
+            for less in 0..2.min(records.len() + 1) {
+                let expected = if less == 0 { 0 } else { refusal::SHORT_REPORT };
+                let mut guarded = Guarded::new(begun.clone());
+                let lent = Lent::Panel(records.len() - less);
+                assert_eq!(guarded.call(Call { code: code::END, station: n, job: 0, lent }), expected);
+                assert_eq!(guarded.panel[GUARD..].starts_with(&records), less == 0);
+                let mut guarded = Guarded::new(begun.clone());
+                let lent = Lent::Report(lines.len() - less);
+                assert_eq!(guarded.call(Call { code: code::END, station: n, job: 0, lent }), expected);
+                assert_eq!(guarded.buffer[GUARD..].starts_with(&lines), less == 0);
+            }
+        }
+    }
+}
+
+/// Scan results of a board of four stations, as pairs of station and job, and whether they are well-formed.
+#[test]
+fn scan_results() {
+    let results: [(&[(u32, u32)], bool); 20] = [
+        (&[], true),
+        (&[(1, 7)], true),
+        (&[(4, u32::MAX)], true),
+        (&[(2, 7), (4, 7), (1, 1)], true),
+        (&[(4, 1), (3, 2), (2, 3), (1, 4)], true),
+        // A station after a 0.
+        (&[(0, 0), (1, 7)], false),
+        (&[(2, 7), (0, 0), (1, 7)], false),
+        (&[(0, 0), (0, 0), (0, 0), (1, 7)], false),
+        // A station twice.
+        (&[(2, 7), (2, 7)], false),
+        (&[(2, 7), (1, 7), (3, 8), (2, 9)], false),
+        // A job without a station.
+        (&[(0, 7)], false),
+        (&[(3, 7), (0, 7)], false),
+        (&[(0, 7), (1, 7)], false),
+        // A station without a job.
+        (&[(3, 0)], false),
+        (&[(3, 7), (1, 0)], false),
+        (&[(1, 0), (2, 7)], false),
+        // No station of the board.
+        (&[(5, 7)], false),
+        (&[(1 << 8 | 1, 7)], false),
+        // Past four places.
+        (&[(4, 1), (3, 2), (2, 3), (1, 4), (5, 5)], false),
+        (&[(4, 1), (3, 2), (2, 3), (1, 4), (0, 5)], false),
+    ];
+    for (result, well_formed) in results {
+        for i in 0..MAX_STATIONS {
+            let mut guarded = Guarded::new(Board::fresh(4).unwrap());
+            for (place, &(station, job)) in result.iter().enumerate() {
+                (guarded.board.results[i][STATIONS][place], guarded.board.results[i][JOBS][place]) = (station, job);
+            }
+            // Past the stations of the board only the empty one is.
+            let expected = if well_formed && (i < 4 || result.is_empty()) { 0 } else { refusal::BOARD };
+            assert_eq!(
+                guarded.call(Call { code: code::SCAN, station: 1, job: 0, lent: Lent::Panel(0) }),
+                expected,
+                "{result:?} of station {}",
+                i + 1
+            );
+        }
+    }
+}
+
 /// Each refusal of a call with a panel, by a panel that is too short for the scan and by one that is not; the first that applies is given.
 #[test]
 fn every_refusal_with_a_panel() {
     const N: u64 = 3;
-    let boards = phases(N);
+    const SHOWN: usize = 2;
+    let boards = phases(N, SHOWN as u64 - 1);
     let [idle, snap, update, end, _, scan, _] = &boards[..] else { panic!("seven boards") };
     let mut damaged = scan.clone();
     damaged.control[PHASES][0] = 5;
@@ -276,14 +371,14 @@ fn every_refusal_with_a_panel() {
         (&damaged, 9, 9, 9, refusal::BOARD),
     ];
     for (before, code, station, job, refused) in calls {
-        for len in [0, N as usize - 1, N as usize, MAX_STATIONS, MAX_STATIONS + 1] {
+        for len in [0, SHOWN - 1, SHOWN, N as usize, MAX_STATIONS, MAX_STATIONS + 1] {
             let mut guarded = Guarded::new(before.clone());
             let call = Call { code, station, job, lent: Lent::Panel(len) };
             assert_eq!(guarded.call(call), refused, "{call:?}");
             assert!(guarded.board == *before && (0..GUARD + len + GUARD).map(old).eq(guarded.panel.iter().copied()), "{call:?}");
         }
     }
-    for len in 0..N as usize {
+    for len in 0..SHOWN {
         let mut guarded = Guarded::new(scan.clone());
         assert_eq!(guarded.call(Call { code: code::END, station: 1, job: 0, lent: Lent::Panel(len) }), refusal::SHORT_REPORT);
         assert!(guarded.board == *scan && (0..GUARD + len + GUARD).map(old).eq(guarded.panel.iter().copied()));
@@ -322,6 +417,7 @@ fn fresh_boards() {
         if (2..=32).contains(&n) {
             let fresh = board(&Table::fresh(n as usize));
             assert_eq!(over.freshen(n), 0);
+            assert!(over.results == [[[0; MAX_STATIONS]; 2]; MAX_STATIONS]);
             assert!(over == fresh && Board::fresh(n) == Ok(fresh));
         } else {
             assert_eq!(over.freshen(n), refusal::COUNT);
@@ -397,14 +493,13 @@ fn random_contents() {
             }
         }
         for i in 0..n {
-            b.jobs[CURRENT][i] = random.word() as u32;
+            b.jobs[CURRENT][i] = if random.one_in(4) { 0 } else { random.word() as u32 };
             b.jobs[PENDING][i] = random.word() as u32;
             b.control[PHASES][i] = random.below(5) as u8;
-            for place in (1..n).rev() {
-                b.results[i][STATIONS].swap(place, random.below(place as u64 + 1) as usize);
-            }
-            for place in 0..n {
-                b.results[i][JOBS][place] = random.word() as u32;
+            let mut stations: Vec<u32> = (1..=n as u32).collect();
+            for place in 0..random.below(n as u64 + 1) as usize {
+                b.results[i][STATIONS][place] = stations.swap_remove(random.below(stations.len() as u64) as usize);
+                b.results[i][JOBS][place] = (random.word() as u32).max(1);
             }
         }
         let (i, place, position) = (random.below(32) as usize, random.below(32) as usize, random.below(MAX_DIGITS as u64) as usize);
@@ -418,6 +513,9 @@ fn random_contents() {
             5 => b.results[i][JOBS][place] = random.below(2) as u32,
             6 => b.jobs[CURRENT][i] = random.below(2) as u32,
             7 => b.jobs[PENDING][i] = random.below(2) as u32,
+            // A place of a result that is empty, or like the first.
+            8 => (b.results[i % n][STATIONS][place % n], b.results[i % n][JOBS][place % n]) = (0, 0),
+            9 => b.results[i % n][STATIONS][place % n] = b.results[i % n][STATIONS][0],
             _ => {}
         }
         for _ in 0..4 {

@@ -1,4 +1,5 @@
 pub mod Passed
+pub mod Results
 pub mod States
 pub mod Fresh
 pub mod Samples

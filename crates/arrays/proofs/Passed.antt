@@ -27,7 +27,7 @@ pub record Fresh (a : Arrays) (i : ℕ) : Type 0 where
   pub job : cell (a .jobs) 0 i 0 ≡ 0
   pub pendingJob : cell (a .jobs) 1 i 0 ≡ 0
   pub phase : cell (a .control) 0 i 0 ≡ 0
-  pub result : resultFresh (a .count) (rowsAt a i) ≡ true
+  pub result : resultFresh (rowsAt a i) ≡ true
 
 pub record Passed (a : Arrays) : Type 0 where
   pub low : 2 ≤ a .count
@@ -55,7 +55,7 @@ fits a i e =
 fresh : (a : Arrays) (i : ℕ) → placeFresh a i ≡ true → Fresh a i
 unfolding placeFresh
 fresh a i e =
-    let result = and-both _ (resultFresh (a .count) (rowsAt a i)) e in
+    let result = and-both _ (resultFresh (rowsAt a i)) e in
     let phase = and-both _ (eqb (cell (a .control) 0 i 0) 0) (result .0) in
     let pending = and-both _ (eqb (cell (a .jobs) 1 i 0) 0) (phase .0) in
     let job = and-both _ (eqb (cell (a .jobs) 0 i 0) 0) (pending .0) in

@@ -34,7 +34,7 @@ module _ (n : ℕ) (low : 2 ≤ n) (high : n ≤ 32) where
 
   leads : (F : Form) → Lawful F → (cs : Lists.List Call) (l : Lists.List (Lists.List ℕ)) (o : Lists.List ℕ)
       → let s = stateOf (carried n (freshTable lent n) cs) in (shown n s ≡ l) × (order n s ≡ o) → Holds F (reaches n cs l o)
-  leads F L cs l o = rw (same-after F lent L lent-lawful n low high cs ∙ ap stateOf (carried-same cs (fresh (λ p. 1) n) (reached-fresh n (omega arith))))
+  leads F L cs l o = rw (same-after F lent L lent-lawful n low high cs ∙ ap stateOf (carried-same cs (fresh (λ p. 1)) (reached-fresh n (omega arith))))
       (λ c. c)
 
 module _ (F : Form) (L : Lawful F) where

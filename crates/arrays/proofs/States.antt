@@ -1,62 +1,34 @@
 -- Writing a state down in arrays and reading it are inverse: on well-formed arrays, and on the states that a table can hold. So the arrays are a lawful form.
-use Prim.Native.Nat.{ℕ, zero, suc, _+_, _-_, _≤_, _<_}
+use Prim.Native.Nat.{ℕ, _+_, _-_, _≤_, _<_}
 use native.Mathlib.Nat.{zero-add}
 use native.Mathlib.Omega.{arith}
 use native.Mathlib.Decide.{decLt}
-use mathlib.Core.Path.{_≡_, refl, sym, ap, ap₂, subst, _∙_, fun-ext}
+use mathlib.Core.Path.{_≡_, refl, sym, ap, ap₂, _∙_, fun-ext}
 use mathlib.Core.Logic.{by-cases}
-use mathlib.Core.Bool.{Bool, true, false, _&&_, cond}
+use mathlib.Core.Bool.{Bool, true, false, not, cond}
 use mathlib.Core.List as Lists
 use mathlib.Core.List.{[], _∷_}
 use lib.ListN.{length, getD, List·getD-eq-default}
-use lib.Seq.{ext-getD}
-use lib.Dec.{eqb, ltb}
-use borrow.Author.Tests.{eqb-true, eq-eqb, le-leb, lt-ltb, le-ltb}
-use Rattle.basics.specs.Tests.{every, count, tabulate}
-use Rattle.basics.proofs.Facts.{both, and-both, within-of, every-all, every-at, getD-any, length-tabulate, getD-tabulate, tabulate-same}
-use Rattle.basics.proofs.Counts.{count-same}
+use lib.Dec.{eqb}
+use borrow.Author.Tests.{eqb-true, eq-eqb, le-leb}
+use Rattle.basics.specs.Tests.{every, tabulate}
+use Rattle.basics.proofs.Facts.{both, within-of, every-all, every-at, last, length-tabulate, getD-tabulate, getD-all, tabulate-is, two-lists, one-list}
 use Rattle.label.specs.Labels as Labels
 use Rattle.label.specs.Rows.{digit, row, rowFits, noRing}
 use Rattle.label.proofs.RowLaws.{digit-row, row-digit, label-fits, fits-behind}
-use Rattle.simulation.specs.Calls.{Call, Phase, Idle, Snap, Update, End, Label, Scan, Entry, entry, Process}
-use Rattle.simulation.specs.Machine.{original, digits, freshRest, State, step}
+use Rattle.simulation.specs.Calls.{Call, Phase, Idle, Snap, Update, End, Label, Scan, Process}
+use Rattle.simulation.specs.Machine.{original, digits, State, step}
 use Rattle.transition.specs.Forms.{TableAnswer, stepOf}
 use Rattle.transition.proofs.Written.{Kept, Unused, Writable, writable-step}
 use Rattle.transition.proofs.Reached.{Reached, choice-ring-free}
 use Rattle.transition.proofs.Theorem.{Lawful, step-written}
-use Rattle.arrays.specs.Arrays.{Rows, Arrays, arrays, cell, plane, planes, phaseNumber, phaseFor, resultRows, resultOf, rowsAt}
+use Rattle.arrays.specs.Arrays.{Rows, Arrays, arrays, cell, plane, planes, phaseNumber, phaseFor, resultRows, shownIn, resultOf, rowsAt}
 use Rattle.arrays.specs.Arrays.{labelRow, stateOf, jobsOf, arraysOf}
-use Rattle.arrays.specs.WellFormed.{resultFits, resultFresh, stationFits, placeFresh, wellFormed}
+use Rattle.arrays.specs.WellFormed.{stationFits, placeFresh, wellFormed}
 use Rattle.arrays.specs.Form.{lent}
-use Rattle.arrays.specs.Sizes.{Sized, Shaped}
+use Rattle.arrays.specs.Sizes.{Shaped}
 use Rattle.arrays.proofs.Passed.{passed, newest-station}
-
--- LISTS THAT ARE TABLES
-
--- an element, or the default past the last
-getD-all : {A : Type 0} (k i : ℕ) (f : ℕ → A) (d : A) → (k ≤ i → d ≡ f i) → getD (tabulate k 0 f) i d ≡ f i
-getD-all k i f d e = by-cases (decLt i k)
-    (λ l. getD-tabulate k 0 i f d l ∙ ap f (zero-add i))
-    (λ l. List·getD-eq-default (tabulate k 0 f) d (rw (length-tabulate k 0 f) (omega arith)) ∙ e (omega arith))
-
-pub tabulate-is : {A : Type 0} (k : ℕ) (l : Lists.List A) (d : A) (f : ℕ → A) → length l ≡ k → ((i : ℕ) → i < k → f i ≡ getD l i d) → tabulate k 0 f ≡ l
-tabulate-is k l d f e h = ext-getD d _ _ (length-tabulate k 0 f ∙ sym e) (λ i u.
-    let v : i < k = rw (length-tabulate k 0 f) at u in getD-tabulate k 0 i f d v ∙ ap f (zero-add i) ∙ h i v)
-
-pub two-lists : {A : Type 0} (xs : Lists.List A) (d : A) → length xs ≡ 2 → getD xs 0 d ∷ getD xs 1 d ∷ [] ≡ xs
-two-lists xs d e = ext-getD d _ _ (sym e) each
-  where
-    each : (i : ℕ) → i < 2 → getD (getD xs 0 d ∷ getD xs 1 d ∷ []) i d ≡ getD xs i d
-    each zero h = refl
-    each (suc zero) h = refl
-    each (suc (suc i)) h = absurd (omega arith)
-
-pub one-list : {A : Type 0} (xs : Lists.List A) (d : A) → length xs ≡ 1 → getD xs 0 d ∷ [] ≡ xs
-one-list xs d e = ext-getD d _ _ (sym e) each
-  where
-    each : (i : ℕ) → i < 1 → getD (getD xs 0 d ∷ []) i d ≡ getD xs i d
-    each zero h = refl
-    each (suc i) h = absurd (omega arith)
+use Rattle.arrays.proofs.Results.{result-back, Blank, rows-back, entries-listed, fits-blank, fresh-cells, empty-fresh, none-held, sound-fits}
 
 -- PHASES
 
@@ -88,59 +60,6 @@ number-kept b = either (eqb b 0) Idle _ tt (either (eqb b 1) (Snap Label) _ tt (
     either true p q h k = h
     either false p q h k = k
 
--- RESULTS
-
--- a place of the rows of a result
-module _ (l : Lists.List Entry) (p : ℕ) where
-  past-entry : length l ≤ 32 → 32 ≤ p → entry 0 0 ≡ getD l p (entry 0 0)
-  past-entry u h = sym (List·getD-eq-default l (entry 0 0) (omega arith))
-
-  station-cell : length l ≤ 32 → cell (resultRows l) 0 p 0 ≡ getD l p (entry 0 0) .station
-  station-cell u = getD-all 32 p (λ q. getD l q (entry 0 0) .station) 0 (λ h. ap (λ e. e .station) (past-entry u h))
-
-  job-cell : length l ≤ 32 → cell (resultRows l) 1 p 0 ≡ getD l p (entry 0 0) .job
-  job-cell u = getD-all 32 p (λ q. getD l q (entry 0 0) .job) 0 (λ h. ap (λ e. e .job) (past-entry u h))
-
-pub result-back : (n : ℕ) (l : Lists.List Entry) → n ≤ 32 → length l ≡ n → resultOf n (resultRows l) ≡ l
-result-back n l h e = tabulate-is n l (entry 0 0) _ e (λ p u. ap₂ entry (station-cell l p (omega arith)) (job-cell l p (omega arith)))
-
--- rows with nothing from place n on
-abbrev Blank : ℕ → Rows → Type 0
-Blank n rows = (p : ℕ) → n ≤ p → p < 32 → (cell rows 0 p 0 ≡ 0) × (cell rows 1 p 0 ≡ 0)
-
-rows-back : (n : ℕ) (rows : Rows) → n ≤ 32 → Sized 2 32 rows → Blank n rows → resultRows (resultOf n rows) ≡ rows
-rows-back n rows h z blank = ap₂ (λ a b. a ∷ b ∷ [])
-    (tabulate-is 32 (getD rows 0 []) 0 _ (z .each 0 (omega arith)) (λ p u. at (λ e. e .station) p u (λ l. sym (blank p l u .0))))
-    (tabulate-is 32 (getD rows 1 []) 0 _ (z .each 1 (omega arith)) (λ p u. at (λ e. e .job) p u (λ l. sym (blank p l u .1))))
-    ∙ two-lists rows [] (z .long)
-  where
-    entryAt : ℕ → Entry
-    entryAt p = entry (cell rows 0 p 0) (cell rows 1 p 0)
-
-    at : (f : Entry → ℕ) (p : ℕ) → p < 32 → (n ≤ p → f (entry 0 0) ≡ f (entryAt p)) → f (getD (resultOf n rows) p (entry 0 0)) ≡ f (entryAt p)
-    at f p u e = by-cases (decLt p n)
-        (λ l. ap f (getD-tabulate n 0 p entryAt (entry 0 0) l ∙ ap entryAt (zero-add p)))
-        (λ l. ap f (List·getD-eq-default (resultOf n rows) (entry 0 0) (rw (length-tabulate n 0 entryAt) (omega arith))) ∙ e (omega arith))
-
-fits-blank : (n : ℕ) (rows : Rows) → n ≤ 32 → resultFits n rows ≡ true → Blank n rows
-unfolding resultFits
-fits-blank n rows h e p l u =
-    let past = and-both (every n (λ i. eqb (count n (λ p. eqb (cell rows 0 p 0) (suc i))) 1))
-    (every (32 - n) (λ p. eqb (cell rows 0 (n + p) 0) 0 && eqb (cell rows 1 (n + p) 0) 0)) e .1 in
-    let q : n + (p - n) ≡ p = omega arith in
-    let b = and-both (eqb (cell rows 0 (n + (p - n)) 0) 0) (eqb (cell rows 1 (n + (p - n)) 0) 0) (every-at (32 - n) _ past (p - n) (omega arith)) in
-    let c : (cell rows 0 (n + (p - n)) 0 ≡ 0) × (cell rows 1 (n + (p - n)) 0 ≡ 0) = (eqb-true _ 0 (b .0), eqb-true _ 0 (b .1)) in
-    rw q at c
-
-fresh-cells : (n : ℕ) (rows : Rows) → resultFresh n rows ≡ true → (p : ℕ) → p < 32 → (cell rows 0 p 0 ≡ cond (ltb p n) (suc p) 0) × (cell rows 1 p 0 ≡ 0)
-unfolding resultFresh
-fresh-cells n rows e p u =
-    let b = and-both (eqb (cell rows 0 p 0) (cond (ltb p n) (suc p) 0)) (eqb (cell rows 1 p 0) 0) (every-at 32 _ e p u) in
-    (eqb-true _ _ (b .0), eqb-true _ 0 (b .1))
-
-fresh-blank : (n : ℕ) (rows : Rows) → resultFresh n rows ≡ true → Blank n rows
-fresh-blank n rows e p l u = let c = fresh-cells n rows e p u in (c .0 ∙ rw (le-ltb p n l) refl, c .1)
-
 -- A STATE THAT CAN BE WRITTEN DOWN is the state that its arrays hold
 module _ (n : ℕ) (high : n ≤ 32) (s : State Labels.Label) (w : Writable n s) where
   -- what stands in the arrays at every place, past the last too
@@ -168,9 +87,16 @@ module _ (n : ℕ) (high : n ≤ 32) (s : State Labels.Label) (w : Writable n s)
   phase-at i = getD-all 32 i (λ j. phaseNumber (s .rest .process j .phase)) 0
       (λ l. sym (ap (λ (p : Process). phaseNumber (p .phase)) (w .past i (omega arith) .process)))
 
-  rows-at : (i : ℕ) → rowsAt (arraysOf n s) i ≡ resultRows (s .rest .result i)
+  rows-at : (i : ℕ) → i < 32 → rowsAt (arraysOf n s) i ≡ resultRows (s .rest .result i)
   unfolding arraysOf
-  rows-at i = getD-all 32 i (λ j. resultRows (s .rest .result j)) _ (λ l. ap resultRows (sym (w .past i (omega arith) .result)))
+  rows-at i l = getD-tabulate 32 0 i (λ j. resultRows (s .rest .result j)) [] l ∙ ap (λ j. resultRows (s .rest .result j)) (zero-add i)
+
+  result-at : (i : ℕ) → resultOf n (rowsAt (arraysOf n s) i) ≡ s .rest .result i
+  unfolding arraysOf
+  result-at i = by-cases (decLt i 32)
+      (λ l. ap (resultOf n) (rows-at i l) ∙ result-back n (s .rest .result i) high (w .listed i))
+      (λ l. ap (resultOf n) (List·getD-eq-default (arraysOf n s .results) [] (rw length-tabulate (omega arith)))
+      ∙ none-held n [] (λ p _. refl) ∙ sym (w .past i (omega arith) .result))
 
   pub held-written : stateOf (arraysOf n s) ≡ s
   unfolding arraysOf
@@ -183,7 +109,7 @@ module _ (n : ℕ) (high : n ≤ 32) (s : State Labels.Label) (w : Writable n s)
         phase =
             (ap phaseFor (phase-at i) ∙ phase-back (s .rest .process i .phase) (w .phase i)) y;
       };
-      result = λ i. (ap (resultOf n) (rows-at i) ∙ result-back n (s .rest .result i) high (w .long i)) y;
+      result = λ i. result-at i y;
     };
   }
 
@@ -198,65 +124,21 @@ module _ (n : ℕ) (low : 2 ≤ n) (high : n ≤ 32) (s : State Labels.Label) (r
   rows-fresh : (x : Bool) (i : ℕ) → n ≤ i → rowFits 31 0 (labelRow (arraysOf n s) x i) ≡ true
   rows-fresh x i l = label-fits 31 0 _ (λ p. 1) (label-at n high s w x i ∙ w .past i l .labels x) (λ p. (omega arith, omega arith)) (λ p _. refl)
 
-  result-fits : (i : ℕ) → resultFits n (resultRows (s .rest .result i)) ≡ true
-  unfolding resultFits
-  result-fits i = both
-      (every-all n _ (λ j l. eq-eqb _ 1 (count-same n _ _ (λ p _. ap (λ (k : ℕ). eqb k (suc j)) (station-cell t p (omega (arith, e)))) ∙ r .once i j l)))
-      (every-all (32 - n) _ (λ p l. both
-      (eq-eqb _ 0 (station-cell t (n + p) (omega (arith, e)) ∙ ap (λ (x : Entry). x .station) (past p)))
-      (eq-eqb _ 0 (job-cell t (n + p) (omega (arith, e)) ∙ ap (λ (x : Entry). x .job) (past p)))))
-    where
-      t : Lists.List Entry
-      t = s .rest .result i
-
-      e : length t ≡ n
-      e = w .long i
-
-      past : (p : ℕ) → getD t (n + p) (entry 0 0) ≡ entry 0 0
-      past p = List·getD-eq-default t (entry 0 0) (omega (arith, e))
-
-  result-fresh : (i : ℕ) → n ≤ i → resultFresh n (resultRows (s .rest .result i)) ≡ true
-  unfolding resultFresh
-  result-fresh i h = every-all 32 _ (λ p l. let c = at p in both (eq-eqb _ _ (c .0)) (eq-eqb _ 0 (c .1)))
-    where
-      f : ℕ → Entry
-      f q = entry (suc q) 0
-
-      at : (p : ℕ) → (cell (resultRows (s .rest .result i)) 0 p 0 ≡ cond (ltb p n) (suc p) 0) × (cell (resultRows (s .rest .result i)) 1 p 0 ≡ 0)
-      at p = rw (w .past i h .result) (by-cases (decLt p n)
-          (λ l. rw (lt-ltb p n l) (
-            station-cell (tabulate n 0 f) p small ∙ ap (λ (x : Entry). x .station) (inside l),
-            job-cell (tabulate n 0 f) p small ∙ ap (λ (x : Entry). x .job) (inside l),
-          ))
-          (λ l. rw (le-ltb p n (omega arith)) (
-            station-cell (tabulate n 0 f) p small ∙ ap (λ (x : Entry). x .station) (outside (omega arith)),
-            job-cell (tabulate n 0 f) p small ∙ ap (λ (x : Entry). x .job) (outside (omega arith)),
-          )))
-        where
-          small : length (tabulate n 0 f) ≤ 32
-          small = omega (arith, length-tabulate n 0 f)
-
-          inside : p < n → getD (tabulate n 0 f) p (entry 0 0) ≡ f p
-          inside l = getD-tabulate n 0 p f (entry 0 0) l ∙ ap f (zero-add p)
-
-          outside : n ≤ p → getD (tabulate n 0 f) p (entry 0 0) ≡ entry 0 0
-          outside l = List·getD-eq-default (tabulate n 0 f) (entry 0 0) (rw length-tabulate l)
-
   pub reached-passes : wellFormed (arraysOf n s) ≡ true
   unfolding wellFormed stationFits placeFresh arraysOf
   reached-passes = both (both (both (within-of 2 32 n low high)
       (every-all n _ (λ i l. both (both (both (rows-fit false i l) (rows-fit true i l))
       (le-leb (cell (arraysOf n s .control) 0 i 0) 4 (rw (phase-at n high s w i) (phase-low (s .rest .process i .phase)))))
-      (rw (rows-at n high s w i) (result-fits i)))))
-      (every-all (32 - n) _ (λ i l. fresh (n + i) (omega arith))))
+      (rw (rows-at n high s w i (omega arith)) (sound-fits n (s .rest .result i) high (w .listed i) (r .sound i))))))
+      (every-all (32 - n) _ (λ i l. fresh (n + i) (omega arith) (omega arith))))
       (ap (λ (u : State Labels.Label). noRing (n - 1) (u .labels false)) (held-written n high s w) ∙ choice-ring-free n (omega arith) r (λ i. false))
     where
-      fresh : (i : ℕ) → n ≤ i → placeFresh (arraysOf n s) i ≡ true
-      fresh i h = let u = w .past i h .process in both (both (both (both (both (rows-fresh false i h) (rows-fresh true i h))
+      fresh : (i : ℕ) → n ≤ i → i < 32 → placeFresh (arraysOf n s) i ≡ true
+      fresh i h l = let u = w .past i h .process in both (both (both (both (both (rows-fresh false i h) (rows-fresh true i h))
           (eq-eqb (cell (arraysOf n s .jobs) 0 i 0) 0 (job-at n high s w false i ∙ ap (λ (p : Process). p .job) u)))
           (eq-eqb (cell (arraysOf n s .jobs) 1 i 0) 0 (job-at n high s w true i ∙ ap (λ (p : Process). p .pendingJob) u)))
           (eq-eqb (cell (arraysOf n s .control) 0 i 0) 0 (phase-at n high s w i ∙ ap (λ (p : Process). phaseNumber (p .phase)) u)))
-          (rw (rows-at n high s w i) (result-fresh i h))
+          (rw (rows-at n high s w i l, w .past i h .result) empty-fresh)
 
 pub lent-lawful : Lawful lent
 unfolding arraysOf
@@ -267,13 +149,10 @@ module _ (a : Arrays) (g : Shaped a) (e : wellFormed a ≡ true) where
   high : a .count ≤ 32
   high = passed a e .high
 
-  pub rows-here : (i : ℕ) → i < 32 → rowsAt a i ≡ getD (a .results) i []
-  rows-here i l = getD-any (a .results) i _ [] (omega (arith, g .results .long))
-
-  blank-at : (i : ℕ) → i < 32 → Blank (a .count) (rowsAt a i)
+  blank-at : (i : ℕ) → i < 32 → Blank (shownIn (a .count) (getD (rowsAt a i) 0 [])) (rowsAt a i)
   blank-at i l = by-cases (decLt i (a .count))
-      (λ u. fits-blank (a .count) (rowsAt a i) high (passed a e .each i u .result))
-      (λ u. fresh-blank (a .count) (rowsAt a i) (passed a e .rest i (omega arith) l .result))
+      (λ u. fits-blank (a .count) (rowsAt a i) (passed a e .each i u .result))
+      (λ u p _ v. fresh-cells (rowsAt a i) (passed a e .rest i (omega arith) l .result) p v)
 
   phase-known : (i : ℕ) → i < 32 → cell (a .control) 0 i 0 ≤ 4
   phase-known i l = by-cases (decLt i (a .count)) (λ u. passed a e .each i u .phase) (λ u. omega (arith, passed a e .rest i (omega arith) l .phase))
@@ -296,7 +175,7 @@ module _ (a : Arrays) (g : Shaped a) (e : wellFormed a ≡ true) where
 
   pub results-back : tabulate 32 0 (λ i. resultRows (stateOf a .rest .result i)) ≡ a .results
   results-back = tabulate-is 32 (a .results) [] _ (g .results .long) (λ i l.
-      rows-back (a .count) (rowsAt a i) high (subst (Sized 2 32) (sym (rows-here i l)) (g .result i l)) (blank-at i l) ∙ rows-here i l)
+      rows-back _ (rowsAt a i) (omega (arith, high, last (a .count) (λ p. not (eqb (cell (rowsAt a i) 0 p 0) 0)) .upto)) (g .result i l) (blank-at i l))
 
   pub written-held : arraysOf (a .count) (stateOf a) ≡ a
   unfolding arraysOf
@@ -308,7 +187,7 @@ module _ (a : Arrays) (g : Shaped a) (e : wellFormed a ≡ true) where
     behind = λ x i p h. by-cases (decLt i 32)
         (λ l. List·getD-eq-default (labelRow a x i) 1 (omega (arith, label-long x i l)))
         (λ l. ap (λ (r : Lists.List ℕ). digit r p) (label-none x i (omega arith)));
-    long = λ i. length-tabulate (a .count) 0 _;
+    listed = λ i. entries-listed (a .count) (rowsAt a i);
     phase = λ i. number-kept (cell (a .control) 0 i 0);
     past = λ i h. by-cases (decLt i 32) (λ l. unused i h l) (λ l. missing i (omega arith));
   }
@@ -321,22 +200,17 @@ module _ (a : Arrays) (g : Shaped a) (e : wellFormed a ≡ true) where
       label-none false i l = List·getD-eq-default (getD (a .labels) 0 []) [] (omega (arith, g .labels .each 0 (omega arith)))
       label-none true i l = List·getD-eq-default (getD (a .labels) 1 []) [] (omega (arith, g .labels .each 1 (omega arith)))
 
-      entries : (i : ℕ) → i < 32 → a .count ≤ i → resultOf (a .count) (rowsAt a i) ≡ freshRest (a .count) .result i
-      entries i l h = tabulate-same (a .count) 0 _ _ (λ p u.
-          let c = fresh-cells (a .count) (rowsAt a i) (passed a e .rest i h l .result) p (omega (arith, high)) in
-          ap₂ entry (c .0 ∙ rw (lt-ltb p (a .count) (omega arith)) refl) (c .1))
-
-      unused : (i : ℕ) → a .count ≤ i → i < 32 → Unused (a .count) (stateOf a) i
+      unused : (i : ℕ) → a .count ≤ i → i < 32 → Unused (stateOf a) i
       unused i h l = let f = passed a e .rest i h l in record {
         labels = λ x. fun-ext (λ p. fits-behind 31 0 (labelRow a x i) (label-long x i l) (f .label x) p (omega arith));
         process = λ y. record { job = f .job y; pendingJob = f .pendingJob y; phase = phaseFor (f .phase y) };
-        result = entries i l h;
+        result = none-held (a .count) (rowsAt a i) (λ p u. fresh-cells (rowsAt a i) (f .result) p (omega (arith, high)) .0);
       }
 
       none : (xs : Rows) (f i : ℕ) → length (getD xs f []) ≡ 32 → 32 ≤ i → cell xs f i 0 ≡ 0
       none xs f i h l = List·getD-eq-default (getD xs f []) 0 (omega arith)
 
-      missing : (i : ℕ) → 32 ≤ i → Unused (a .count) (stateOf a) i
+      missing : (i : ℕ) → 32 ≤ i → Unused (stateOf a) i
       missing i l = record {
         labels = λ x. ap digit (label-none x i l);
         process = λ y. record {
@@ -344,12 +218,8 @@ module _ (a : Arrays) (g : Shaped a) (e : wellFormed a ≡ true) where
           pendingJob = none (a .jobs) 1 i (g .jobs .each 1 (omega arith)) l y;
           phase = phaseFor (none (a .control) 0 i (g .control .each 0 (omega arith)) l y);
         };
-        result = ap (resultOf (a .count)) past
-            ∙ result-back (a .count) (freshRest (a .count) .result i) high (length-tabulate (a .count) 0 _);
+        result = ap (resultOf (a .count)) (List·getD-eq-default (a .results) [] (omega (arith, g .results .long))) ∙ none-held (a .count) [] (λ p _. refl);
       }
-        where
-          past : rowsAt a i ≡ resultRows (freshRest (a .count) .result i)
-          past = List·getD-eq-default (a .results) _ (omega (arith, g .results .long))
 
   -- so a step leaves arrays that hold the state which the machine leaves, from any well-formed table, reached or not
   pub step-held : (c : Call) → let n = a .count in stateOf (stepOf lent a c .table) ≡ step original n (digits n) (stateOf a) c .state

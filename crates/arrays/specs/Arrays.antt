@@ -1,15 +1,15 @@
 -- A table in four arrays of numbers, one for each kind of field, so that it can be lent and changed in place (01, "The record of a station").
 use Prim.Native.Nat.{ℕ}
-use mathlib.Core.Bool.{Bool, true, false, cond}
+use mathlib.Core.Bool.{Bool, true, false, not, cond}
 use mathlib.Core.List as Lists
 use mathlib.Core.List.{[], _∷_}
 use lib.ListN.{getD}
 use lib.Dec.{eqb}
-use Rattle.basics.specs.Tests.{tabulate}
+use Rattle.basics.specs.Tests.{lastOf, tabulate}
 use Rattle.label.specs.Labels as Labels
 use Rattle.label.specs.Rows.{digit, row}
 use Rattle.simulation.specs.Calls.{Label, Scan, Phase, Idle, Snap, Update, End, Entry, entry, Rest}
-use Rattle.simulation.specs.Machine.{State, freshRest}
+use Rattle.simulation.specs.Machine.{State}
 
 -- numbers in rows, and rows in planes
 abbrev pub Rows : Type 0
@@ -58,16 +58,23 @@ phaseFor b =
     (cond (eqb b 2) Update
     (cond (eqb b 3) (End Label) (End Scan))))
 
--- the rows of a scan result, with 0s past its last entry; and the result of n entries that rows hold
+-- the rows of a scan result, with 0s past its last entry; and the first k entries in rows
 abbrev pub resultRows : Lists.List Entry → Rows
 resultRows l = tabulate 32 0 (λ p. getD l p (entry 0 0) .station) ∷ tabulate 32 0 (λ p. getD l p (entry 0 0) .job) ∷ []
 
-abbrev pub resultOf : ℕ → Rows → Lists.List Entry
-resultOf n rows = tabulate n 0 (λ p. entry (cell rows 0 p 0) (cell rows 1 p 0))
+abbrev pub entriesIn : ℕ → Rows → Lists.List Entry
+entriesIn k rows = tabulate k 0 (λ p. entry (cell rows 0 p 0) (cell rows 1 p 0))
 
--- the rows at place i; past the array those of a fresh station
+-- how many places of a row of n stations are shown: up to the last that has a station (02, Card 2); and the result that rows hold
+abbrev pub shownIn : ℕ → Lists.List ℕ → ℕ
+shownIn n stations = lastOf n (λ p. not (eqb (getD stations p 0) 0))
+
+abbrev pub resultOf : ℕ → Rows → Lists.List Entry
+resultOf n rows = entriesIn (shownIn n (getD rows 0 [])) rows
+
+-- the rows at place i; past the array there is nothing
 abbrev pub rowsAt : Arrays → ℕ → Rows
-rowsAt a i = getD (a .results) i (resultRows (freshRest (a .count) .result i))
+rowsAt a i = getD (a .results) i []
 
 -- READING: the state that arrays hold
 abbrev pub labelRow : Arrays → Bool → ℕ → Lists.List ℕ

@@ -1,20 +1,29 @@
--- Well-formed tables (01, refusal 13: one that is not is spoiled). Jobs, pending jobs and jobs in results are not judged, nor which phase a station is in.
+-- Well-formed tables (01, refusal 13: one that is not is spoiled; 02, Card 2). Jobs and pending jobs are not judged, nor which phase a station is in.
 use Prim.Native.Nat.{ℕ, suc, _+_, _-_}
-use mathlib.Core.Bool.{Bool, true, false, _&&_, cond}
-use lib.Dec.{eqb, leb, ltb}
+use mathlib.Core.Bool.{Bool, true, false, not, _&&_}
+use mathlib.Core.List.{[]}
+use lib.ListN.{getD}
+use lib.Dec.{eqb, leb}
 use Rattle.basics.specs.Tests.{within, every, count}
 use Rattle.label.specs.Rows.{digit, rowFits, noRing}
-use Rattle.arrays.specs.Arrays.{Rows, Arrays, cell, labelRow, rowsAt}
+use Rattle.arrays.specs.Arrays.{Rows, Arrays, cell, shownIn, labelRow, rowsAt}
 
--- the first n places of a result hold each of the n stations once, and those past them are empty
+-- an entry of a result fits: one of n stations, with a job
+abbrev pub entryFits : ℕ → ℕ → ℕ → Bool
+entryFits n station job = within 1 n station && not (eqb job 0)
+
+-- a result fits (02, Card 2): up to its last station, among the first n places, each entry does, and no station stands twice; past n there is no station, and
+-- past the last station no job
 unfoldable pub resultFits : ℕ → Rows → Bool
-resultFits n rows =
-    every n (λ i. eqb (count n (λ p. eqb (cell rows 0 p 0) (suc i))) 1)
-    && every (32 - n) (λ p. eqb (cell rows 0 (n + p) 0) 0 && eqb (cell rows 1 (n + p) 0) 0)
+resultFits n rows = let k = shownIn n (getD rows 0 []) in
+    every k (λ p. entryFits n (cell rows 0 p 0) (cell rows 1 p 0))
+    && every n (λ i. leb (count k (λ p. eqb (cell rows 0 p 0) (suc i))) 1)
+    && every (32 - n) (λ p. eqb (cell rows 0 (n + p) 0) 0)
+    && every (32 - k) (λ p. eqb (cell rows 1 (k + p) 0) 0)
 
--- a result is that of a fresh station: the stations 1 to n, without jobs
-unfoldable pub resultFresh : ℕ → Rows → Bool
-resultFresh n rows = every 32 (λ p. eqb (cell rows 0 p 0) (cond (ltb p n) (suc p) 0) && eqb (cell rows 1 p 0) 0)
+-- a result is that of a fresh station: empty
+unfoldable pub resultFresh : Rows → Bool
+resultFresh rows = every 32 (λ p. eqb (cell rows 0 p 0) 0 && eqb (cell rows 1 p 0) 0)
 
 module _ (a : Arrays) where
   -- both labels, the phase and the result of one of the n stations
@@ -27,7 +36,7 @@ module _ (a : Arrays) where
   unfoldable pub placeFresh : ℕ → Bool
   placeFresh i =
       rowFits 31 0 (labelRow a false i) && rowFits 31 0 (labelRow a true i) && eqb (cell (a .jobs) 0 i 0) 0 && eqb (cell (a .jobs) 1 i 0) 0
-      && eqb (cell (a .control) 0 i 0) 0 && resultFresh (a .count) (rowsAt a i)
+      && eqb (cell (a .control) 0 i 0) 0 && resultFresh (rowsAt a i)
 
   unfoldable pub wellFormed : Bool
   wellFormed = let n = a .count in

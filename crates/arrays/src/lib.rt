@@ -1,13 +1,9 @@
 // A table in four arrays, which are lent: their types, and the fresh table.
 ghost use mathlib.Core.Path.{_≡_};
-ghost use mathlib.Core.Bool.{cond};
-ghost use Prim.Native.Nat.{ℕ, suc};
-ghost use lib.Dec.{ltb};
-ghost use Rattle.basics.specs.Tests.{tabulate};
+ghost use Prim.Native.Nat.{ℕ, _≤_};
 ghost use Rattle.moves.specs.Moves.{phaseOf};
-ghost use Rattle.simulation.specs.Machine.{freshRest};
 ghost use Rattle.transition.specs.Forms.{freshTable};
-ghost use Rattle.arrays.specs.Arrays.{arrays, phaseFor, resultRows};
+ghost use Rattle.arrays.specs.Arrays.{arrays, phaseFor, shownIn};
 ghost use Rattle.arrays.specs.Form.{lent};
 ghost use Rattle.arrays.specs.Sizes.{Shaped};
 use moves::Operation;
@@ -60,24 +56,19 @@ pub fn shaped(labels: Labels, jobs: Jobs, control: Control, results: Results)
     ensures { λ _. ⌜ ((n : ℕ) → Shaped (arrays n labels jobs control results)) ⌝ }
 {}
 
-// The stations 1 to n, and 0s past them.
-fn first_stations(n: usize) -> [u32; 32]
-    ensures { λ r. ⌜ r ≡ tabulate 32 0 (λ p. cond (ltb p n) (suc p) 0) ⌝ }
+// How many places of a row of n stations are shown: up to the last that has a station.
+pub fn shown_in(n: usize, stations: &[u32; 32]) -> usize
+    requires { ⌜ n ≤ 32 ⌝ }
+    ensures { λ r. ⌜ r ≡ shownIn n (now (stations .entry)) ⌝ }
 {
-    let mut r = [0u32; 32];
-    let mut p: usize = 0;
-    while p < 32 && p < n {
-        r[p] = (p + 1) as u32;
-        p += 1;
+    let mut k = n;
+    while 0 < k {
+        if stations[k - 1] != 0 {
+            return k;
+        }
+        k -= 1;
     }
-    r
-}
-
-// The scan result of a fresh station: the stations 1 to n without a job.
-pub fn fresh_result(n: usize) -> [[u32; 32]; 2]
-    ensures { λ r. ⌜ r ≡ resultRows (freshRest n .result 0) ⌝ }
-{
-    [first_stations(n), [0u32; 32]]
+    0
 }
 
 // Writes the fresh table of n stations over what is lent.
@@ -94,10 +85,10 @@ pub fn refresh(
     let plane = [label; 32];
     let none = [0u32; 32];
     let idle = [IDLE; 32];
-    let result = fresh_result(n);
+    let empty = [none; 2];
     *labels = [plane; 2];
     *jobs = [none; 2];
     let phases = [idle; 1];
     *control = phases;
-    *results = [result; 32];
+    *results = [empty; 32];
 }

@@ -1,19 +1,17 @@
 -- Counts of the numbers below a bound that pass a test, and how often a number stands in a list.
 use Prim.Native.Nat.{ℕ, zero, suc, _+_, _≤_, _<_}
-use native.Mathlib.Nat.{not-suc-le-zero}
 use native.Mathlib.Decide.{ℕ-discrete}
 use native.Mathlib.Numerals.{add-one}
 use native.Mathlib.Omega.{arith}
 use mathlib.Core.Path.{_≡_, refl, sym, ap, ap₂, _∙_}
-use mathlib.Core.Logic.{_≢_, _⊎_, inl, inr, by-cases}
+use mathlib.Core.Logic.{by-cases}
 use mathlib.Core.Bool.{Bool, true, false, not, _&&_, cond}
-use mathlib.Core.List as Lists
-use mathlib.Core.List.{List, [], _∷_}
+use mathlib.Core.List.{List}
 use lib.ListN.{length, getD, set}
 use lib.Dec.{eqb}
 use borrow.Author.Tests.{eq-eqb, ne-eqb}
-use Rattle.basics.specs.Tests.{count, inserted, ordered}
-use Rattle.basics.proofs.Facts.{below-suc, ordered-length, set-each}
+use Rattle.basics.specs.Tests.{count}
+use Rattle.basics.proofs.Facts.{set-each}
 
 pub count-same : (n : ℕ) (f g : ℕ → Bool) → ((j : ℕ) → j < n → f j ≡ g j) → count n f ≡ count n g
 unfolding count
@@ -63,54 +61,8 @@ module _ (w : ℕ) (f : ℕ → Bool) (s : ℕ → ℕ) (r : List ℕ) (j : ℕ)
       (ap (λ n. n + 1) (old (s j) ls) ∙ sym (count-yes j (λ i. f i && eqb (s i) (s j)) (rw (e, eq-eqb (s j) (s j) refl) refl)))
       (λ q l d. sym (count-no j (λ i. f i && eqb (s i) q) (rw (e, ne-eqb (s j) q (λ p. d (sym p))) refl)))
 
--- HOW OFTEN A NUMBER STANDS IN A LIST: in the order of n processes once, for each of them
-
 -- the first place apart
 pub count-front : (k : ℕ) (f : ℕ → Bool) → count (suc k) f ≡ cond (f 0) 1 0 + count k (λ p. f (suc p))
 unfolding count
 count-front zero f = refl
 count-front (suc k) f = ap (λ m. cond (f (suc k)) 1 0 + m) (count-front k f) ∙ omega arith
-
--- i in the list l
-abbrev pub occurs : ℕ → Lists.List ℕ → ℕ
-occurs i l = count (length l) (λ p. eqb (getD l p 0) i)
-
-occurs-cons : (i x : ℕ) (l : Lists.List ℕ) → occurs i (x ∷ l) ≡ cond (eqb x i) 1 0 + occurs i l
-occurs-cons i x l = count-front (length l) (λ p. eqb (getD (x ∷ l) p 0) i)
-
-occurs-inserted : (b : ℕ → ℕ → Bool) (i j : ℕ) (l : Lists.List ℕ) → occurs i (inserted b j l) ≡ cond (eqb j i) 1 0 + occurs i l
-unfolding inserted
-occurs-inserted b i j [] = occurs-cons i j []
-occurs-inserted b i j (k ∷ l) = go (occurs-inserted b i j l) (b j k)
-  where
-    go : occurs i (inserted b j l) ≡ cond (eqb j i) 1 0 + occurs i l
-        → (x : Bool) → occurs i (elim x [ true ↦ j ∷ k ∷ l | false ↦ k ∷ inserted b j l ]) ≡ cond (eqb j i) 1 0 + occurs i (k ∷ l)
-    go r true = occurs-cons i j (k ∷ l)
-    go r false = occurs-cons i k (inserted b j l) ∙ omega (arith, r, occurs-cons i k l)
-
-occurs-none : (b : ℕ → ℕ → Bool) (i k : ℕ) → k ≤ i → occurs i (ordered k b) ≡ 0
-unfolding ordered count
-occurs-none b i zero h = refl
-occurs-none b i (suc k) h = occurs-inserted b i k (ordered k b) ∙ rw (occurs-none b i k (omega arith), ne-eqb k i (λ e. omega arith)) refl
-
-occurs-once : (b : ℕ → ℕ → Bool) (i k : ℕ) → i < k → occurs i (ordered k b) ≡ 1
-unfolding ordered
-occurs-once b i zero h = absurd (not-suc-le-zero h)
-occurs-once b i (suc k) h = occurs-inserted b i k (ordered k b) ∙ go (occurs-once b i k) (below-suc h)
-  where
-    go : (i < k → occurs i (ordered k b) ≡ 1) → (i ≡ k) ⊎ (i < k) → cond (eqb k i) 1 0 + occurs i (ordered k b) ≡ 1
-    go r (inl e) = rw (occurs-none b i k (omega arith), eq-eqb k i (sym e)) refl
-    go r (inr l) = rw (r l, ne-eqb k i (λ e. omega arith)) refl
-
-pub ordered-once : (b : ℕ → ℕ → Bool) (n i : ℕ) → i < n → count n (λ p. eqb (getD (ordered n b) p 0) i) ≡ 1
-ordered-once b n i h = ap (λ k. count k (λ p. eqb (getD (ordered n b) p 0) i)) (sym (ordered-length b n)) ∙ occurs-once b i n h
-
--- one number alone passes
-pub count-single : (k : ℕ) (f : ℕ → Bool) (i : ℕ) → i < k → f i ≡ true → ((p : ℕ) → p < k → p ≢ i → f p ≡ false) → count k f ≡ 1
-unfolding count
-count-single zero f i l e h = absurd (not-suc-le-zero l)
-count-single (suc k) f i l e h = go (count-single k f i) (below-suc l)
-  where
-    go : (i < k → f i ≡ true → ((p : ℕ) → p < k → p ≢ i → f p ≡ false) → count k f ≡ 1) → (i ≡ k) ⊎ (i < k) → cond (f k) 1 0 + count k f ≡ 1
-    go r (inl q) = rw (sym (ap f q) ∙ e, count-none k f (λ p u. h p (omega arith) (λ z. omega arith))) refl
-    go r (inr q) = rw (h k (omega arith) (λ z. omega arith), r q e (λ p u. h p (omega arith))) refl

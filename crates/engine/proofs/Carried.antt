@@ -1,25 +1,25 @@
 -- Each move, carried out on the arrays: what they become is what the machine makes of the state that they hold, written down.
-use Prim.Native.Nat.{ℕ, suc, _-_, _≤_, _<_}
+use Prim.Native.Nat.{ℕ, _-_, _<_}
 use native.Mathlib.Omega.{arith}
-use native.Mathlib.Decide.{decLt}
 use mathlib.Core.Path.{_≡_, refl, sym, ap, ap₂, subst, _∙_}
-use mathlib.Core.Logic.{_≢_, by-cases}
+use mathlib.Core.Logic.{_≢_}
 use mathlib.Core.Bool.{Bool, true, false, cond}
 use mathlib.Core.List as Lists
-use mathlib.Core.List.{[], _∷_, map}
-use lib.ListN.{length, getD, set, replicate, length-map, List·getD-map, List·getD-eq-default, List·getD-append}
-use lib.Dec.{eqb, ltb}
-use borrow.Author.Tests.{ne-eqb, lt-ltb, le-ltb}
+use mathlib.Core.List.{[], _∷_}
+use lib.ListN.{getD, take, set, replicate}
+use lib.Seq.{take-at}
+use lib.Dec.{eqb}
+use borrow.Author.Tests.{ne-eqb}
 use Rattle.basics.specs.Tests.{newest, ordered, tabulate}
-use Rattle.basics.proofs.Facts.{by-here, getD-any, tabulate-same, set-tabulate, ordered-length}
+use Rattle.basics.proofs.Facts.{by-here, tabulate-same, set-tabulate, ordered-length}
 use Rattle.label.specs.Labels as Labels
 use Rattle.label.specs.Labels.{newLabel}
 use Rattle.label.specs.Rows.{digit, row}
 use Rattle.label.proofs.RowLaws.{row-digit}
 use Rattle.rows.specs.Held.{pendingIn}
-use Rattle.simulation.specs.Calls.{Label, Scan, Idle, Update, End, Entry, entry, Phase, Process, Rest}
+use Rattle.simulation.specs.Calls.{Label, Scan, Idle, Update, End, Phase, Process, Rest}
 use Rattle.simulation.specs.Machine.{Labelling, digits, stands, pendingAfter, LabelStep, stay, snap, update, relabelled, inPhase, begun, updated}
-use Rattle.simulation.specs.Machine.{changed, scanOf, carryOut}
+use Rattle.simulation.specs.Machine.{jobAt, changed, scanOf, carryOut}
 use Rattle.simulation.proofs.Labellings.{here-yes}
 use Rattle.moves.specs.Moves.{moveOf}
 use Rattle.moves.specs.declared.Move.{Move}
@@ -27,17 +27,16 @@ use Rattle.moves.specs.declared.Move.the-variants as Moves
 use Rattle.moves.specs.declared.Move.the-variants.{Refused, BeginLabel, SnapLabel, SnapScan, EndLabel, EndScan}
 use Rattle.moves.specs.declared.Refusal.{Refusal}
 use Rattle.moves.specs.declared.Refusal.the-variants.{Accepted}
-use Rattle.arrays.specs.Arrays.{Rows, Planes, Arrays, arrays, cell, planes, phaseNumber, resultRows, resultOf, restOf, stateOf, jobsOf, arraysOf}
+use Rattle.arrays.specs.Arrays.{Rows, Planes, Arrays, arrays, cell, planes, phaseNumber, resultRows, entriesIn, restOf, stateOf, jobsOf, arraysOf}
 use Rattle.arrays.specs.Sizes.{Shaped}
-use Rattle.arrays.proofs.States.{rows-here, labels-back, jobs-back, control-back, results-back, written-held}
+use Rattle.arrays.proofs.Passed.{passed}
+use Rattle.arrays.proofs.Results.{station-most}
+use Rattle.arrays.proofs.States.{labels-back, jobs-back, control-back, results-back, written-held}
 use Rattle.engine.specs.Scans.{orderOf, scanRows}
-use Rattle.engine.specs.Contracts.{Prepared, shown, Performs, Carries}
+use Rattle.engine.proofs.Scanned.{put}
+use Rattle.engine.specs.Contracts.{Prepared, handsOut, Performs, Named, Carries}
 use Rattle.engine.specs.declared.Handed.{Handed}
 use Rattle.engine.specs.declared.Task.{Task}
-
--- plane f with x at place k
-abbrev put : {A : Type 0} → Lists.List (Lists.List A) → ℕ → ℕ → A → Lists.List (Lists.List A)
-put xs f k x = set xs f (set (getD xs f []) k x)
 
 -- a store in one of two planes
 module _ {A : Type 0} (f g : Bool → ℕ → A) (k : ℕ) (v : A) (h : k < 32) where
@@ -151,39 +150,12 @@ module _ {a : Arrays} {x : Task} {order : Lists.List ℕ} (s : Prepared a x orde
   -- RESULTS
 
   -- the rows of what a scan stores
-  scan-written : order ≡ orderOf n rows → scanRows n order (getD (a .jobs) 0 []) ≡ resultRows (scanOf (restOf a) sorted)
-  unfolding scanOf
-  scan-written e = ap₂ (λ b c. b ∷ c ∷ []) (tabulate-same 32 0 _ _ (λ p _. station p)) (tabulate-same 32 0 _ _ (λ p _. job p))
-    where
-      entryFor : ℕ → Entry
-      entryFor i = entry (suc i) (restOf a .process i .job)
-
-      listed : Lists.List Entry
-      listed = map entryFor sorted
-
-      long : length sorted ≡ n
-      long = ordered-length (stands (digits n) labels) n
-
-      inside : (p : ℕ) → p < n → getD listed p (entry 0 0) ≡ entryFor (getD order p 0)
-      inside p u = getD-any listed p (entry 0 0) (entryFor 0) (rw (length-map sorted entryFor) (omega (arith, long)))
-          ∙ List·getD-map entryFor sorted p 0
-          ∙ ap entryFor (sym (ap (λ (q : Lists.List ℕ). getD q p 0) e ∙ List·getD-append sorted (replicate (32 - n) 0) 0 p (omega (arith, long))))
-
-      outside : (p : ℕ) → n ≤ p → getD listed p (entry 0 0) ≡ entry 0 0
-      outside p u = List·getD-eq-default listed (entry 0 0) (rw (length-map sorted entryFor) (omega (arith, long)))
-
-      station : (p : ℕ) → cond (ltb p n) (suc (getD order p 0)) 0 ≡ getD listed p (entry 0 0) .station
-      station p = by-cases (decLt p n)
-          (λ u. rw (lt-ltb p n u) (sym (ap (λ (x : Entry). x .station) (inside p u))))
-          (λ u. rw (le-ltb p n (omega arith)) (sym (ap (λ (x : Entry). x .station) (outside p (omega arith)))))
-
-      job : (p : ℕ) → cond (ltb p n) (getD (getD (a .jobs) 0 []) (getD order p 0) 0) 0 ≡ getD listed p (entry 0 0) .job
-      job p = by-cases (decLt p n)
-          (λ u. rw (lt-ltb p n u) (sym (ap (λ (x : Entry). x .job) (inside p u))))
-          (λ u. rw (le-ltb p n (omega arith)) (sym (ap (λ (x : Entry). x .job) (outside p (omega arith)))))
+  scan-written : order ≡ orderOf n rows → scanRows n order (getD (a .jobs) 0 []) ≡ resultRows (scanOf (jobAt (restOf a)) sorted)
+  scan-written e = ap (λ l. resultRows (scanOf (jobAt (restOf a)) l))
+      (ap (take n) e ∙ take-at sorted (replicate (32 - n) 0) n (ordered-length (stands (digits n) labels) n))
 
   results-scanned : order ≡ orderOf n rows → set (a .results) k (scanRows n order (getD (a .jobs) 0 [])) ≡ tabulate 32 0
-      (λ i. resultRows (cond (eqb i k) (scanOf (restOf a) sorted) (restOf a .result i)))
+      (λ i. resultRows (cond (eqb i k) (scanOf (jobAt (restOf a)) sorted) (restOf a .result i)))
   results-scanned e = ap (λ r. set r k (scanRows n order (getD (a .jobs) 0 []))) (sym (results-back a g (s .passed)))
       ∙ set-tabulate 32 k _ (λ i. resultRows (restOf a .result i)) _ (omega (arith, s .inside, s .high)) (scan-written e ∙ rw (here-yes k) refl)
       (λ i _ d. rw (ne-eqb i k d) refl)
@@ -200,10 +172,15 @@ module _ {a : Arrays} {x : Task} {order : Lists.List ℕ} (s : Prepared a x orde
   -- THE MOVES
 
   -- a task is carried out if its move is
-  carried : {m : Move} {a′ : Arrays} {r r′ : Handed} → x .action ≡ m → r ≡ r′ → Performs a k (moveOf k (x .job) m) a′ r′ → r′ .entries ≡ shown n m
-      → Carries a x a′ r
-  carried {a′ = a′} {r′ = r′} e d f h = subst (Carries a x a′) (sym d)
-      (subst (λ w. Performs a k (moveOf k (x .job) w) a′ r′) (sym e) f, h ∙ ap (shown n) (sym e))
+  carried : {m : Move} {a′ : Arrays} {r r′ : Handed} → x .action ≡ m → r ≡ r′ → Performs a k (moveOf k (x .job) m) a′ r′ → r′ .entries ≡ handsOut (x .shown) m
+      → Named (r′ .entries) (getD (a′ .results) k []) → Carries a x a′ r
+  carried {a′ = a′} {r′ = r′} e d f h l = subst (Carries a x a′) (sym d)
+      (subst (λ w. Performs a k (moveOf k (x .job) w) a′ r′) (sym e) f, h ∙ ap (handsOut (x .shown)) (sym e), l)
+
+  -- and hands out nothing
+  quiet : {m : Move} {a′ : Arrays} {r r′ : Handed} → x .action ≡ m → r ≡ r′ → Performs a k (moveOf k (x .job) m) a′ r′ → r′ .entries ≡ 0
+      → 0 ≡ handsOut (x .shown) m → Carries a x a′ r
+  quiet e d f z h = carried e d f (z ∙ h) (λ p l. absurd (omega (arith, z)))
 
   -- the move m is served, the arrays a′ are left, and nothing is handed out
   abbrev Accepts : Move → Arrays → Type 0
@@ -211,36 +188,36 @@ module _ {a : Arrays} {x : Task} {order : Lists.List ℕ} (s : Prepared a x orde
 
   pub refused : {r : Handed} {f : Refusal} → x .action ≡ Refused f → r ≡ record { refusal = f; place = k; entries = 0 } → Carries a x a r
   unfolding carryOut relabelled tabulate
-  refused e d = carried e d (record { table = sym (written-held a g (s .passed)); number = refl; place = refl; handed = refl }) refl
+  refused e d = quiet e d (record { table = sym (written-held a g (s .passed)); number = refl; place = refl; handed = refl }) refl refl
 
   pub begins-label : Accepts BeginLabel (arrays n (a .labels) (put (a .jobs) 1 k (x .job)) (put (a .control) 0 k 1) (a .results))
   unfolding carryOut tabulate
-  begins-label r e d = carried e d
-      (record { table = record-changed stay (begun (x .job)) 1 labels-stay jobs-begun refl; number = refl; place = refl; handed = refl }) refl
+  begins-label r e d = quiet e d
+      (record { table = record-changed stay (begun (x .job)) 1 labels-stay jobs-begun refl; number = refl; place = refl; handed = refl }) refl refl
 
   pub snaps-label : {p : Lists.List ℕ} → p ≡ pendingIn n rows k (cell (a .labels) 1 k [])
       → Accepts SnapLabel (arrays n (put (a .labels) 1 k p) (a .jobs) (put (a .control) 0 k 2) (a .results))
   unfolding carryOut tabulate
   snaps-label q r e d =
       let l = ap (put (a .labels) 1 k) q ∙ labels-snap in
-      carried e d (record { table = record-changed (snap k) (inPhase Update) 2 l (jobs-stay Update) refl; number = refl; place = refl; handed = refl }) refl
+      quiet e d (record { table = record-changed (snap k) (inPhase Update) 2 l (jobs-stay Update) refl; number = refl; place = refl; handed = refl }) refl refl
 
   pub snaps-scan : {q : Rows} → q ≡ scanRows n order (getD (a .jobs) 0 [])
       → Accepts SnapScan (arrays n (a .labels) (a .jobs) (put (a .control) 0 k 4) (set (a .results) k q))
   unfolding carryOut tabulate arraysOf
-  snaps-scan q r e d = carried e d (record {
+  snaps-scan q r e d = quiet e d (record {
     table = λ y. arrays n (labels-stay y) (jobs-stay (End Scan) y) (phase-put (inPhase (End Scan)) 4 refl y)
         ((ap (set (a .results) k) q ∙ results-scanned (s .isOrder e)) y);
     number = refl;
     place = refl;
     handed = refl;
-  }) refl
+  }) refl refl
 
   pub updates : Accepts Moves.Update
       (arrays n (put (a .labels) 0 k (cell (a .labels) 1 k [])) (put (a .jobs) 0 k (cell (a .jobs) 1 k 0)) (put (a .control) 0 k 3) (a .results))
   unfolding carryOut tabulate
-  updates r e d = carried e d
-      (record { table = record-changed (update k) updated 3 labels-update jobs-updated refl; number = refl; place = refl; handed = refl }) refl
+  updates r e d = quiet e d
+      (record { table = record-changed (update k) updated 3 labels-update jobs-updated refl; number = refl; place = refl; handed = refl }) refl refl
 
   -- the end of an operation, in the arrays
   ended : arrays n (a .labels) (a .jobs) (put (a .control) 0 k 0) (a .results)
@@ -249,14 +226,18 @@ module _ {a : Arrays} {x : Task} {order : Lists.List ℕ} (s : Prepared a x orde
 
   pub ends-label : Accepts EndLabel (arrays n (a .labels) (a .jobs) (put (a .control) 0 k 0) (a .results))
   unfolding carryOut tabulate
-  ends-label r e d = carried e d (record { table = ended; number = refl; place = refl; handed = refl }) refl
+  ends-label r e d = quiet e d (record { table = ended; number = refl; place = refl; handed = refl }) refl refl
 
-  pub ends-scan : {r : Handed} → x .action ≡ EndScan → r ≡ record { refusal = Accepted; place = k; entries = n }
+  pub ends-scan : {r : Handed} → x .action ≡ EndScan → r ≡ record { refusal = Accepted; place = k; entries = x .shown }
       → Carries a x (arrays n (a .labels) (a .jobs) (put (a .control) 0 k 0) (a .results)) r
   unfolding carryOut
   ends-scan e d = carried e d (record {
     table = ended;
     number = refl;
     place = refl;
-    handed = ap (resultOf n) (rows-here a g (s .passed) k (omega (arith, s .inside, s .high)));
-  }) refl
+    handed = ap (λ j. entriesIn j (getD (a .results) k [])) (sym (s .isShown e));
+  }) refl (λ p h. omega (
+    arith,
+    station-most n (getD (a .results) k []) (passed a (s .passed) .each k (s .inside) .result) p (omega (arith, s .isShown e)),
+    s .high,
+  ))

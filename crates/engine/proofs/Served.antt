@@ -2,34 +2,36 @@
 use Prim.Native.Nat.{ℕ, _-_, _*_, _≤_, _<_}
 use native.Mathlib.Omega.{arith}
 use mathlib.Core.Path.{_≡_, refl, sym, ap, subst, _∙_}
-use mathlib.Core.Bool.{Bool, true, false}
+use mathlib.Core.Bool.{Bool, true, false, not, cond}
 use mathlib.Core.List as Lists
 use mathlib.Core.List.{[], map}
-use lib.ListN.{length, getD, length-map}
+use lib.ListN.{length, getD, replicate, length-append, length-map}
+use lib.Dec.{eqb}
 use borrow.Author.Tests.{leb-true, le-leb}
-use Rattle.basics.specs.Tests.{within, newest, tabulate}
-use Rattle.basics.proofs.Facts.{length-tabulate}
+use Rattle.basics.specs.Tests.{within, newest, ordered, tabulate}
+use Rattle.basics.proofs.Facts.{last, ordered-length, length-tabulate}
 use Rattle.rows.specs.Held.{standsIn, Orderly}
 use Rattle.rows.proofs.OrderLaws.{listed-below, order-front}
 use Rattle.simulation.specs.Calls as Calls
 use Rattle.simulation.specs.Calls.{Room, Call, place, Entry, holds, judgeIn, judge, PanelRecord, reportLines, panelRecords, Report, size, written}
 use Rattle.simulation.specs.Machine.{digits, labelsAfter, answer, step}
-use Rattle.simulation.proofs.Judged.{Verdict, turned, begins, scans, updates, snaps, ends, judge-unknown-station, verdict}
+use Rattle.simulation.proofs.Judged.{Verdict, turned, begins, scans, updates, snaps, ends, judge-unknown-station, scan-ends, verdict}
 use Rattle.simulation.proofs.Reports.{records-length}
 use Rattle.transition.specs.Forms.{Form, TableAnswer, over, onto, answered, stepOf}
 use Rattle.transition.specs.Sequences.{Steps}
 use Rattle.transition.proofs.Theorem.{step-written, step-ill-formed}
 use Rattle.moves.specs.Moves.{refusalNumber, moveOf, called}
 use Rattle.moves.proofs.MoveLaws.{by-move, begun-job, place-below}
-use Rattle.arrays.specs.Arrays.{Rows, Arrays, cell, phaseFor, resultOf, restOf, stateOf}
+use Rattle.arrays.specs.Arrays.{Rows, Arrays, cell, phaseNumber, phaseFor, entriesIn, shownIn, restOf, stateOf}
 use Rattle.arrays.specs.WellFormed.{wellFormed}
 use Rattle.arrays.specs.Form.{lent}
 use Rattle.arrays.proofs.Passed.{passed, label-digits}
+use Rattle.arrays.proofs.States.{number-back}
 use Rattle.engine.specs.Scans.{orderOf}
-use Rattle.engine.specs.Contracts.{directly, callOf, actionOf, Prepared, shown, outcomeOf, Carries, Judges, Hands, rowOf, recordOf}
+use Rattle.engine.specs.Contracts.{directly, callOf, actionOf, Prepared, handsOut, due, outcomeOf, Named, Carries, Judges, Hands, rowOf, recordOf}
 use Rattle.engine.proofs.Reports.{result-length, records-read}
 use Rattle.moves.specs.declared.Move.{Move}
-use Rattle.moves.specs.declared.Move.the-variants.{BeginLabel, SnapLabel, SnapScan}
+use Rattle.moves.specs.declared.Move.the-variants.{BeginLabel, SnapLabel, SnapScan, EndScan}
 use Rattle.moves.specs.declared.Refusal.{Refusal}
 use Rattle.engine.specs.declared.Request.{Request}
 use Rattle.engine.specs.declared.Task.{Task}
@@ -39,16 +41,35 @@ use Rattle.engine.specs.declared.Handed.{Handed}
 pub orderly : (a : Arrays) → wellFormed a ≡ true → Orderly (a .count) (getD (a .labels) 0 [])
 orderly a e = let p = passed a e in record { low = p .low; high = p .high; valid = λ i l q h. label-digits a e false i q l h; free = p .free }
 
--- there is room for the entries that a judged move hands out
-abbrev Roomy : ℕ → Room → Calls.Move → Type 0
-Roomy n room (Calls.Move.refused x) = Unit {0}
-Roomy n room (Calls.Move.begins k job o) = Unit {0}
-Roomy n room (Calls.Move.updates k) = Unit {0}
-Roomy n room (Calls.Move.snaps k o) = Unit {0}
-Roomy n room (Calls.Move.ends k Calls.Label) = Unit {0}
-Roomy n room (Calls.Move.ends k Calls.Scan) = holds room n ≡ true
+-- a call is judged by the entries that are due as by all that its process has: where none are due, none are asked for
+due-same : (n k b : ℕ) (c : Call) → b ≤ 4 → judgeIn false n (due b k) (phaseFor b) c ≡ judgeIn false n k (phaseFor b) c
+unfolding judgeIn
+due-same n k b c h = ap (λ x. judgeIn false n (due x k) (phaseFor b) c) (sym (number-back b h)) ∙ go (phaseFor b)
+  where
+    go : (ph : Calls.Phase) → judgeIn false n (due (phaseNumber ph) k) ph c ≡ judgeIn false n k ph c
+    go Calls.Idle = refl
+    go (Calls.Snap o) = refl
+    go Calls.Update = refl
+    go (Calls.End Calls.Label) = refl
+    go (Calls.End Calls.Scan) = refl
 
-roomy : {n : ℕ} {c : Call} {ph : Calls.Phase} {w : Calls.Move} → Verdict n c ph w → Roomy n (c .room) w
+pub due-few : (b n : ℕ) (stations : Lists.List ℕ) → n ≤ 32 → due b (shownIn n stations) ≤ 32
+due-few b n stations h = go (eqb b 4)
+  where
+    go : (t : Bool) → cond t (shownIn n stations) 0 ≤ 32
+    go true = omega (arith, last n (λ p. not (eqb (getD stations p 0) 0)) .upto)
+    go false = omega arith
+
+-- there is room for the entries that a judged move hands out, where the result shows k
+abbrev Roomy : ℕ → Room → Calls.Move → Type 0
+Roomy k room (Calls.Move.refused x) = Unit {0}
+Roomy k room (Calls.Move.begins i job o) = Unit {0}
+Roomy k room (Calls.Move.updates i) = Unit {0}
+Roomy k room (Calls.Move.snaps i o) = Unit {0}
+Roomy k room (Calls.Move.ends i Calls.Label) = Unit {0}
+Roomy k room (Calls.Move.ends i Calls.Scan) = holds room k ≡ true
+
+roomy : {n k : ℕ} {c : Call} {ph : Calls.Phase} {w : Calls.Move} → Verdict n k c ph w → Roomy k (c .room) w
 roomy (turned x f) = tt
 roomy (begins own q) = tt
 roomy (scans own q) = tt
@@ -61,50 +82,74 @@ holds-none : (room : Room) → holds room 0 ≡ true
 holds-none (Calls.Buffer b) = le-leb 0 b (omega arith)
 holds-none (Calls.Panel r) = le-leb 0 r (omega arith)
 
-room-shown : (n k job : ℕ) (room : Room) (m : Move) → Roomy n room (moveOf k job m) → holds room (shown n m) ≡ true
-room-shown n k job room = by-move (λ m. Roomy n room (moveOf k job m) → holds room (shown n m) ≡ true)
+room-shown : (k i job : ℕ) (room : Room) (m : Move) → Roomy k room (moveOf i job m) → holds room (handsOut k m) ≡ true
+room-shown k i job room = by-move (λ m. Roomy k room (moveOf i job m) → holds room (handsOut k m) ≡ true)
     (λ x h. holds-none room) (λ h. holds-none room) (λ h. holds-none room) (λ h. holds-none room) (λ h. holds-none room) (λ h. holds-none room) (λ h. h)
 
-shown-few : (n : ℕ) → n ≤ 32 → (m : Move) → shown n m ≤ 32
-shown-few n h = by-move (λ m. shown n m ≤ 32) (λ x. omega arith) (omega arith) (omega arith) (omega arith) (omega arith) (omega arith) h
+shown-few : (k : ℕ) → k ≤ 32 → (m : Move) → handsOut k m ≤ 32
+shown-few k h = by-move (λ m. handsOut k m ≤ 32) (λ x. omega arith) (omega arith) (omega arith) (omega arith) (omega arith) (omega arith) h
 
-module _ (a : Arrays) (ok : wellFormed a ≡ true) (q : Request) (room : Room) (top : ℕ) (x : Task) (j : Judges (a .count) (a .control) q room top x) where
+module _ (a : Arrays) (ok : wellFormed a ≡ true) (q : Request) (room : Room) (top : ℕ) (x : Task)
+    (j : Judges (a .count) (a .control) (a .results) q room top x) where
   abbrev c : Call
   c = callOf q room
 
+  -- the caller's phase
+  abbrev number : ℕ
+  number = cell (a .control) 0 (x .place) 0
+
   abbrev ph : Calls.Phase
-  ph = phaseFor (cell (a .control) 0 (x .place) 0)
+  ph = phaseFor number
 
   pub inside : x .place < a .count
   inside = omega (arith, j .place, place-below (a .count) (q .station) (passed a ok .low))
 
+  known : number ≤ 4
+  known = passed a ok .each (x .place) inside .phase
+
+  -- the entries of the result there
+  abbrev shownHere : ℕ
+  shownHere = shownIn (a .count) (cell (a .results) (x .place) 0 [])
+
+  few : x .shown ≤ 32
+  few = omega (arith, j .shown, due-few number (a .count) (cell (a .results) (x .place) 0 []) (passed a ok .high))
+
+  shown-all : x .action ≡ EndScan → x .shown ≡ shownHere
+  shown-all e = j .shown ∙ ap (λ b. due b shownHere) (sym (number-back number known)
+      ∙ ap phaseNumber (scan-ends (verdict (a .count) (x .shown) c ph) (sym (j .action) ∙ ap (moveOf (x .place) (q .job)) e)))
+
   job-fits : x .action ≡ BeginLabel → x .job ≤ 4294967295
-  job-fits e = subst (λ k. k ≤ 4294967295) (sym (j .job)) (begun-job (a .count) ph c (x .place) (x .action) (j .action) e)
+  job-fits e = subst (λ k. k ≤ 4294967295) (sym (j .job)) (begun-job (a .count) (x .shown) ph c (x .place) (x .action) (j .action) e)
 
   -- what carrying out asks for, given the newest station and the scan order where they are needed
-  pub ready : {z : Task} (order : Lists.List ℕ) → z .action ≡ x .action → z .place ≡ x .place → z .job ≡ x .job
+  pub ready : {z : Task} (order : Lists.List ℕ) → z .action ≡ x .action → z .place ≡ x .place → z .job ≡ x .job → z .shown ≡ x .shown
       → (z .action ≡ SnapLabel → z .newest ≡ newest (a .count) (standsIn (a .count) (getD (a .labels) 0 [])))
       → (z .action ≡ SnapScan → order ≡ orderOf (a .count) (getD (a .labels) 0 [])) → Prepared a z order
-  ready order m k v w o = record {
+  ready order m k v d w o = record {
     passed = ok;
     high = passed a ok .high;
     inside = omega (arith, k, inside);
     jobFits = λ e. omega (arith, v, job-fits (sym m ∙ e));
     isNewest = w;
     isOrder = o;
+    isShown = λ e. d ∙ shown-all (sym m ∙ e) ∙ ap (λ i. shownIn (a .count) (cell (a .results) i 0 [])) (sym k);
   }
 
   -- the move is the one that the machine judges
   pub judged : actionOf x ≡ judge false (a .count) (restOf a) c
   judged = ap (λ v. moveOf (x .place) v (x .action)) (j .job) ∙ j .action ∙ go (within 1 (a .count) (q .station)) refl
     where
-      go : (b : Bool) → within 1 (a .count) (q .station) ≡ b → judgeIn false (a .count) ph c ≡ judge false (a .count) (restOf a) c
-      go true e = ap (λ k. judgeIn false (a .count) (phaseFor (cell (a .control) 0 k 0)) c) (j .place ∙ rw e refl)
-      go false e = let s = judge-unknown-station (a .count) c e in s .1 ph ∙ sym (s .1 (restOf a .process (place c) .phase))
+      at : ℕ → Calls.Move
+      at i = judgeIn false (a .count) (length (restOf a .result i)) (restOf a .process i .phase) c
 
-  has-room : holds room (shown (a .count) (x .action)) ≡ true
-  has-room = room-shown (a .count) (x .place) (q .job) room (x .action)
-      (subst (Roomy (a .count) room) (sym (j .action)) (roomy (verdict (a .count) c ph)))
+      go : (b : Bool) → within 1 (a .count) (q .station) ≡ b → judgeIn false (a .count) (x .shown) ph c ≡ judge false (a .count) (restOf a) c
+      go true e = ap (λ k. judgeIn false (a .count) k ph c) (j .shown) ∙ due-same (a .count) shownHere number c known
+          ∙ ap (λ k. judgeIn false (a .count) k ph c) (sym (length-tabulate shownHere 0 _)) ∙ ap at (j .place ∙ rw e refl)
+      go false e = let s = judge-unknown-station (a .count) c e in s .1 (x .shown) ph ∙ sym (s .1 _ (restOf a .process (place c) .phase))
+
+  has-room : holds room (handsOut (x .shown) (x .action)) ≡ true
+  has-room = room-shown (x .shown) (x .place) (q .job) room (x .action)
+      (subst (Roomy (x .shown) room) (sym (j .action)) (roomy (verdict (a .count) (x .shown) c ph)))
 
   -- so carrying it out is the step call
   pub served : {a′ : Arrays} {r : Handed} → Carries a x a′ r → Hands a c a′ r
@@ -118,10 +163,11 @@ module _ (a : Arrays) (ok : wellFormed a ≡ true) (q : Request) (room : Room) (
         number = p .number ∙ ap (λ (u : TableAnswer Arrays). u .refusal) s;
         place = p .place ∙ j .place ∙ rw ok refl;
         inside = omega (arith, p .place, inside, passed a ok .high);
-        few = omega (arith, f .1, shown-few n (passed a ok .high) (x .action));
+        few = omega (arith, f .1, shown-few (x .shown) few (x .action));
+        named = subst (λ k. Named (r .entries) (getD (a′ .results) k [])) (sym (p .place)) (f .2);
         room = ap (holds room) (f .1) ∙ has-room;
         report = sym (ap (λ (u : TableAnswer Arrays). u .report) s) ∙ ap (written (q .line) room)
-            (p .handed ∙ ap (λ k. resultOf (r .entries) (getD (a′ .results) k [])) (sym (p .place)));
+            (p .handed ∙ ap (λ k. entriesIn (r .entries) (getD (a′ .results) k [])) (sym (p .place)));
       }
     where
       n : ℕ
@@ -139,6 +185,7 @@ ill-formed a c r e d =
       place = rw e refl;
       inside = omega arith;
       few = omega arith;
+      named = λ p h. absurd (omega arith);
       room = holds-none (c .room);
       report = ap (λ (u : TableAnswer Arrays). u .report) s;
     }
@@ -147,7 +194,7 @@ ill-formed a c r e d =
 
 module _ {a a′ : Arrays} {c : Call} {r : Handed} (h : Hands a c a′ r) where
   abbrev entries : Lists.List Entry
-  entries = resultOf (r .entries) (getD (a′ .results) (r .place) [])
+  entries = entriesIn (r .entries) (getD (a′ .results) (r .place) [])
 
   -- to a buffer
   pub bytes-fit : (b : ℕ) → c .room ≡ Calls.Buffer b → r .entries * 29 ≤ b
@@ -191,7 +238,11 @@ pub steps-directly : (F : Form) {t t′ : F .Table} {r r′ : Report} {number k 
     → q ≡ directly code station job → Steps F t (callOf q room) r t′ number k r′ → Steps F t (called 0 code station job room) r t′ number k r′
 steps-directly F {t} {t′} {r} {r′} {number} {k} code station job room q e s = subst (λ (x : Request). Steps F t (callOf x room) r t′ number k r′) e s
 
--- the order that a scan is given has stations in it
+-- the order that a scan is given is long enough, and has stations in it
+pub order-long : {a : Arrays} {x : Task} {order : Lists.List ℕ} → Prepared a x order → x .action ≡ SnapScan → a .count ≤ length order
+order-long {a} s e = let b = standsIn (a .count) (getD (a .labels) 0 []) in
+    omega (arith, ap length (s .isOrder e), length-append (ordered (a .count) b) (replicate (32 - a .count) 0), ordered-length b (a .count))
+
 pub order-inside : {a : Arrays} {x : Task} {order : Lists.List ℕ} → Prepared a x order → x .action ≡ SnapScan
     → (p : ℕ) → p < a .count → getD order p 0 < 32
 order-inside {a} {order = order} s e p h = omega (

@@ -5,6 +5,7 @@ use mathlib.Core.Bool.{true, false, cond}
 use mathlib.Core.List as Lists
 use mathlib.Core.List.{[], _∷_}
 use lib.ListN.{getD}
+use lib.Dec.{eqb}
 use Rattle.basics.specs.Tests.{newest}
 use Rattle.label.specs.Labels as Labels
 use Rattle.rows.specs.Held.{standsIn}
@@ -14,7 +15,7 @@ use Rattle.simulation.specs.Machine as Machine
 use Rattle.simulation.specs.Machine.{digits, State, labelsAfter, outcome}
 use Rattle.transition.specs.Forms.{stepOf}
 use Rattle.moves.specs.Moves.{refusalNumber, moveOf, called, placeOf}
-use Rattle.arrays.specs.Arrays.{Rows, Arrays, cell, phaseFor, resultOf, stateOf, arraysOf}
+use Rattle.arrays.specs.Arrays.{Rows, Planes, Arrays, cell, phaseFor, entriesIn, shownIn, stateOf, arraysOf}
 use Rattle.arrays.specs.WellFormed.{wellFormed}
 use Rattle.arrays.specs.Form.{lent}
 use Rattle.engine.specs.Scans.{orderOf}
@@ -37,7 +38,8 @@ directly code station job = record { code = code; station = station; job = job; 
 abbrev pub actionOf : Task → Calls.Move
 actionOf x = moveOf (x .place) (x .job) (x .action)
 
--- what a task asks for: a well-formed table and a place in it; the job, the newest station and the scan order where its move needs them
+-- what a task asks for: a well-formed table and a place in it; the job, the newest station, the scan order and the entries of the result where its move needs
+-- them
 pub record Prepared (a : Arrays) (x : Task) (order : Lists.List ℕ) : Type 0 where
   pub passed : wellFormed a ≡ true
   pub high : a .count ≤ 32
@@ -45,16 +47,21 @@ pub record Prepared (a : Arrays) (x : Task) (order : Lists.List ℕ) : Type 0 wh
   pub jobFits : x .action ≡ BeginLabel → x .job ≤ 4294967295
   pub isNewest : x .action ≡ SnapLabel → x .newest ≡ newest (a .count) (standsIn (a .count) (getD (a .labels) 0 []))
   pub isOrder : x .action ≡ SnapScan → order ≡ orderOf (a .count) (getD (a .labels) 0 [])
+  pub isShown : x .action ≡ EndScan → x .shown ≡ shownIn (a .count) (cell (a .results) (x .place) 0 [])
 
--- how many entries a move hands out, of n stations
-abbrev pub shown : ℕ → Move → ℕ
-shown n (Refused r) = 0
-shown n BeginLabel = 0
-shown n SnapLabel = 0
-shown n SnapScan = 0
-shown n Moves.Update = 0
-shown n EndLabel = 0
-shown n EndScan = n
+-- how many entries a move hands out, where the result at its place shows k
+abbrev pub handsOut : ℕ → Move → ℕ
+handsOut k (Refused r) = 0
+handsOut k BeginLabel = 0
+handsOut k SnapLabel = 0
+handsOut k SnapScan = 0
+handsOut k Moves.Update = 0
+handsOut k EndLabel = 0
+handsOut k EndScan = k
+
+-- how many a process whose phase has this number may hand out
+abbrev pub due : ℕ → ℕ → ℕ
+due number k = cond (eqb number 4) k 0
 
 -- what the machine makes of the state that the arrays hold: the state after a move, and the outcome for what is not labels
 abbrev pub outcomeOf : Arrays → Calls.Move → Machine.Outcome
@@ -68,16 +75,22 @@ pub record Performs (a : Arrays) (k : ℕ) (w : Calls.Move) (a′ : Arrays) (r :
   pub table : a′ ≡ arraysOf (a .count) (stateAfter a w)
   pub number : refusalNumber (r .refusal) ≡ outcomeOf a w .refusal
   pub place : r .place ≡ k
-  pub handed : outcomeOf a w .handed ≡ resultOf (r .entries) (getD (a′ .results) k [])
+  pub handed : outcomeOf a w .handed ≡ entriesIn (r .entries) (getD (a′ .results) k [])
+
+-- the first k stations in rows are at most 32, as those of a well-formed table
+abbrev pub Named : ℕ → Rows → Type 0
+Named k rows = (p : ℕ) → p < k → cell rows 0 p 0 ≤ 32
 
 -- a task carried out
 abbrev pub Carries : Arrays → Task → Arrays → Handed → Type 0
-Carries a x a′ r = Performs a (x .place) (actionOf x) a′ r × (r .entries ≡ shown (a .count) (x .action))
+Carries a x a′ r =
+    Performs a (x .place) (actionOf x) a′ r × (r .entries ≡ handsOut (x .shown) (x .action)) × Named (r .entries) (getD (a′ .results) (x .place) [])
 
--- the call that q makes, judged on a table of n stations with these control bytes, room for its report and newest station: the task x
-pub record Judges (n : ℕ) (control : Rows) (q : Request) (room : Room) (top : ℕ) (x : Task) : Type 0 where
+-- the call that q makes, judged on a table of n stations with these control bytes and results, room for its report and newest station: the task x
+pub record Judges (n : ℕ) (control : Rows) (results : Planes) (q : Request) (room : Room) (top : ℕ) (x : Task) : Type 0 where
   pub place : x .place ≡ placeOf n (q .station)
-  pub action : moveOf (x .place) (q .job) (x .action) ≡ judgeIn false n (phaseFor (cell control 0 (x .place) 0)) (callOf q room)
+  pub shown : x .shown ≡ due (cell control 0 (x .place) 0) (shownIn n (cell results (x .place) 0 []))
+  pub action : moveOf (x .place) (q .job) (x .action) ≡ judgeIn false n (x .shown) (phaseFor (cell control 0 (x .place) 0)) (callOf q room)
   pub job : x .job ≡ q .job
   pub newest : x .newest ≡ top
 
@@ -92,8 +105,9 @@ pub record Hands (a : Arrays) (c : Call) (a′ : Arrays) (r : Handed) : Type 0 w
   pub place : r .place ≡ placeIn a c
   pub inside : r .place < 32
   pub few : r .entries ≤ 32
+  pub named : Named (r .entries) (getD (a′ .results) (r .place) [])
   pub room : holds (c .room) (r .entries) ≡ true
-  pub report : stepOf lent a c .report ≡ written (c .line) (c .room) (resultOf (r .entries) (getD (a′ .results) (r .place) []))
+  pub report : stepOf lent a c .report ≡ written (c .line) (c .room) (entriesIn (r .entries) (getD (a′ .results) (r .place) []))
 
 -- a record of a panel as three numbers
 abbrev pub rowOf : PanelRecord → Lists.List ℕ

@@ -13,11 +13,11 @@ ghost use Rattle.transition.specs.Sequences.{Steps};
 ghost use Rattle.moves.specs.Moves.{roomOf, refusalNumber};
 ghost use Rattle.moves.specs.declared.Move.the-variants.{SnapLabel, SnapScan};
 ghost use Rattle.moves.specs.declared.Refusal.the-variants.{Accepted};
-ghost use Rattle.arrays.specs.Arrays.{arrays, resultOf};
+ghost use Rattle.arrays.specs.Arrays.{arrays, entriesIn, shownIn};
 ghost use Rattle.arrays.specs.WellFormed.{wellFormed};
 ghost use Rattle.arrays.specs.Form.{lent};
 ghost use Rattle.engine.specs.Scans.{orderOf, scanRows};
-ghost use Rattle.engine.specs.Contracts.{directly, callOf, Prepared, Carries, Judges, Hands, rowOf, recordOf};
+ghost use Rattle.engine.specs.Contracts.{directly, callOf, Prepared, due, Named, Carries, Judges, Hands, rowOf, recordOf};
 use arrays::Control;
 use arrays::END_LABEL;
 use arrays::END_SCAN;
@@ -64,12 +64,13 @@ pub fn direct(code: u64, station: u64, job: u64) -> Request
     }
 }
 
-// A call that has been judged: its move, the place of its station, its job, and the newest station.
+// A call that has been judged: its move, the place of its station, its job, the newest station, and how many entries the end of a scan hands out.
 pub struct Task {
     pub action: Move,
     pub place: usize,
     pub job: u64,
     pub newest: usize,
+    pub shown: usize,
 }
 
 // What a call hands out, before it is written anywhere: its refusal, and so many entries of the scan result at a place.
@@ -79,43 +80,48 @@ pub struct Handed {
     pub entries: usize,
 }
 
-// The first n stations of an order, from 1, with their jobs; nothing past them.
-fn scan_result(order: &[usize; 32], jobs: &[u32; 32], n: usize) -> [[u32; 32]; 2]
-    requires { ⌜ n ≤ 32 ⌝ }
+// The result of a scan of the first n stations of an order: those that have a job.
+fn scan_result(order: &[usize; 32], jobs: &[u32; 32], n: usize, rows: &mut [[u32; 32]; 2])
+    requires { ⌜ (n ≤ 32) × (n ≤ length (now order)) ⌝ }
     requires { ⌜ ((p : ℕ) → p < n → getD (now order) p 0 < 32) ⌝ }
-    ensures { λ r. ⌜ r ≡ scanRows n (now (order .entry)) (now (jobs .entry)) ⌝ }
+    ensures { λ _. ⌜ now (rows .exit) ≡ scanRows n (now (order .entry)) (now (jobs .entry)) ⌝ }
 {
-    let mut stations = [0u32; 32];
-    let mut listed = [0u32; 32];
+    *rows = [[0u32; 32]; 2];
+    let mut k: usize = 0;
     let mut p: usize = 0;
     while p < n {
         let i = order[p];
-        stations[p] = (i + 1) as u32;
-        listed[p] = jobs[i];
+        let job = jobs[i];
+        if job != 0 {
+            rows[0][k] = (i + 1) as u32;
+            rows[1][k] = job;
+            k += 1;
+        }
         p += 1;
     }
-    [stations, listed]
 }
 
-// Writes the report lines of the first k entries of a scan result to the front of `out`, and hands back their bytes.
+// Writes the report lines of the first k entries of a scan result to the front of `out`, and hands back their bytes. The head is read anew for each line:
+// kept in a local it is stored byte by byte.
 pub fn write_result(rows: &[[u32; 32]; 2], k: usize, line: u64, out: &mut [u8]) -> usize
     requires { ⌜ k ≤ 32 ⌝ }
+    requires { ⌜ Named k (now rows) ⌝ }
     requires { ⌜ k * 29 ≤ length (now out) ⌝ }
     ensures { λ r. ⌜ r ≡ k * 29 ⌝ }
-    ensures { λ _. ⌜ now (out .exit) ≡ over (reportLines line 1 (resultOf k (now (rows .entry)))) (now (out .entry)) ⌝ }
+    ensures { λ _. ⌜ now (out .exit) ≡ over (reportLines line 1 (entriesIn k (now (rows .entry)))) (now (out .entry)) ⌝ }
 {
     if k == 0 {
         return 0;
     }
-    let mut head = [0u8; 11];
-    columns::write_head(&mut head, line, 0);
+    columns::write_head(&mut out[0..11], line, 0);
     let mut p = 0;
     while p < k {
         let at = p * 29;
+        let head = columns::head_of(out);
         columns::write_listed_line(
             &mut out[at..at + 29],
             head,
-            p as u64 + 1,
+            (p + 1) as u32,
             rows[0][p],
             rows[1][p],
         );
@@ -128,7 +134,7 @@ pub fn write_result(rows: &[[u32; 32]; 2], k: usize, line: u64, out: &mut [u8]) 
 fn fill(rows: &[[u32; 32]; 2], k: usize, panel: &mut [[u32; 3]])
     requires { ⌜ k ≤ 32 ⌝ }
     requires { ⌜ k ≤ length (now panel) ⌝ }
-    ensures { λ _. ⌜ now (panel .exit) ≡ over (map rowOf (panelRecords 1 (resultOf k (now (rows .entry))))) (now (panel .entry)) ⌝ }
+    ensures { λ _. ⌜ now (panel .exit) ≡ over (map rowOf (panelRecords 1 (entriesIn k (now (rows .entry))))) (now (panel .entry)) ⌝ }
 {
     let mut i: usize = 0;
     while i < k {
@@ -190,7 +196,7 @@ pub fn carry_out(
             accepted(place, 0)
         }
         Move::SnapScan => {
-            results[place] = scan_result(order, &jobs[CURRENT], n);
+            scan_result(order, &jobs[CURRENT], n, &mut results[place]);
             control[PHASE][place] = END_SCAN;
             accepted(place, 0)
         }
@@ -206,25 +212,47 @@ pub fn carry_out(
         }
         Move::EndScan => {
             control[PHASE][place] = IDLE;
-            accepted(place, n)
+            accepted(place, task.shown)
         }
     }
 }
 
+// How many entries a station whose phase has this number may hand out: none but at the end of a scan.
+fn due_entries(phase: u8, n: usize, stations: &[u32; 32]) -> usize
+    requires { ⌜ n ≤ 32 ⌝ }
+    ensures { λ r. ⌜ r ≡ due phase (shownIn n (now (stations .entry))) ⌝ }
+{
+    if phase == END_SCAN {
+        arrays::shown_in(n, stations)
+    } else {
+        0
+    }
+}
+
 // Judges a call on a table of n stations with what is lent for its report; `top` is the newest station, as far as it is known.
-pub fn judge(n: usize, q: Request, control: &Control, room: Room, top: usize) -> Task
+pub fn judge(
+    n: usize,
+    q: Request,
+    control: &Control,
+    results: &Results,
+    room: Room,
+    top: usize,
+) -> Task
     requires { ⌜ (2 ≤ n) × (n ≤ 32) ⌝ }
-    ensures { λ r. ⌜ Judges n (now (control .entry)) q (roomOf room) top r ⌝ }
+    ensures { λ r. ⌜ Judges n (now (control .entry)) (now (results .entry)) q (roomOf room) top r ⌝ }
 {
     let station = q.station;
     let job = q.job;
     let place = moves::place_of(station, n);
-    let phase = arrays::phase_of(control[PHASE][place]);
+    let number = control[PHASE][place];
+    let phase = arrays::phase_of(number);
+    let shown = due_entries(number, n, &results[place][0]);
     Task {
-        action: moves::judge(n, phase, q.code, station, job, room),
+        action: moves::judge(n, shown, phase, q.code, station, job, room),
         place,
         job,
         newest: top,
+        shown,
     }
 }
 
@@ -266,7 +294,7 @@ fn serve(
     ensures { λ r. ⌜ Hands (arrays n (now (labels .entry)) (now (jobs .entry)) (now (control .entry)) (now (results .entry)))
         (callOf request (roomOf room)) (arrays n (now (labels .exit)) (now (jobs .exit)) (now (control .exit)) (now (results .exit))) r ⌝ }
 {
-    let mut task = judge(n, request, control, room, 0);
+    let mut task = judge(n, request, control, results, room, 0);
     let m = task.action;
     task.newest = newest_for(m, &labels[CURRENT], n);
     let order = order_for(m, &labels[CURRENT], n);

@@ -25,7 +25,7 @@ use Rattle.moves.specs.Moves.{refusalNumber, moveOf}
 use Rattle.moves.proofs.MoveLaws.{by-move}
 use Rattle.moves.specs.declared.Move.{Move}
 use Rattle.moves.specs.declared.Move.the-variants.{Update}
-use Rattle.arrays.specs.Arrays.{Arrays, resultOf, stateOf, arraysOf}
+use Rattle.arrays.specs.Arrays.{Arrays, entriesIn, stateOf, arraysOf}
 use Rattle.arrays.specs.WellFormed.{wellFormed}
 use Rattle.arrays.specs.Form.{lent}
 use Rattle.arrays.proofs.States.{lent-lawful}
@@ -82,7 +82,7 @@ module _ {a : Arrays} {order : Lists.List ℕ} (f : Runnable a order) where
   pub run-newest : getD order (n - 1) 0 ≡ newest n (standsIn n (getD (a .labels) 0 []))
   run-newest = last-newest n _ order (orderly-total n _ run-orderly) (omega (arith, f .low)) (order-front 32 _ n order (f .isOrder))
 
-  module _ {q : Request} {x : Task} (j : Judges n (a .control) q (Buffer 928) (getD order (n - 1) 0) x) where
+  module _ {q : Request} {x : Task} (j : Judges n (a .control) (a .results) q (Buffer 928) (getD order (n - 1) 0) x) where
     abbrev c : Call
     c = callOf q (Buffer 928)
 
@@ -90,7 +90,7 @@ module _ {a : Arrays} {order : Lists.List ℕ} (f : Runnable a order) where
     line-place = Served.inside a run-passes q (Buffer 928) _ x j
 
     pub line-ready : Prepared a x order
-    line-ready = ready a run-passes q (Buffer 928) _ x j order refl refl refl (λ _. j .newest ∙ run-newest) (λ _. f .isOrder)
+    line-ready = ready a run-passes q (Buffer 928) _ x j order refl refl refl refl (λ _. j .newest ∙ run-newest) (λ _. f .isOrder)
 
     module _ {a′ : Arrays} {h : Handed} (g : Carries a x a′ h) where
       hands : Hands a c a′ h
@@ -145,10 +145,10 @@ module _ {a : Arrays} {order : Lists.List ℕ} (f : Runnable a order) where
       line-fits = (hands .few, bytes-fit hands 928 refl)
 
       abbrev lines : Lists.List ℕ
-      lines = reportLines (q .line) 1 (resultOf (h .entries) (getD (a′ .results) (x .place) []))
+      lines = reportLines (q .line) 1 (entriesIn (h .entries) (getD (a′ .results) (x .place) []))
 
       told : bytesOf (stepOf lent a c .report) ≡ lines
-      told = ap bytesOf (hands .report) ∙ ap (λ k. reportLines (q .line) 1 (resultOf (h .entries) (getD (a′ .results) k []))) (g .0 .place)
+      told = ap bytesOf (hands .report) ∙ ap (λ k. reportLines (q .line) 1 (entriesIn (h .entries) (getD (a′ .results) k []))) (g .0 .place)
 
       -- a refused line hands out nothing
       none : refusalNumber (h .refusal) ≢ 0 → lines ≡ []

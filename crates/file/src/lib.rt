@@ -109,7 +109,14 @@ fn serve_line(
         (arrays n (now (labels .exit)) (now (jobs .exit)) (now (control .exit)) (now (results .exit))) r (now (out .exit)) ⌝ }
     ensures { λ _. ⌜ Runnable (arrays n (now (labels .exit)) (now (jobs .exit)) (now (control .exit)) (now (results .exit))) (now (order .exit)) ⌝ }
 {
-    let task = engine::judge(n, request, control, Room::Buffer(ROOM), order[n - 1]);
+    let task = engine::judge(
+        n,
+        request,
+        control,
+        results,
+        Room::Buffer(ROOM),
+        order[n - 1],
+    );
     let h = engine::carry_out(n, task, order, labels, jobs, control, results);
     let m = task.action;
     let place = task.place;

@@ -36,8 +36,9 @@ pub not-among : (tags : List ℕ) (x : Move) → T (not (hasKey tags (tagOf the-
 not-among tags x out m h e = miss tags (tagOf the-type x) out (subst (λ y. OneOf tags (tagOf the-type y)) e h)
 
 -- a label operation that is judged to begin has a job of 32 bits
-pub begun-job : (n : ℕ) (ph : Calls.Phase) (c : Call) (k : ℕ) (m : Move) → moveOf k (c .job) m ≡ judgeIn false n ph c → m ≡ BeginLabel → c .job ≤ 4294967295
-begun-job n ph c k m h e = begin-fits (verdict n c ph) (sym h ∙ ap (moveOf k (c .job)) e)
+pub begun-job : (n shown : ℕ) (ph : Calls.Phase) (c : Call) (k : ℕ) (m : Move) → moveOf k (c .job) m ≡ judgeIn false n shown ph c → m ≡ BeginLabel
+    → c .job ≤ 4294967295
+begun-job n shown ph c k m h e = begin-fits (verdict n shown c ph) (sym h ∙ ap (moveOf k (c .job)) e)
 
 -- the place of a station that there is, and of one that there is not
 pub place-below : (n station : ℕ) → 2 ≤ n → placeOf n station < n

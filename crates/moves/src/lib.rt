@@ -79,14 +79,14 @@ pub enum Move {
     EndScan,
 }
 
-// Whether there is room for n stations.
-fn room_for(n: usize, room: Room) -> bool
-    requires { ⌜ n ≤ 32 ⌝ }
-    ensures { λ r. ⌜ r ≡ holds (roomOf room) n ⌝ }
+// Whether there is room for so many stations.
+fn room_for(shown: usize, room: Room) -> bool
+    requires { ⌜ shown ≤ 32 ⌝ }
+    ensures { λ r. ⌜ r ≡ holds (roomOf room) shown ⌝ }
 {
     match room {
-        Room::Buffer(bytes) => n * 29 <= bytes,
-        Room::Panel(records) => n <= records,
+        Room::Buffer(bytes) => shown * 29 <= bytes,
+        Room::Panel(records) => shown <= records,
     }
 }
 
@@ -107,11 +107,11 @@ fn not_due(code: u64) -> Move
     Move::Refused(Refusal::NothingToEnd)
 }
 
-// What a known step with a fitting job amounts to, by the phase of its station.
-fn by_phase(n: usize, code: u64, room: Room, p: Phase) -> Move
-    requires { ⌜ n ≤ 32 ⌝ }
+// What a known step with a fitting job amounts to, by the phase of its station and how many stations its scan result shows.
+fn by_phase(shown: usize, code: u64, room: Room, p: Phase) -> Move
+    requires { ⌜ shown ≤ 32 ⌝ }
     requires { ⌜ code ≤ 5 ⌝ }
-    ensures { λ r. ⌜ ((line station job : ℕ) → moveOf (station - 1) job r ≡ byPhase false n (called line code station job (roomOf room)) (phaseOf p)) ⌝ }
+    ensures { λ r. ⌜ ((line station job : ℕ) → moveOf (station - 1) job r ≡ byPhase false shown (called line code station job (roomOf room)) (phaseOf p)) ⌝ }
 {
     match p {
         Phase::Idle => {
@@ -146,7 +146,7 @@ fn by_phase(n: usize, code: u64, room: Room, p: Phase) -> Move
                 if code != 5 {
                     return not_due(code);
                 }
-                if room_for(n, room) {
+                if room_for(shown, room) {
                     Move::EndScan
                 } else {
                     Move::Refused(Refusal::NoRoom)
@@ -157,11 +157,11 @@ fn by_phase(n: usize, code: u64, room: Room, p: Phase) -> Move
 }
 
 // What a known step of one of n stations amounts to: its job is judged first, and then the phase.
-fn by_code(n: usize, code: u64, job: u64, room: Room, p: Phase) -> Move
-    requires { ⌜ n ≤ 32 ⌝ }
+fn by_code(shown: usize, code: u64, job: u64, room: Room, p: Phase) -> Move
+    requires { ⌜ shown ≤ 32 ⌝ }
     requires { ⌜ code ≤ 5 ⌝ }
     ensures { λ r. ⌜ ((line station : ℕ) → moveOf (station - 1) job r ≡ unless (jobFits code job) 11
-        (byPhase false n (called line code station job (roomOf room)) (phaseOf p))) ⌝ }
+        (byPhase false shown (called line code station job (roomOf room)) (phaseOf p))) ⌝ }
 {
     if code == 1 {
         if job < 1 {
@@ -170,18 +170,26 @@ fn by_code(n: usize, code: u64, job: u64, room: Room, p: Phase) -> Move
         if 4294967295 < job {
             return Move::Refused(Refusal::JobOutOfRange);
         }
-        return by_phase(n, code, room, p);
+        return by_phase(shown, code, room, p);
     }
     if job != 0 {
         return Move::Refused(Refusal::JobOutOfRange);
     }
-    by_phase(n, code, room, p)
+    by_phase(shown, code, room, p)
 }
 
-// What a call amounts to for a station in this phase, of n stations.
-pub fn judge(n: usize, p: Phase, code: u64, station: u64, job: u64, room: Room) -> Move
-    requires { ⌜ n ≤ 32 ⌝ }
-    ensures { λ r. ⌜ ((line : ℕ) → moveOf (placeOf n station) job r ≡ judgeIn false n (phaseOf p) (called line code station job (roomOf room))) ⌝ }
+// What a call amounts to for a station in this phase, of n stations, whose scan result shows so many.
+pub fn judge(
+    n: usize,
+    shown: usize,
+    p: Phase,
+    code: u64,
+    station: u64,
+    job: u64,
+    room: Room,
+) -> Move
+    requires { ⌜ shown ≤ 32 ⌝ }
+    ensures { λ r. ⌜ ((line : ℕ) → moveOf (placeOf n station) job r ≡ judgeIn false n shown (phaseOf p) (called line code station job (roomOf room))) ⌝ }
 {
     if code < 1 {
         return Move::Refused(Refusal::UnknownStep);
@@ -195,7 +203,7 @@ pub fn judge(n: usize, p: Phase, code: u64, station: u64, job: u64, room: Room) 
     if (n as u64) < station {
         return Move::Refused(Refusal::UnknownStation);
     }
-    by_code(n, code, job, room, p)
+    by_code(shown, code, job, room, p)
 }
 
 // The place of a station of n, from 0; that of the first if there is no such station.

@@ -1,5 +1,5 @@
 -- A panel that is filled from the front, one record at a time.
-use Prim.Native.Nat.{ℕ, zero, suc, _+_, _≤_, _<_, min}
+use Prim.Native.Nat.{ℕ, zero, suc, _≤_, _<_, min}
 use native.Mathlib.Nat.{zero-add, not-suc-le-zero, le-of-suc-le-suc, zero-min, min-zero, suc-min-suc}
 use native.Mathlib.Omega.{arith}
 use native.Mathlib.Numerals.{add-one}

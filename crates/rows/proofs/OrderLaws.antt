@@ -13,7 +13,8 @@ use lib.Dec.{eqb}
 use borrow.Author.Tests.{eqb-true, eqb-false}
 use Rattle.basics.specs.Tests.{firstFrom, inserted, newest, ordered, All}
 use Rattle.label.specs.Labels.{labelBefore}
-use Rattle.basics.proofs.Facts.{First, first, all-at, each-all, ordered-all, ordered-each, inserted-length, ordered-length, without, without-all}
+use Rattle.basics.proofs.Facts.{First, first, all-at, each-all, ordered-all, ordered-each, inserted-length, ordered-length}
+use Rattle.basics.proofs.Passing.{without, without-all}
 use Rattle.label.proofs.RowLaws.{ringless}
 use Rattle.label.proofs.Total.{Total, total, newest-only, one-way, other-way, Sorted, ordered-sorted, without-sorted, without-at, without-alike, put-back}
 use Rattle.rows.specs.Held.{held, standsIn, Orderly, OrderedBefore}

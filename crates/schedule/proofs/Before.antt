@@ -244,5 +244,5 @@ lists-as-before F L bs f = ap listed (same-report F (asStates original) L states
 
     go : (h : Header) → headerRead (take 18 bs) ≡ h → listed (fileReport (asStates original) bs) ≡ listed (fileReport (asStates apart) bs)
     go (Headers.Refused r) e = ap lists (file-refused (asStates original) bs r e) ∙ sym (ap lists (file-refused (asStates apart) bs r e))
-    go (Stations n) e = ap lists (file-served (asStates original) bs n e) ∙ agree n (stepLines bs) f 1 (fresh (λ p. 1) n)
+    go (Stations n) e = ap lists (file-served (asStates original) bs n e) ∙ agree n (stepLines bs) f 1 (fresh (λ p. 1))
         ∙ sym (ap lists (file-served (asStates apart) bs n e))

@@ -79,10 +79,11 @@ module _ (F : Form) (L : Lawful F) (n : ℕ) (low : 2 ≤ n) (high : n ≤ 32) w
   unfolding run
   never-short [] h t r = tt
   never-short (c ∷ cs) h t r =
-      (λ z. tf (enough c (h .0)) (table-refusals F L n low high t r c .short z), never-short cs (h .1) (stepOf F t c .table) (table-step F L n low high t r c))
+      let f = table-refusals F L n low high t r c in
+      (λ z. tf (enough (f .0) (f .1)) (f .2 .short z), never-short cs (h .1) (stepOf F t c .table) (table-step F L n low high t r c))
     where
-      enough : (c : Call) → c .room ≡ Buffer 928 → holds (c .room) n ≡ true
-      enough c e = ap (λ r. holds r n) e ∙ le-leb (n * 29) 928 (omega arith)
+      enough : (k : ℕ) → k ≤ n → holds (c .room) k ≡ true
+      enough k l = ap (λ r. holds r k) (h .0) ∙ le-leb (k * 29) 928 (omega arith)
 
 lines-roomy : (lines : ℕ) (ls : Lists.List (Lists.List ℕ)) → All (λ c. c .room ≡ Buffer 928) (stepCalls lines (map roomy ls))
 unfolding stepCalls

@@ -232,17 +232,17 @@ module _ {A : Type 0} {n : ℕ} {r : Rules A} {a₀ : A} {Able : LabelStep → T
 -- Numbers ns for calls on fresh states: one for each accepted snap for a label, and each fits; with them both machines show the same; none is left out
 -- from 1 to the highest; and no number, current or pending, ever exceeds the count of these snaps.
 pub record Numbers {A : Type 0} (B : Board) (n : ℕ) (r : Rules A) (a : A) (cs : Lists.List Call) (ns : Lists.List ℕ) : Type 0 where
-  pub each : length ns ≡ snaps B n (λ _. r) (fresh a n) [] cs
-  pub fits : Fits B n (snaps B n (λ _. r) (fresh a n) [] cs) (fresh 0 n) ns cs
-  pub same : map (seen n) (run B n (λ _. r) (fresh a n) [] cs) ≡ map (seen n) (run B n numbered (fresh 0 n) ns cs)
-  pub bound : All (Bounded n (snaps B n (λ _. r) (fresh a n) [] cs)) (run B n numbered (fresh 0 n) ns cs)
+  pub each : length ns ≡ snaps B n (λ _. r) (fresh a) [] cs
+  pub fits : Fits B n (snaps B n (λ _. r) (fresh a) [] cs) (fresh 0) ns cs
+  pub same : map (seen n) (run B n (λ _. r) (fresh a) [] cs) ≡ map (seen n) (run B n numbered (fresh 0) ns cs)
+  pub bound : All (Bounded n (snaps B n (λ _. r) (fresh a) [] cs)) (run B n numbered (fresh 0) ns cs)
   pub gapless : Gapless ns
 
 -- THE SEQUENCE THEOREM: the numbers that the pass finds are such, for every sequence of calls
 pub finds : {A : Type 0} {n : ℕ} {r : Rules A} {a : A} {Able : LabelStep → Type 0} (L : Simulable n r a Able) (B : Board)
     → ((o : Rest) (c : Call) → Able (labelStep (B .judge n o c))) → (cs : Lists.List Call)
-    → Numbers B n r a cs (renumbered n r (L .slot) B (fresh a n) (λ x i. 0) [] cs)
-finds {A} {n} {r} {a} L B able cs = subst (Numbers B n r a cs) (sym (renumbered-is L B able cs (fresh a n) (λ x i. 0) [])) (record {
+    → Numbers B n r a cs (renumbered n r (L .slot) B (fresh a) (λ x i. 0) [] cs)
+finds {A} {n} {r} {a} L B able cs = subst (Numbers B n r a cs) (sym (renumbered-is L B able cs (fresh a) (λ x i. 0) [])) (record {
   each = S .each;
   fits = record {
     one = S .one ∙ ap (λ s. length (labelSnaps B n s ns cs)) begin;
@@ -255,27 +255,27 @@ finds {A} {n} {r} {a} L B able cs = subst (Numbers B n r a cs) (sym (renumbered-
 })
   where
     ns : Lists.List ℕ
-    ns = given L B able cs (fresh a n) (λ x i. 0)
+    ns = given L B able cs (fresh a) (λ x i. 0)
 
     f : ℕ → ℕ
-    f = later L B able cs (fresh a n) (λ x i. 0)
+    f = later L B able cs (fresh a) (λ x i. 0)
 
     u : State ℕ
-    u = shadow (λ x i. f 0) (fresh a n)
+    u = shadow (λ x i. f 0) (fresh a)
 
-    S : Sim L B able (fresh a n) (λ x i. 0) cs f ns
-    S = simulate L B able cs (fresh a n) (λ x i. 0) (L .start)
+    S : Sim L B able (fresh a) (λ x i. 0) cs f ns
+    S = simulate L B able cs (fresh a) (λ x i. 0) (L .start)
 
-    T : Spans L B able (fresh a n) (λ x i. 0) cs f ns 0
+    T : Spans L B able (fresh a) (λ x i. 0) cs f ns 0
     T = S .spans 0 (λ x i l. omega arith)
 
     most : ℕ
-    most = snaps B n (λ _. r) (fresh a n) [] cs
+    most = snaps B n (λ _. r) (fresh a) [] cs
 
     few : T .most ≤ most
     few = omega (arith, T .few)
 
-    begin : u ≡ fresh 0 n
+    begin : u ≡ fresh 0
     begin = rw (S .zero) refl
 
     given-only : (v : ℕ) → Old 0 f v ⊎ List·Memᴰ v ns → List·Memᴰ v ns
@@ -286,14 +286,14 @@ finds {A} {n} {r} {a} L B able cs = subst (Numbers B n r a cs) (sym (renumbered-
 pub record Simulates {A : Type 0} (B : Board) (n : ℕ) (r : Rules A) (a : A) (cs : Lists.List Call) : Type 0 where
   pub advances : Lists.List ℕ
   pub whole : All (λ a. 1 ≤ a) advances
-  pub each : length advances ≡ snaps B n (λ _. r) (fresh a n) [] cs
-  pub eachᵘ : length advances ≡ snaps B n numbers (fresh 0 n) advances cs
-  pub same : map (seen n) (run B n (λ _. r) (fresh a n) [] cs) ≡ map (seen n) (run B n numbers (fresh 0 n) advances cs)
-  pub bound : All (Bounded n (snaps B n (λ _. r) (fresh a n) [] cs)) (run B n numbers (fresh 0 n) advances cs)
+  pub each : length advances ≡ snaps B n (λ _. r) (fresh a) [] cs
+  pub eachᵘ : length advances ≡ snaps B n numbers (fresh 0) advances cs
+  pub same : map (seen n) (run B n (λ _. r) (fresh a) [] cs) ≡ map (seen n) (run B n numbers (fresh 0) advances cs)
+  pub bound : All (Bounded n (snaps B n (λ _. r) (fresh a) [] cs)) (run B n numbers (fresh 0) advances cs)
 
 pub simulates : {A : Type 0} {B : Board} {n : ℕ} {r : Rules A} {a : A} {cs : Lists.List Call} {ns : Lists.List ℕ} → Numbers B n r a cs ns → Simulates B n r a cs
 simulates {A} {B} {n} {r} {a} {cs} {ns} N = record {
-  advances = advances B n (fresh 0 n) ns cs;
+  advances = advances B n (fresh 0) ns cs;
   whole = advances-whole _ l (N .fits .each);
   each = length-map l advance ∙ sym (N .fits .one) ∙ N .each;
   eachᵘ = length-map l advance ∙ sym (R .1);
@@ -302,8 +302,8 @@ simulates {A} {B} {n} {r} {a} {cs} {ns} N = record {
 }
   where
     l : Lists.List LabelSnap
-    l = labelSnaps B n (fresh 0 n) ns cs
+    l = labelSnaps B n (fresh 0) ns cs
 
-    R : (run B n numbers (fresh 0 n) (advances B n (fresh 0 n) ns cs) cs ≡ run B n numbered (fresh 0 n) ns cs)
-        × (snaps B n numbers (fresh 0 n) (advances B n (fresh 0 n) ns cs) cs ≡ length l)
-    R = run-advances B n _ cs (fresh 0 n) ns (N .fits .each)
+    R : (run B n numbers (fresh 0) (advances B n (fresh 0) ns cs) cs ≡ run B n numbered (fresh 0) ns cs)
+        × (snaps B n numbers (fresh 0) (advances B n (fresh 0) ns cs) cs ≡ length l)
+    R = run-advances B n _ cs (fresh 0) ns (N .fits .each)

@@ -1,17 +1,18 @@
 -- A scan that snaps as it begins (02, Card 1), beside one that begins and snaps in steps of their own (01): the two boards judge every other call alike, and
 -- where the begin is directly followed by its snap, they come to the same state.
-use Prim.Native.Nat.{ℕ, suc, _-_}
+use Prim.Native.Nat.{ℕ, _-_}
 use mathlib.Core.Path.{_≡_, refl, sym, ap, ap₂, _∙_, fun-ext}
 use mathlib.Core.Logic.{_⊎_, inl, inr}
 use mathlib.Core.Bool.{Bool, true, false, cond}
 use mathlib.Core.List as Lists
-use mathlib.Core.List.{[], map}
+use mathlib.Core.List.{[]}
+use lib.ListN.{length}
 use lib.Dec.{eqb}
 use borrow.Author.Tests.{eqb-true, eq-eqb}
 use Rattle.basics.specs.Tests.{within, ordered}
-use Rattle.simulation.specs.Calls.{Call, place, Scan, Phase, Idle, Update, Snap, End, entry, Rest, Move, unless, byPhase, judgeIn, judge, written}
-use Rattle.simulation.specs.Machine.{Board, original, apart, Rules, stands, relabelled, inPhase, changed, stored, scanOf, carryOut, State, labelsAfter}
-use Rattle.simulation.specs.Machine.{outcome, Answer, answer, step}
+use Rattle.simulation.specs.Calls.{Call, place, Scan, Phase, Idle, Update, Snap, End, Rest, Move, unless, byPhase, judgeIn, judge, written}
+use Rattle.simulation.specs.Machine.{Board, original, apart, Rules, stands, relabelled, inPhase, jobAt, changed, stored, scanOf, carryOut, State}
+use Rattle.simulation.specs.Machine.{labelsAfter, outcome, Answer, answer, step}
 
 -- JUDGING: document 01's board and the original one find the same move, or the begin of a scan and its snap
 data Judged (n : ℕ) (c : Call) : Move → Move → Type 0 where
@@ -28,26 +29,25 @@ module _ (n : ℕ) (c : Call) where
   either true v w w′ j = alike v
   either false v w w′ j = j
 
-  by-phase : within 1 n (c .station) ≡ true → (ph : Phase) → Judged n c (byPhase true n c ph) (byPhase false n c ph)
-  by-phase own Idle = either (eqb (c .code) 1) _ _ _ (tested _ _ _ _ (λ e. scans (eqb-true (c .code) 2 e) own))
-  by-phase own (Snap o) = alike _
-  by-phase own Update = alike _
-  by-phase own (End o) = alike _
+  by-phase : (k : ℕ) → within 1 n (c .station) ≡ true → (ph : Phase) → Judged n c (byPhase true k c ph) (byPhase false k c ph)
+  by-phase k own Idle = either (eqb (c .code) 1) _ _ _ (tested _ _ _ _ (λ e. scans (eqb-true (c .code) 2 e) own))
+  by-phase k own (Snap o) = alike _
+  by-phase k own Update = alike _
+  by-phase k own (End o) = alike _
 
-  judged : (ph : Phase) → Judged n c (judgeIn true n ph c) (judgeIn false n ph c)
+  judged : (k : ℕ) (ph : Phase) → Judged n c (judgeIn true n k ph c) (judgeIn false n k ph c)
   unfolding judgeIn
-  judged ph = tested _ 10 _ _ (λ _. tested _ 2 _ _ (λ own. tested _ 11 _ _ (λ _. by-phase own ph)))
+  judged k ph = tested _ 10 _ _ (λ _. tested _ 2 _ _ (λ own. tested _ 11 _ _ (λ _. by-phase k own ph)))
 
   -- a step 3 with job 0 is judged by the phase
-  snap-judged : (b : Bool) (ph : Phase) → c .code ≡ 3 → c .job ≡ 0 → within 1 n (c .station) ≡ true → judgeIn b n ph c ≡ byPhase b n c ph
+  snap-judged : (b : Bool) (k : ℕ) (ph : Phase) → c .code ≡ 3 → c .job ≡ 0 → within 1 n (c .station) ≡ true → judgeIn b n k ph c ≡ byPhase b k c ph
   unfolding judgeIn unless
-  snap-judged b ph e f own = rw (e, f, own) refl
+  snap-judged b k ph e f own = rw (e, f, own) refl
 
 -- PHASES: a scan sees the same if a phase differs, and of two phases the second stays
 module _ (o : Rest) (k : ℕ) (ph : Phase) where
-  scan-same : (order : Lists.List ℕ) → scanOf (changed o k (inPhase ph)) order ≡ scanOf o order
-  unfolding scanOf
-  scan-same order = ap (λ f. map (λ i. entry (suc i) (f i)) order) (fun-ext (λ i. go (eqb i k) i))
+  scan-same : (order : Lists.List ℕ) → scanOf (jobAt (changed o k (inPhase ph))) order ≡ scanOf (jobAt o) order
+  scan-same order = ap (λ f. scanOf f order) (fun-ext (λ i. go (eqb i k) i))
     where
       go : (b : Bool) (i : ℕ) → cond b (inPhase ph (o .process i)) (o .process i) .job ≡ o .process i .job
       go true i = refl
@@ -116,27 +116,27 @@ module _ {A : Type 0} (n : ℕ) (r : Rules A) where
         due = changed (s .rest) k (inPhase (Snap Scan))
 
         done : Rest
-        done = stored (changed (s .rest) k (inPhase (End Scan))) k (scanOf (s .rest) order)
+        done = stored (changed (s .rest) k (inPhase (End Scan))) k (scanOf (jobAt (s .rest)) order)
 
-        same : stored (changed due k (inPhase (End Scan))) k (scanOf due order) ≡ done
+        same : stored (changed due k (inPhase (End Scan))) k (scanOf (jobAt due) order) ≡ done
         same = ap₂ (λ o l. stored o k l) (phase-again (s .rest) k (Snap Scan) (End Scan)) (scan-same (s .rest) k (Snap Scan) order)
 
         there : (d : Call) → SnapOf c d → place d ≡ k
         there d h = ap (λ x. x - 1) (h .station)
 
-        by-due : (b : Bool) (o : Rest) (d : Call) → SnapOf c d → judge b n o d ≡ byPhase b n d (o .process (place d) .phase)
-        by-due b o d h = snap-judged n d b _ (h .code) (h .job) (ap (within 1 n) (h .station) ∙ own)
+        by-due : (b : Bool) (o : Rest) (d : Call) → SnapOf c d → judge b n o d ≡ byPhase b (length (o .result (place d))) d (o .process (place d) .phase)
+        by-due b o d h = snap-judged n d b _ _ (h .code) (h .job) (ap (within 1 n) (h .station) ∙ own)
 
         snap-due : (d : Call) → SnapOf c d → judge true n due d ≡ Move.snaps k Scan
-        snap-due d h = by-due true due d h ∙ ap (byPhase true n d) (phase-here (s .rest) k (Snap Scan) (place d) (there d h))
+        snap-due d h = by-due true due d h ∙ ap (byPhase true _ d) (phase-here (s .rest) k (Snap Scan) (place d) (there d h))
             ∙ rw (h .code) (ap (λ i. Move.snaps i Scan) (there d h))
 
         snap-done : (d : Call) → SnapOf c d → judge false n done d ≡ Move.refused 4
-        snap-done d h = by-due false done d h ∙ ap (byPhase false n d) (phase-here (s .rest) k (End Scan) (place d) (there d h)) ∙ rw (h .code) refl
+        snap-done d h = by-due false done d h ∙ ap (byPhase false _ d) (phase-here (s .rest) k (End Scan) (place d) (there d h)) ∙ rw (h .code) refl
 
     -- EVERY CALL is answered alike, or begins a scan
     pub same-or-scans : (step apart n r s c ≡ step original n r s c) ⊎ Scans s c
-    same-or-scans = go (judged n c (s .rest .process (place c) .phase)) refl refl
+    same-or-scans = go (judged n c _ (s .rest .process (place c) .phase)) refl refl
       where
         go : {w w′ : Move} → Judged n c w w′ → judge true n (s .rest) c ≡ w → judge false n (s .rest) c ≡ w′
             → (step apart n r s c ≡ step original n r s c) ⊎ Scans s c

@@ -9,7 +9,7 @@ use lib.Dec.{eqb}
 use borrow.Author.Tests.{ne-eqb}
 use Rattle.basics.proofs.Facts.{by-here}
 use Rattle.simulation.specs.Calls.{Call, place, Label, Scan, Phase, Entry, Rest, Move, written}
-use Rattle.simulation.specs.Machine.{Labelling, Rules, pendingAfter, labelStep, relabelled, scanOf, carryOut, State, labelsAfter, outcome, answer}
+use Rattle.simulation.specs.Machine.{Labelling, Rules, pendingAfter, labelStep, relabelled, jobAt, scanOf, carryOut, State, labelsAfter, outcome, answer}
 use Rattle.simulation.proofs.Judged.{Own, own-place, Verdict, turned, begins, scans, updates, snaps, ends}
 
 -- the process that takes the move
@@ -52,7 +52,7 @@ rest-kept order o (Move.ends k Label) i e = rw e (refl, refl)
 rest-kept order o (Move.ends k Scan) i e = rw e (refl, refl)
 
 -- what holds of every result, and of the one that a scan stores, holds of every result afterwards
-pub results-all : (P : Lists.List Entry → Type 0) (order : Lists.List ℕ) (o : Rest) → P (scanOf o order) → ((i : ℕ) → P (o .result i))
+pub results-all : (P : Lists.List Entry → Type 0) (order : Lists.List ℕ) (o : Rest) → P (scanOf (jobAt o) order) → ((i : ℕ) → P (o .result i))
     → (w : Move) (i : ℕ) → P (carryOut order o w .rest .result i)
 unfolding carryOut
 results-all P order o scan h (Move.refused x) i = h i
@@ -60,18 +60,18 @@ results-all P order o scan h (Move.begins k job Label) i = h i
 results-all P order o scan h (Move.begins k job Scan) i = h i
 results-all P order o scan h (Move.updates k) i = h i
 results-all P order o scan h (Move.snaps k Label) i = h i
-results-all P order o scan h (Move.snaps k Scan) i = by-here (λ b. P (cond b (scanOf o order) (o .result i))) k i (λ _. scan) (λ _. h i)
+results-all P order o scan h (Move.snaps k Scan) i = by-here (λ b. P (cond b (scanOf (jobAt o) order) (o .result i))) k i (λ _. scan) (λ _. h i)
 results-all P order o scan h (Move.ends k Label) i = h i
 results-all P order o scan h (Move.ends k Scan) i = h i
 
 -- and a call is taken by its caller, one of the n processes
-pub apart : {n : ℕ} {c : Call} {ph : Phase} {w : Move} → Verdict n c ph w → (i : ℕ) → (i < n → i ≢ place c) → touched w i ≡ false
-apart {n} {c} {ph} v i d = go v
+pub apart : {n k : ℕ} {c : Call} {ph : Phase} {w : Move} → Verdict n k c ph w → (i : ℕ) → (i < n → i ≢ place c) → touched w i ≡ false
+apart {n} {k} {c} {ph} v i d = go v
   where
     other : Own n c → eqb i (place c) ≡ false
     other own = ne-eqb i (place c) (λ e. d (rw e (own-place own)) e)
 
-    go : {w : Move} → Verdict n c ph w → touched w i ≡ false
+    go : {w : Move} → Verdict n k c ph w → touched w i ≡ false
     go (turned x f) = refl
     go (begins own e) = other own
     go (scans own e) = other own

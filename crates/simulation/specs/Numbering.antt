@@ -125,4 +125,4 @@ module _ {A : Type 0} (n : ℕ) (r : Rules A) (at : (ℕ → A) → (ℕ → ℕ
 
 -- THE NUMBERS of a sequence of calls on n processes of a board, from the fresh state
 abbrev pub numbersOf : Board → ℕ → Lists.List Call → Lists.List ℕ
-numbersOf B n cs = renumbered n (digits n) (slotOf (n - 1)) B (fresh (λ p. 1) n) (λ x i. 0) [] cs
+numbersOf B n cs = renumbered n (digits n) (slotOf (n - 1)) B (fresh (λ p. 1)) (λ x i. 0) [] cs

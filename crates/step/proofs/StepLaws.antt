@@ -15,7 +15,7 @@ use Rattle.transition.specs.Forms.{TableAnswer, over, onto, stepOf}
 use Rattle.transition.specs.Sequences.{Steps}
 use Rattle.transition.proofs.Theorem.{step-written, step-ill-formed, step-kept}
 use Rattle.moves.specs.Moves.{refusalNumber, called}
-use Rattle.arrays.specs.Arrays.{Rows, Arrays, resultOf}
+use Rattle.arrays.specs.Arrays.{Rows, Arrays, entriesIn}
 use Rattle.arrays.specs.WellFormed.{wellFormed}
 use Rattle.arrays.specs.Form.{lent}
 use Rattle.engine.specs.Contracts.{directly, callOf, placeIn, Hands}
@@ -85,7 +85,7 @@ empty-buffer (x ∷ l) s e = absurd (omega arith)
 -- A CALL WITH A PANEL
 
 -- the first entries of a result, read from its rows or from the struct
-first-entries : (k : ℕ) (rows : Rows) → k ≤ 32 → resultOf k rows ≡ firstEntries k (entriesOf rows)
+first-entries : (k : ℕ) (rows : Rows) → k ≤ 32 → entriesIn k rows ≡ firstEntries k (entriesOf rows)
 first-entries k rows h = tabulate-same k 0 _ _ (λ p l. sym (ap (λ (e : Entry). Calls.entry (e .station) (e .job)) (element _ blank p (omega arith))))
 
 module _ (t : Table) (w : Whole t) (code station job records : ℕ) {a a′ : Arrays} {h : Handed} (e : a ≡ apart t)

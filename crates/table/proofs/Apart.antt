@@ -10,7 +10,7 @@ use mathlib.Core.List.{[], _∷_}
 use lib.ListN.{length, getD}
 use borrow.Author.Tests.{lt-ltb}
 use Rattle.basics.specs.Tests.{tabulate}
-use Rattle.basics.proofs.Facts.{length-tabulate, getD-tabulate, tabulate-same}
+use Rattle.basics.proofs.Facts.{length-tabulate, getD-tabulate, tabulate-same, tabulate-is, two-lists, one-list}
 use Rattle.basics.proofs.Filled.{filled}
 use Rattle.label.specs.Labels as Labels
 use Rattle.label.specs.Rows.{row}
@@ -26,7 +26,7 @@ use Rattle.moves.specs.declared.Phase.the-variants.{Idle, Snap, Update, End}
 use Rattle.arrays.specs.Arrays.{Rows, Arrays, arrays, cell, planes, phaseNumber, phaseFor, jobsOf, stateOf, arraysOf}
 use Rattle.arrays.specs.WellFormed.{wellFormed}
 use Rattle.arrays.specs.Sizes.{Sized, Shaped}
-use Rattle.arrays.proofs.States.{tabulate-is, two-lists, one-list, phase-back, phase-low, number-back, lent-lawful, written-held}
+use Rattle.arrays.proofs.States.{phase-back, phase-low, number-back, lent-lawful, written-held}
 use Rattle.table.specs.Tables.{declaredOperation, declaredPhase, entry, blank, rowsOf, entriesOf, at, apart, stationOf, together, declared}
 use Rattle.table.specs.declared.Entry.{Entry}
 use Rattle.table.specs.declared.Station.{Station}

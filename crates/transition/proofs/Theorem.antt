@@ -7,10 +7,10 @@ use mathlib.Core.Logic.{_≢_}
 use mathlib.Core.Bool.{Bool, true, false}
 use mathlib.Core.List as Lists
 use mathlib.Core.List.{[], _∷_, map}
-use lib.ListN.{take}
+use lib.ListN.{length, take}
 use Rattle.basics.specs.Tests.{ordered, All}
 use Rattle.label.specs.Labels as Labels
-use Rattle.simulation.specs.Calls.{Call, Buffer, Entry, reportLines, Bytes, bytesOf, written}
+use Rattle.simulation.specs.Calls.{Call, place, Buffer, Entry, reportLines, Bytes, bytesOf, written}
 use Rattle.simulation.specs.Machine as Machine
 use Rattle.simulation.specs.Machine.{original, digits, numbers, stands, State, fresh, step, snapsOf, Bounded}
 use Rattle.simulation.proofs.Judged.{Refusal, refusals}
@@ -44,9 +44,10 @@ unfolding stepOf
 step-written F t c e = rw (e, stepOf) refl
 
 -- so on the original board its number is one that `judge` gives
-pub step-refusals : (F : Form) → F .board ≡ original → (t : F .Table) (c : Call) → F .wellFormed t ≡ true → Refusal (F .count t) c (stepOf F t c .refusal)
+pub step-refusals : (F : Form) → F .board ≡ original → (t : F .Table) (c : Call) → F .wellFormed t ≡ true
+    → Refusal (length (F .state t .rest .result (place c))) c (stepOf F t c .refusal)
 unfolding step
-step-refusals F b t c e = subst (λ (a : TableAnswer (F .Table)). Refusal n c (a .refusal))
+step-refusals F b t c e = subst (λ (a : TableAnswer (F .Table)). Refusal (length (F .state t .rest .result (place c))) c (a .refusal))
     (sym (step-written F t c e ∙ ap (λ B. answered F n (step B n (digits n) (F .state t) c)) b))
     (refusals n c (ordered n (stands (digits n) (F .state t .labels))) (F .state t .rest))
   where
@@ -160,10 +161,10 @@ module _ (F : Form) (L : Lawful F) (n : ℕ) (low : 2 ≤ n) (high : n ≤ 32) w
     advances = S .advances;
     whole = S .whole;
     each = S .each ∙ sym (R .count);
-    eachᵘ = S .eachᵘ ∙ ap (λ B. Machine.snaps B n numbers (fresh 0 n) (S .advances) calls) (sym (L .board));
+    eachᵘ = S .eachᵘ ∙ ap (λ B. Machine.snaps B n numbers (fresh 0) (S .advances) calls) (sym (L .board));
     same = R .same ∙ S .same ∙ ap (λ B. map (Machine.seen n) (unbounded B n (S .advances) calls)) (sym (L .board));
     bound = λ k. subst (λ B. All (Bounded n (snaps F (freshTable F n) calls)) (unbounded B n (S .advances) (take k calls))) (sym (L .board))
-        (all-taken (Bounded n (snaps F (freshTable F n) calls)) n k calls (fresh 0 n) (S .advances)
+        (all-taken (Bounded n (snaps F (freshTable F n) calls)) n k calls (fresh 0) (S .advances)
         (subst (λ b. All (Bounded n b) (unbounded original n (S .advances) calls)) (sym (R .count)) (S .bound)));
     never13 = R .never13;
   }
@@ -171,8 +172,8 @@ module _ (F : Form) (L : Lawful F) (n : ℕ) (low : 2 ≤ n) (high : n ≤ 32) w
       S : Simulates original n (digits n) (λ p. 1) calls
       S = simulation n (omega arith) calls
 
-      R : Runs F n (fresh (λ p. 1) n) calls
-      R = runs calls (fresh (λ p. 1) n) (reached-fresh n (omega arith))
+      R : Runs F n (fresh (λ p. 1)) calls
+      R = runs calls (fresh (λ p. 1)) (reached-fresh n (omega arith))
 
 -- TABLES REACHED from the fresh one of n stations: those of reached states. Every step call leads from one to another.
 pub record ReachedTable (F : Form) (n : ℕ) (t : F .Table) : Type 0 where
@@ -182,7 +183,7 @@ pub record ReachedTable (F : Form) (n : ℕ) (t : F .Table) : Type 0 where
 
 module _ (F : Form) (L : Lawful F) (n : ℕ) (low : 2 ≤ n) (high : n ≤ 32) where
   pub table-fresh : ReachedTable F n (freshTable F n)
-  table-fresh = record { state = fresh (λ p. 1) n; reached = reached-fresh n (omega arith); holds = refl }
+  table-fresh = record { state = fresh (λ p. 1); reached = reached-fresh n (omega arith); holds = refl }
 
   module _ (t : F .Table) (r : ReachedTable F n t) where
     pub table-count : F .count t ≡ n
@@ -191,9 +192,15 @@ module _ (F : Form) (L : Lawful F) (n : ℕ) (low : 2 ≤ n) (high : n ≤ 32) w
     pub table-passes : F .wellFormed t ≡ true
     table-passes = ap (F .wellFormed) (r .holds) ∙ reached-passes F L n low high (r .reached)
 
-    -- a call is refused by a number that `judge` gives, and by 7 only where there is no room for all stations
-    pub table-refusals : (c : Call) → Refusal n c (stepOf F t c .refusal)
-    table-refusals c = subst (λ k. Refusal k c (stepOf F t c .refusal)) table-count (step-refusals F (L .board) t c table-passes)
+    -- a call is refused by a number that `judge` gives, and by 7 only where there is no room for the stations shown, of which there are at most n
+    pub table-refusals : (c : Call) → (k : ℕ) × (k ≤ n) × Refusal k c (stepOf F t c .refusal)
+    table-refusals c = (_, few, step-refusals F (L .board) t c table-passes)
+      where
+        held : F .state t ≡ r .state
+        held = ap (F .state) (r .holds) ∙ reached-held F L n low high (r .reached)
+
+        few : length (F .state t .rest .result (place c)) ≤ n
+        few = omega (arith, ap (λ (s : State Labels.Label). length (s .rest .result (place c))) held, r .reached .writable .listed (place c) .0)
 
     pub table-step : (c : Call) → ReachedTable F n (stepOf F t c .table)
     table-step c = record {
@@ -211,8 +218,8 @@ module _ (F : Form) (L : Lawful F) (n : ℕ) (low : 2 ≤ n) (high : n ≤ 32) w
 pub same-after : (F G : Form) → Lawful F → Lawful G → (n : ℕ) → 2 ≤ n → n ≤ 32 → (cs : Lists.List Call)
     → F .state (after F (freshTable F n) cs) ≡ G .state (after G (freshTable G n) cs)
 unfolding after
-same-after F G L M n low high cs = machine F L cs (fresh (λ p. 1) n) (reached-fresh n (omega arith))
-    ∙ sym (machine G M cs (fresh (λ p. 1) n) (reached-fresh n (omega arith)))
+same-after F G L M n low high cs = machine F L cs (fresh (λ p. 1)) (reached-fresh n (omega arith))
+    ∙ sym (machine G M cs (fresh (λ p. 1)) (reached-fresh n (omega arith)))
   where
     left : State Labels.Label → Lists.List Call → State Labels.Label
     left s [] = s
@@ -227,4 +234,4 @@ same-after F G L M n low high cs = machine F L cs (fresh (λ p. 1) n) (reached-f
 pub same-seen : (F G : Form) → Lawful F → Lawful G → (n : ℕ) → 2 ≤ n → n ≤ 32 → (cs : Lists.List Call)
     → map (seen F) (run F (freshTable F n) cs) ≡ map (seen G) (run G (freshTable G n) cs)
 same-seen F G L M n low high cs =
-    let r = reached-fresh n (omega arith) in runs F L n low high cs (fresh (λ p. 1) n) r .same ∙ sym (runs G M n low high cs (fresh (λ p. 1) n) r .same)
+    let r = reached-fresh n (omega arith) in runs F L n low high cs (fresh (λ p. 1)) r .same ∙ sym (runs G M n low high cs (fresh (λ p. 1)) r .same)

@@ -1,17 +1,19 @@
 -- States that a table of n stations can hold, whatever its form; a step leads from one to another.
-use Prim.Native.Nat.{ℕ, _-_, _≤_, _<_}
+use Prim.Native.Nat.{ℕ, suc, _-_, _≤_, _<_}
 use native.Mathlib.Omega.{arith}
 use mathlib.Core.Path.{_≡_, _∙_}
 use mathlib.Core.Bool.{Bool, true, false, _||_, cond}
 use mathlib.Core.List as Lists
-use lib.ListN.{length, length-map}
+use mathlib.Core.List.{map}
+use lib.ListN.{length, getD, length-map}
 use lib.Dec.{eqb}
-use Rattle.basics.specs.Tests.{newest, ordered}
-use Rattle.basics.proofs.Facts.{by-here, ordered-length}
+use Rattle.basics.specs.Tests.{newest, ordered, passing, All}
+use Rattle.basics.proofs.Facts.{by-here, all-at, each-all, all-map, ordered-length}
+use Rattle.basics.proofs.Passing.{passing-length}
 use Rattle.label.specs.Labels as Labels
 use Rattle.label.specs.Labels.{newLabel}
-use Rattle.simulation.specs.Calls.{Call, place, Label, Scan, Phase, Idle, Update, Snap, End, Process, Move, judge}
-use Rattle.simulation.specs.Machine.{original, digits, stands, pendingAfter, labelStep, relabelled, carryOut, scanOf, freshRest, State, step}
+use Rattle.simulation.specs.Calls.{Call, place, Label, Scan, Phase, Idle, Update, Snap, End, Entry, entry, Process, Move, judge}
+use Rattle.simulation.specs.Machine.{original, digits, stands, pendingAfter, labelStep, relabelled, jobAt, shows, scanOf, carryOut, freshRest, State, step}
 use Rattle.simulation.proofs.Labellings.{by-put}
 use Rattle.simulation.proofs.Judged.{own-place, Verdict, turned, begins, scans, updates, snaps, ends, verdict}
 use Rattle.simulation.proofs.Touched.{labels-kept, rest-kept, results-all, apart}
@@ -26,17 +28,38 @@ Kept (Snap Scan) = ⊥
 Kept (End o) = Unit {0}
 
 -- process i has what is fresh
-pub record Unused (n : ℕ) (s : State Labels.Label) (i : ℕ) : Type 0 where
+pub record Unused (s : State Labels.Label) (i : ℕ) : Type 0 where
   pub labels : (x : Bool) → s .labels x i ≡ (λ p. 1)
-  pub process : s .rest .process i ≡ freshRest n .process i
-  pub result : s .rest .result i ≡ freshRest n .result i
+  pub process : s .rest .process i ≡ freshRest .process i
+  pub result : s .rest .result i ≡ freshRest .result i
 
--- labels are 1 past 31 digits, results have n entries, no process is due to snap for a scan, and past n everything is fresh
+-- a result has at most n entries, and the last of them is that of a station
+abbrev pub Listed : ℕ → Lists.List Entry → Type 0
+Listed n l = (length l ≤ n) × ((p : ℕ) → length l ≡ suc p → 1 ≤ getD l p (entry 0 0) .station)
+
+-- labels are 1 past 31 digits, results are lists of at most n stations, no process is due to snap for a scan, and past n everything is fresh
 pub record Writable (n : ℕ) (s : State Labels.Label) : Type 0 where
   pub behind : (x : Bool) (i p : ℕ) → 31 ≤ p → s .labels x i p ≡ 1
-  pub long : (i : ℕ) → length (s .rest .result i) ≡ n
+  pub listed : (i : ℕ) → Listed n (s .rest .result i)
   pub phase : (i : ℕ) → Kept (s .rest .process i .phase)
-  pub past : (i : ℕ) → n ≤ i → Unused n s i
+  pub past : (i : ℕ) → n ≤ i → Unused s i
+
+-- what a scan of n processes stores is such a list
+scan-listed : {n : ℕ} (jobs : ℕ → ℕ) (order : Lists.List ℕ) → length order ≡ n → Listed n (scanOf jobs order)
+unfolding scanOf
+scan-listed jobs order e = (
+  omega (arith, length-map shown entryFor, passing-length (λ i. shows (jobs i)) order),
+  λ p h. all-at (λ x. 1 ≤ x .station) (map entryFor shown) (entry 0 0) named p (omega arith),
+)
+  where
+    shown : Lists.List ℕ
+    shown = passing (λ i. shows (jobs i)) order
+
+    entryFor : ℕ → Entry
+    entryFor i = entry (suc i) (jobs i)
+
+    named : All (λ x. 1 ≤ x .station) (map entryFor shown)
+    named = all-map (λ i. Unit {0}) (λ (x : Entry). 1 ≤ x .station) entryFor (λ i _. omega arith) shown (each-all _ shown 0 (λ p _. tt))
 
 -- the state after a step can be written down if the one before it can, and has a newest process
 module _ (n : ℕ) (high : n ≤ 32) (s : State Labels.Label) (w : Writable n s) (c : Call) (lead : newest n (stands (digits n) (s .labels)) < n) where
@@ -50,7 +73,7 @@ module _ (n : ℕ) (high : n ≤ 32) (s : State Labels.Label) (w : Writable n s)
       z : ℕ
       z = newest n (stands (digits n) (s .labels))
 
-  labels-behind : {ph : Phase} {m : Move} → Verdict n c ph m → (x : Bool) (i p : ℕ) → 31 ≤ p
+  labels-behind : {k : ℕ} {ph : Phase} {m : Move} → Verdict n k c ph m → (x : Bool) (i p : ℕ) → 31 ≤ p
       → relabelled n (digits n) (s .labels) (labelStep m) x i p ≡ 1
   unfolding relabelled
   labels-behind (turned y f) x i p h = w .behind x i p h
@@ -64,7 +87,8 @@ module _ (n : ℕ) (high : n ≤ 32) (s : State Labels.Label) (w : Writable n s)
   labels-behind (ends own o e f) x i p h = w .behind x i p h
 
   -- a process gets a phase that a table keeps
-  phases-kept : {ph : Phase} {m : Move} → Verdict n c ph m → (order : Lists.List ℕ) (i : ℕ) → Kept (carryOut order (s .rest) m .rest .process i .phase)
+  phases-kept : {k : ℕ} {ph : Phase} {m : Move} → Verdict n k c ph m → (order : Lists.List ℕ) (i : ℕ)
+      → Kept (carryOut order (s .rest) m .rest .process i .phase)
   unfolding carryOut
   phases-kept v order i = go v
     where
@@ -72,7 +96,7 @@ module _ (n : ℕ) (high : n ≤ 32) (s : State Labels.Label) (w : Writable n s)
       at true p h = h
       at false p h = w .phase i
 
-      go : {ph : Phase} {m : Move} → Verdict n c ph m → Kept (carryOut order (s .rest) m .rest .process i .phase)
+      go : {k : ℕ} {ph : Phase} {m : Move} → Verdict n k c ph m → Kept (carryOut order (s .rest) m .rest .process i .phase)
       go (turned y f) = w .phase i
       go (begins own e) = at (eqb i (place c)) _ tt
       go (scans own e) = at (eqb i (place c)) _ tt
@@ -83,10 +107,10 @@ module _ (n : ℕ) (high : n ≤ 32) (s : State Labels.Label) (w : Writable n s)
       go (ends own Scan e f) = at (eqb i (place c)) _ tt
 
   pub writable-step : Writable n (step original n (digits n) s c .state)
-  unfolding step scanOf
+  unfolding step
   writable-step = record {
     behind = labels-behind v;
-    long = results-all (λ l. length l ≡ n) order (s .rest) (length-map order _ ∙ ordered-length (stands (digits n) (s .labels)) n) (w .long) m;
+    listed = results-all (Listed n) order (s .rest) (scan-listed (jobAt (s .rest)) order (ordered-length (stands (digits n) (s .labels)) n)) (w .listed) m;
     phase = phases-kept v order;
     past = λ i l.
         let u = w .past i l in
@@ -98,8 +122,8 @@ module _ (n : ℕ) (high : n ≤ 32) (s : State Labels.Label) (w : Writable n s)
       m : Move
       m = judge false n (s .rest) c
 
-      v : Verdict n c (s .rest .process (place c) .phase) m
-      v = verdict n c (s .rest .process (place c) .phase)
+      v : Verdict n (length (s .rest .result (place c))) c (s .rest .process (place c) .phase) m
+      v = verdict n (length (s .rest .result (place c))) c (s .rest .process (place c) .phase)
 
       order : Lists.List ℕ
       order = ordered n (stands (digits n) (s .labels))

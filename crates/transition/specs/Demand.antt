@@ -29,7 +29,7 @@ module _ (F : Form) where
 
 -- the same of the board's unbounded table of n stations, from its fresh state, with these advances
 abbrev pub unbounded : Board → ℕ → Lists.List ℕ → Lists.List Call → Lists.List (Machine.Answer ℕ)
-unbounded B n advances calls = Machine.run B n numbers (Machine.fresh 0 n) advances calls
+unbounded B n advances calls = Machine.run B n numbers (Machine.fresh 0) advances calls
 
 -- for these calls on the fresh table of n stations there are advances, each at least 1, one for each accepted snap for a label, counted on either
 -- table; with them both tables show the same after every call; and after any number k of the calls no number, current or pending, exceeds the
@@ -38,7 +38,7 @@ pub record Demand3 (F : Form) (n : ℕ) (calls : Lists.List Call) : Type 0 where
   pub advances : Lists.List ℕ
   pub whole : All (λ a. 1 ≤ a) advances
   pub each : length advances ≡ snaps F (freshTable F n) calls
-  pub eachᵘ : length advances ≡ Machine.snaps (F .board) n numbers (Machine.fresh 0 n) advances calls
+  pub eachᵘ : length advances ≡ Machine.snaps (F .board) n numbers (Machine.fresh 0) advances calls
   pub same : map (seen F) (run F (freshTable F n) calls) ≡ map (Machine.seen n) (unbounded (F .board) n advances calls)
   pub bound : (k : ℕ) → All (Bounded n (snaps F (freshTable F n) calls)) (unbounded (F .board) n advances (take k calls))
   pub never13 : All (λ a. a .refusal ≢ 13) (run F (freshTable F n) calls)

@@ -40,9 +40,9 @@ onto (Bytes l) (Records lent) = Records lent
 onto (Records l) (Bytes lent) = Bytes lent
 
 module _ (F : Form) where
-  -- the fresh table of n stations: labels of 1s, no jobs, the results 1 to n, all idle
+  -- the fresh table of n stations: labels of 1s, no jobs, empty results, all idle
   abbrev pub freshTable : ℕ → F .Table
-  freshTable n = F .written n (fresh (λ p. 1) n)
+  freshTable n = F .written n (fresh (λ p. 1))
 
   abbrev pub answered : ℕ → Machine.Answer Labels.Label → TableAnswer (F .Table)
   answered n a = record { table = F .written n (a .state); refusal = a .refusal; report = a .report }

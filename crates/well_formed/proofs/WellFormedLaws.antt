@@ -6,21 +6,18 @@ use native.Mathlib.Omega.{arith}
 use native.Mathlib.Decide.{decLt}
 use mathlib.Core.Path.{_≡_, refl, sym, ap, ap₂, _∙_}
 use mathlib.Core.Logic.{by-cases}
-use mathlib.Core.Bool.{Bool, false, _&&_, cond}
+use mathlib.Core.Bool.{Bool, true, false, not, _&&_, cond}
 use mathlib.Core.List.{List, []}
 use lib.ListN.{length, getD}
 use lib.Dec.{eqb, leb, ltb}
-use borrow.Author.Tests.{eqb-true, eq-eqb, ne-eqb, leb-true, le-leb, lt-leb, ltb-true, lt-ltb, le-ltb}
+use borrow.Author.Tests.{eqb-true, eq-eqb, leb-true, le-leb, ltb-true, lt-ltb, le-ltb}
 use Rattle.basics.specs.Tests.{within, every, count}
-use Rattle.basics.proofs.Facts.{and-both, both, left-no, within-true, within-of, every-all, every-at, every-same, getD-tabulate, getD-any}
+use Rattle.basics.proofs.Facts.{and-both, both, last, left-no, within-true, within-of, every-all, every-at, every-same, getD-tabulate, getD-any}
 use Rattle.basics.proofs.Loops.{same-test, every-and}
-use Rattle.basics.proofs.Counts.{count-same}
 use Rattle.label.specs.Rows.{digit, rowFits, noRing}
-use Rattle.well_formed.specs.Loops.{tops, fitsAt, halfFits, bothFit, noneFrom, sameRow}
-use Rattle.simulation.specs.Machine.{freshRest}
-use Rattle.arrays.specs.Arrays.{Arrays, Planes, Rows, cell, resultRows, labelRow, rowsAt}
-use Rattle.arrays.proofs.Fresh.{fresh-rows}
-use Rattle.arrays.specs.WellFormed.{resultFits, resultFresh, stationFits, placeFresh, wellFormed}
+use Rattle.well_formed.specs.Loops.{tops, fitsAt, halfFits, bothFit, noneFrom}
+use Rattle.arrays.specs.Arrays.{Arrays, Planes, Rows, cell, shownIn, labelRow}
+use Rattle.arrays.specs.WellFormed.{entryFits, resultFits, resultFresh, stationFits, placeFresh, wellFormed}
 
 -- LABELS
 
@@ -76,31 +73,32 @@ all-fit m labels from k h l long e f = rw (e, f, ← every-and) (every-same k _ 
 
 -- RESULTS
 
--- where a station is counted
-abbrev pub slotOf : ℕ → ℕ
-slotOf s = cond (leb s 32) s 0
+-- a result by its rows, which show k entries: one of them does not fit, or all do and the rest is told apart
+module _ (n : ℕ) (rows : Rows) (k : ℕ) (shown : k ≡ shownIn n (getD rows 0 [])) where
+  abbrev entryAt : ℕ → Bool
+  entryAt p = entryFits n (cell rows 0 p 0) (cell rows 1 p 0)
 
--- only a station is counted at its number
-slot-test : (s i : ℕ) → i < 32 → eqb (slotOf s) (suc i) ≡ eqb s (suc i)
-slot-test s i h = by-cases (decLt s 33)
-    (λ l. rw (le-leb s 32 (omega arith)) refl)
-    (λ l. rw (lt-leb s 32 (omega arith)) (ne-eqb 0 (suc i) (λ e. omega arith) ∙ sym (ne-eqb s (suc i) (λ e. omega arith))))
+  pub shown-most : k ≤ n
+  shown-most = omega (arith, shown, last n (λ p. not (eqb (cell rows 0 p 0) 0)) .upto)
 
-pub slot-count : (n : ℕ) (s : ℕ → ℕ) (i : ℕ) → i < 32 → count n (λ p. eqb (slotOf (s p)) (suc i)) ≡ count n (λ p. eqb (s p) (suc i))
-slot-count n s i h = count-same n _ _ (λ p _. slot-test (s p) i h)
+  pub result-wrong : every k entryAt ≡ false → false ≡ resultFits n rows
+  unfolding resultFits
+  result-wrong e = sym (left-no _ (left-no _ (left-no _ (ap (λ j. every j entryAt) (sym shown) ∙ e))))
 
--- a result by its rows
-pub result-rows : (n : ℕ) (rows : Rows) (counts : List ℕ) → n ≤ 32 → ((i : ℕ) → i < 32 → getD counts (suc i) 0 ≡ count n (λ p. eqb (cell rows 0 p 0) (suc i)))
-    → (every n (λ i. eqb (getD counts (i + 1) 0) 1) && (noneFrom n (getD rows 0 []) && noneFrom n (getD rows 1 []))) ≡ resultFits n rows
-unfolding resultFits
-result-rows n rows counts h c = ap₂ _&&_ (every-same n _ _ (λ i l. rw (add-one i) (ap (λ x. eqb x 1) (c i (omega arith))))) (sym (every-and (32 - n) _ _))
+  pub station-small : every k entryAt ≡ true → n ≤ 32 → (p : ℕ) → p < k → cell rows 0 p 0 ≤ 32
+  station-small e h p l =
+      let w = and-both (within 1 n (cell rows 0 p 0)) (not (eqb (cell rows 1 p 0) 0)) (every-at k entryAt e p l) .0 in
+      omega (arith, within-true 1 n (cell rows 0 p 0) w .1)
 
-pub fresh-result : (n : ℕ) (rows : Rows) {fresh : Rows} → fresh ≡ resultRows (freshRest n .result 0)
-    → (sameRow (getD rows 0 []) (getD fresh 0 []) && noneFrom 0 (getD rows 1 [])) ≡ resultFresh n rows
+  pub result-rows : (counts : List ℕ) → n ≤ 32 → every k entryAt ≡ true → ((i : ℕ) → i < 33 → getD counts i 0 ≡ count k (λ p. eqb (cell rows 0 p 0) i))
+      → (every n (λ i. leb (getD counts (i + 1) 0) 1) && noneFrom n (getD rows 0 []) && noneFrom k (getD rows 1 [])) ≡ resultFits n rows
+  unfolding resultFits
+  result-rows counts h e c = rw (sym shown, e) (ap (λ b. b && noneFrom n (getD rows 0 []) && noneFrom k (getD rows 1 []))
+      (every-same n _ _ (λ i l. rw (add-one i) (ap (λ x. leb x 1) (c (suc i) (omega arith))))))
+
+pub fresh-result : (rows : Rows) → (noneFrom 0 (getD rows 0 []) && noneFrom 0 (getD rows 1 [])) ≡ resultFresh rows
 unfolding resultFresh
-fresh-result n rows e = sym (every-and 32 _ _) ∙ every-same 32 _ _ (λ p l. ap₂ _&&_
-    (ap (eqb (cell rows 0 p 0)) (ap (λ f. cell f 0 p 0) (e ∙ sym (fresh-rows n refl)) ∙ getD-tabulate 32 0 p _ 0 l ∙ rw (zero-add p) refl))
-    (rw (zero-add p) refl))
+fresh-result rows = sym (every-and 32 _ _) ∙ every-same 32 _ _ (λ p l. rw (zero-add p) refl)
 
 -- THE WHOLE
 
@@ -118,21 +116,18 @@ module _ (a : Arrays) where
   unfolding wellFormed
   all-tests low high e f g = rw (e, f, g, within-of 2 32 n low high) refl
 
-  module _ (high : n ≤ 32) (long : length (a .results) ≡ 32) where
-    rows-at : (i : ℕ) → i < 32 → getD (a .results) i [] ≡ rowsAt a i
-    rows-at i h = getD-any (a .results) i [] _ (omega arith)
-
+  module _ (high : n ≤ 32) where
     pub stations : {l p r : Bool} → l ≡ every n (λ i. bothFit (n - 1) (a .labels) (0 + i)) → p ≡ every n (λ i. leb (cell (a .control) 0 (0 + i) 0) 4)
         → r ≡ every n (λ i. resultFits n (getD (a .results) i [])) → (l && p && r) ≡ every n (stationFits a)
     unfolding stationFits
-    stations e f g = rw (e, f, g, ← every-and, ← every-and) (every-same n _ _ (λ i l. rw (zero-add i, rows-at i (omega arith)) refl))
+    stations e f g = rw (e, f, g, ← every-and, ← every-and) (every-same n _ _ (λ i l. rw (zero-add i) refl))
 
     pub places : {l j k p r : Bool} → l ≡ every (32 - n) (λ i. bothFit 0 (a .labels) (n + i)) → j ≡ noneFrom n (getD (a .jobs) 0 [])
         → k ≡ noneFrom n (getD (a .jobs) 1 []) → p ≡ every (32 - n) (λ i. leb (cell (a .control) 0 (n + i) 0) 0)
-        → r ≡ every (32 - n) (λ i. resultFresh n (getD (a .results) (n + i) [])) → (l && j && k && p && r) ≡ every (32 - n) (λ i. placeFresh a (n + i))
+        → r ≡ every (32 - n) (λ i. resultFresh (getD (a .results) (n + i) [])) → (l && j && k && p && r) ≡ every (32 - n) (λ i. placeFresh a (n + i))
     unfolding placeFresh
     places e f g h k = rw (e, f, g, h, k, ← every-and, ← every-and, ← every-and, ← every-and)
-        (every-same (32 - n) _ _ (λ i l. rw (none (cell (a .control) 0 (n + i) 0), rows-at (n + i) (omega arith)) refl))
+        (every-same (32 - n) _ _ (λ i l. rw (none (cell (a .control) 0 (n + i) 0)) refl))
       where
         none : (x : ℕ) → leb x 0 ≡ eqb x 0
         none x = same-test _ _ (λ e. eq-eqb x 0 (omega (arith, leb-true x 0 e))) (λ e. le-leb x 0 (omega (arith, eqb-true x 0 e)))

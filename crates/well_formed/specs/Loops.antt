@@ -27,6 +27,3 @@ bothFit m labels i = rowFits 31 m (cell labels 0 i []) && rowFits 31 m (cell lab
 -- a row has nothing from place n on
 abbrev pub noneFrom : ℕ → List ℕ → Bool
 noneFrom n row = every (32 - n) (λ p. eqb (getD row (n + p) 0) 0)
-
-abbrev pub sameRow : List ℕ → List ℕ → Bool
-sameRow a b = every 32 (λ p. eqb (getD a p 0) (getD b p 0))

@@ -1,15 +1,14 @@
 // The test of refusal 13 on a table in four arrays. A row is read to its end, fault or no fault: such loops compile to vector instructions. Tests that
 // are joined by `&` are all made: there is one way through them.
 ghost use mathlib.Core.Path.{_≡_};
-ghost use mathlib.Core.Bool.{cond};
 ghost use mathlib.Core.List.{[]};
-ghost use Prim.Native.Nat.{ℕ, suc, _+_, _-_, _≤_, _<_};
+ghost use Prim.Native.Nat.{ℕ, _+_, _-_, _≤_, _<_};
 ghost use lib.ListN.{length, getD};
 ghost use lib.Dec.{eqb, leb};
 ghost use Rattle.basics.specs.Tests.{within, every, count};
 ghost use Rattle.arrays.specs.Arrays.{arrays, cell};
-ghost use Rattle.arrays.specs.WellFormed.{resultFits, resultFresh, wellFormed};
-ghost use Rattle.well_formed.specs.Loops.{tops, halfFits, bothFit, noneFrom, sameRow};
+ghost use Rattle.arrays.specs.WellFormed.{entryFits, resultFits, resultFresh, wellFormed};
+ghost use Rattle.well_formed.specs.Loops.{tops, halfFits, bothFit, noneFrom};
 use arrays::Control;
 use arrays::Jobs;
 use arrays::Labels;
@@ -107,48 +106,60 @@ fn none_from(n: usize, row: &[u32; 32]) -> bool
     r
 }
 
-// Where a station is counted; what is no station is counted at 0.
-fn slot(station: u32) -> usize
-    ensures { λ r. ⌜ (r ≡ cond (leb station 32) station 0) × (r < 33) ⌝ }
+// Whether each of the first k entries of a result is that of a station up to `most`, with a job.
+fn entries_fit(k: usize, most: u32, stations: &[u32; 32], jobs: &[u32; 32]) -> bool
+    requires { ⌜ k ≤ 32 ⌝ }
+    ensures { λ r. ⌜ r ≡ every k (λ p. entryFits most (getD (now (stations .entry)) p 0) (getD (now (jobs .entry)) p 0)) ⌝ }
 {
-    if station <= 32 { station as usize } else { 0 }
+    let mut r = true;
+    let mut p: usize = 0;
+    while p < k {
+        r &= (1 <= stations[p]) & (stations[p] <= most) & (jobs[p] != 0);
+        p += 1;
+    }
+    r
 }
 
-// How often each station stands in the first n places.
-fn tally(n: usize, stations: &[u32; 32]) -> [u8; 33]
-    requires { ⌜ n ≤ 32 ⌝ }
-    ensures { λ r. ⌜ ((i : ℕ) → i < 32 → getD r (suc i) 0 ≡ count n (λ p. eqb (getD (now (stations .entry)) p 0) (suc i))) ⌝ }
+// How often each station stands in the first k places.
+fn tally(k: usize, stations: &[u32; 32]) -> [u8; 33]
+    requires { ⌜ k ≤ 32 ⌝ }
+    requires { ⌜ ((p : ℕ) → p < k → getD (now stations) p 0 ≤ 32) ⌝ }
+    ensures { λ r. ⌜ ((i : ℕ) → i < 33 → getD r i 0 ≡ count k (λ p. eqb (getD (now (stations .entry)) p 0) i)) ⌝ }
 {
     let mut r = [0u8; 33];
     let mut p: usize = 0;
-    while p < n {
-        let s = slot(stations[p]);
+    while p < k {
+        let s = stations[p] as usize;
         r[s] += 1;
         p += 1;
     }
     r
 }
 
-// Whether each of n stations is counted once.
-fn all_once(n: usize, counts: [u8; 33]) -> bool
+// Whether none of n stations is counted twice.
+fn none_twice(n: usize, counts: [u8; 33]) -> bool
     requires { ⌜ n ≤ 32 ⌝ }
-    ensures { λ r. ⌜ r ≡ every n (λ i. eqb (getD counts (i + 1) 0) 1) ⌝ }
+    ensures { λ r. ⌜ r ≡ every n (λ i. leb (getD counts (i + 1) 0) 1) ⌝ }
 {
     let mut r = true;
     let mut i: usize = 0;
     while i < n {
-        r &= counts[i + 1] == 1;
+        r &= counts[i + 1] <= 1;
         i += 1;
     }
     r
 }
 
-// Whether a result holds each of n stations once in its first n places, and nothing past them.
+// Whether a result fits a table of n stations.
 fn result_fits(n: usize, rows: &[[u32; 32]; 2]) -> bool
     requires { ⌜ n ≤ 32 ⌝ }
     ensures { λ r. ⌜ r ≡ resultFits n (now (rows .entry)) ⌝ }
 {
-    all_once(n, tally(n, &rows[0])) & (none_from(n, &rows[0]) & none_from(n, &rows[1]))
+    let k = arrays::shown_in(n, &rows[0]);
+    if !entries_fit(k, n as u32, &rows[0], &rows[1]) {
+        return false;
+    }
+    none_twice(n, tally(k, &rows[0])) & none_from(n, &rows[0]) & none_from(k, &rows[1])
 }
 
 // Whether the results of n stations fit.
@@ -166,30 +177,14 @@ fn results_fit(n: usize, results: &Results) -> bool
     true
 }
 
-fn same_row(a: &[u32; 32], b: &[u32; 32]) -> bool
-    ensures { λ r. ⌜ r ≡ sameRow (now (a .entry)) (now (b .entry)) ⌝ }
-{
-    let mut r = true;
-    let mut p: usize = 0;
-    while p < 32 {
-        r &= a[p] == b[p];
-        p += 1;
-    }
-    r
-}
-
-// Whether the results past the n stations are that of a fresh station of n.
+// Whether the results past the n stations are empty.
 fn rest_is_fresh(n: usize, results: &Results) -> bool
     requires { ⌜ n ≤ 32 ⌝ }
-    ensures { λ r. ⌜ r ≡ every (32 - n) (λ i. resultFresh n (getD (now (results .entry)) (n + i) [])) ⌝ }
+    ensures { λ r. ⌜ r ≡ every (32 - n) (λ i. resultFresh (getD (now (results .entry)) (n + i) [])) ⌝ }
 {
-    let fresh = arrays::fresh_result(n);
     let mut i: usize = 0;
     while i < 32 - n {
-        if !same_row(&results[n + i][0], &fresh[0]) {
-            return false;
-        }
-        if !none_from(0, &results[n + i][1]) {
+        if !(none_from(0, &results[n + i][0]) & none_from(0, &results[n + i][1])) {
             return false;
         }
         i += 1;

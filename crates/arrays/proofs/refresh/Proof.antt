@@ -1,10 +1,9 @@
 use Rattle.arrays.proofs.Fresh.{fresh-arrays}
-use borrow.Author.Needs.{needs}
 use Rattle.arrays.proofs.refresh.Statement.{statement}
 use Rattle.arrays.proofs.refresh.Tie as tie
 
 returns : tie.Need-returns
-returns c = fresh-arrays _ (c .before .before .before .fresh-result .ensures)
+returns c = fresh-arrays _
 
 pub refresh-spec : {M : Type 1} → statement M
-refresh-spec = tie.close (tie.spec (λ c κs. search needs) returns)
+refresh-spec = tie.close (tie.spec returns)

@@ -1,5 +1,5 @@
 -- Each arm is a move of its own, and Carried has a law for it.
-use Rattle.engine.proofs.Served.{orderly, order-inside}
+use Rattle.engine.proofs.Served.{orderly, order-long, order-inside}
 use Rattle.engine.proofs.Carried.{refused, begins-label, snaps-label, snaps-scan, updates, ends-label, ends-scan}
 use native.Mathlib.Omega.{arith}
 use mathlib.Core.Path.{refl}
@@ -21,9 +21,9 @@ pending-by-requires c κs =
 
 scan-result-requires : tie.Need-scan-result-requires
 scan-result-requires c κs =
-    let t = c .before in
+    let t = c .before .before in
     let s = t .before .before .before .before .before .before .before in
-    (s .pre .high, order-inside (s .pre) (t .enum-told3 .given .1))
+    ((s .pre .high, order-long (s .pre) (t .enum-told3 .given .1)), order-inside (s .pre) (t .enum-told3 .given .1))
 
 returns : tie.Need-returns
 returns c =
@@ -45,7 +45,7 @@ returns-3 c =
 
 returns-4 : tie.Need-returns-4
 returns-4 c =
-    let t = c .before .before .before in
+    let t = c .before .before .before .before in
     let s = t .before .before in
     snaps-scan (s .before .before .before .before .before .pre) (s .shaped .ensures _)
     (c .before .scan-result .ensures) _ (t .enum-told3 .given .1) (c .accepted3 .ensures)
@@ -74,7 +74,7 @@ carry-out-spec = tie.close (tie.spec (λ c κs. search needs) (λ c. search need
     (λ c κs. search needs) (λ c. search needs) (λ c. search needs) (λ c. search needs) (λ c. search needs)
     (λ c. search needs) pending-by-requires (λ c. search needs) (λ c. search needs) (λ c. search needs)
     (λ c. search needs) (λ c. search needs) (λ c κs. search needs) (λ c. search needs) (λ c. search needs)
-    scan-result-requires (λ c. search needs) (λ c. search needs) (λ c. search needs) (λ c. search needs)
+    (λ c. search needs) (λ c. search needs) scan-result-requires (λ c. search needs) (λ c. search needs)
     (λ c κs. search needs) (λ c. search needs) (λ c. search needs) (λ c. search needs) (λ c. search needs)
     (λ c. search needs) (λ c. search needs) (λ c. search needs) (λ c. search needs) (λ c. search needs)
     (λ c. search needs) (λ c. search needs) (λ c. search needs) (λ c. search needs) (λ c. search needs)

@@ -7,7 +7,7 @@ use lib.ListN.{length}
 use Rattle.basics.specs.Tests.{tabulate}
 use Rattle.simulation.specs.Calls.{panelRecords}
 use Rattle.transition.specs.Forms.{over}
-use Rattle.arrays.specs.Arrays.{resultOf}
+use Rattle.arrays.specs.Arrays.{entriesIn}
 use Rattle.engine.specs.Contracts.{rowOf}
 use Rattle.engine.proofs.Reports.{one-record-more}
 use borrow.Author.Needs.{needs}
@@ -16,7 +16,7 @@ use Rattle.engine.proofs.fill.Tie as tie
 
 abbrev Inv-loop : tie.InvT-loop
 Inv-loop rows k panel₀ i₀ panel i =
-    (i ≤ k) × (length panel ≡ length panel₀) × (panel ≡ over (map rowOf (panelRecords 1 (resultOf i rows))) panel₀)
+    (i ≤ k) × (length panel ≡ length panel₀) × (panel ≡ over (map rowOf (panelRecords 1 (entriesIn i rows))) panel₀)
 
 abbrev μ-loop : tie.MeasureT-loop
 μ-loop rows k panel₀ i₀ panel i = k - i

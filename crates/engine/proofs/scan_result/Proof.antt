@@ -1,48 +1,51 @@
--- After p turns both rows are filled to p: with the first p stations of the order, from 1, and with their jobs.
-use mathlib.Core.Path.{_≡_, refl}
-use Prim.Native.Nat.{suc, _-_, _≤_}
+-- After p turns the rows have the k entries of a scan of the first p stations of the order.
+use mathlib.Core.Path.{_≡_, ap, _∙_}
+use mathlib.Core.Logic.{⊎-elim}
+use Prim.Native.Nat.{_-_, _≤_}
 use native.Mathlib.Omega.{arith}
-use native.Mathlib.Numerals.{add-one}
-use lib.ListN.{getD}
-use Rattle.basics.proofs.Filled.{filled, filled-none, filled-more}
+use Rattle.engine.specs.Scans.{scanRows}
+use Rattle.engine.proofs.Scanned.{Filled, none-yet, shown-next, struck-next}
 use borrow.Author.Needs.{needs}
 use Rattle.engine.proofs.scan_result.Statement.{statement}
 use Rattle.engine.proofs.scan_result.Tie as tie
 
 abbrev Inv-loop : tie.InvT-loop
-Inv-loop order jobs n stations₀ listed₀ p₀ stations listed p = (p ≤ n) × (stations ≡ filled 32 p (λ i. suc (getD order i 0)) 0)
-    × (listed ≡ filled 32 p (λ i. getD jobs (getD order i 0) 0) 0)
+Inv-loop order jobs n rows₀ k₀ p₀ rows k p = (p ≤ n) × (k ≤ p) × Filled order jobs p k rows
 
 abbrev μ-loop : tie.MeasureT-loop
-μ-loop order jobs n stations₀ listed₀ p₀ stations listed p = n - p
+μ-loop order jobs n rows₀ k₀ p₀ rows k p = n - p
 
 loop-holds : tie.Need-loop-holds Inv-loop μ-loop
-loop-holds c = (search needs, filled-none 32 _ 0, filled-none 32 _ 0)
+loop-holds c = (search needs, search needs, none-yet _ _)
 
-add-stations : tie.Need-add-stations Inv-loop μ-loop
-add-stations c = omega (arith, c .before .before .before .pre .1 (c .before .before .loop .p) (omega arith))
+mul-job : tie.Need-mul-job Inv-loop μ-loop
+mul-job c = omega (arith, c .before .before .before .before .pre .1 (c .before .before .loop .p) (omega arith))
 
-cast-stations : tie.Need-cast-stations Inv-loop μ-loop
-cast-stations c = omega (arith, c .before .before .before .pre .1 (c .before .before .loop .p) (omega arith))
+element-copy-out-job : tie.Need-element-copy-out-job Inv-loop μ-loop
+element-copy-out-job c = c .before .before .before .before .pre .1 (c .before .before .loop .p) (omega arith)
 
-mul-listed : tie.Need-mul-listed Inv-loop μ-loop
-mul-listed c = omega (arith, c .before .before .before .pre .1 (c .before .before .loop .p) (omega arith))
+add-rows : tie.Need-add-rows Inv-loop μ-loop
+add-rows c = let l = c .before .before .before .before in omega (arith, l .before .before .pre .1 (l .loop .p) (omega arith))
 
-element-copy-out-listed : tie.Need-element-copy-out-listed Inv-loop μ-loop
-element-copy-out-listed c = c .before .before .before .pre .1 (c .before .before .loop .p) (omega arith)
+cast-rows : tie.Need-cast-rows Inv-loop μ-loop
+cast-rows c = let l = c .before .before .before .before in omega (arith, l .before .before .pre .1 (l .loop .p) (omega arith))
 
 loop-again : tie.Need-loop-again Inv-loop μ-loop
 loop-again c =
-    let l = c .before .before .before .loop in
-    (search needs, rw (l .inv .1) (filled-more 32 _ 0 _ _ (search needs) (add-one _)), rw (l .inv .2) (filled-more 32 _ 0 _ _ (search needs) refl))
+    let f = c .before .before .before .before .loop .inv .2 in
+    ⊎-elim
+    (λ x. (search needs, omega (arith, x .2), shown-next _ _ _ _ f (omega arith) (omega arith) (x .0 .taken) (x .1) (x .2)))
+    (λ x. (search needs, omega (arith, x .2), struck-next _ _ _ _ f (omega arith) (x .0 .left) (x .1) (x .2)))
+    (c .if1 .came)
 
 returns : tie.Need-returns Inv-loop μ-loop
 returns c =
     let l = c .before .loop in
-    let e : l .p ≡ c .before .before .args .n = omega arith in
-    rw (l .inv .1, l .inv .2, e)
+    let a = c .before .before .before .args in
+    let e : l .p ≡ a .n = omega arith in
+    l .inv .2 .held ∙ ap (λ p. scanRows p (a .order .now) (a .jobs .now)) e
 
 pub scan-result-spec : {M : Type 1} → statement M
-scan-result-spec = tie.close (tie.spec Inv-loop μ-loop loop-holds (λ c. search needs) (λ c. search needs) add-stations
-    cast-stations (λ c. search needs) (λ c. search needs) mul-listed element-copy-out-listed (λ c. search needs)
-    (λ c. search needs) (λ c. search needs) (λ c. search needs) loop-again returns)
+scan-result-spec = tie.close (tie.spec Inv-loop μ-loop loop-holds (λ c. search needs) (λ c. search needs) mul-job element-copy-out-job
+    add-rows cast-rows (λ c. search needs) (λ c. search needs) (λ c. search needs) (λ c. search needs) (λ c. search needs)
+    (λ c. search needs) (λ c. search needs) (λ c. search needs) (λ c. search needs) loop-again returns)

@@ -1,4 +1,4 @@
-use Prim.Native.Nat.{ℕ, suc, _-_, _≤_, _<_}
+use Prim.Native.Nat.{ℕ, _-_, _≤_, _<_}
 use native.Mathlib.Omega.{arith}
 use mathlib.Core.Path.{_≡_, refl, ap, _∙_}
 use mathlib.Core.Bool.{true}
@@ -7,43 +7,46 @@ use lib.Dec.{eqb}
 use Rattle.basics.specs.Tests.{count}
 use Rattle.basics.proofs.Facts.{count-bound}
 use Rattle.basics.proofs.Counts.{tally-hit}
-use Rattle.well_formed.proofs.WellFormedLaws.{slotOf, slot-count}
 use borrow.Author.Needs.{needs}
 use Rattle.well_formed.proofs.tally.Statement.{statement}
 use Rattle.well_formed.proofs.tally.Tie as tie
 
 abbrev Inv-loop : tie.InvT-loop
-Inv-loop n stations r₀ p₀ r p = (p ≤ n) × (length r ≡ 33) × ((q : ℕ) → q < 33 → getD r q 0 ≡ count p (λ k. eqb (slotOf (getD stations k 0)) q))
+Inv-loop k stations r₀ p₀ r p = (p ≤ k) × (length r ≡ 33) × ((i : ℕ) → i < 33 → getD r i 0 ≡ count p (λ q. eqb (getD stations q 0) i))
 
 abbrev μ-loop : tie.MeasureT-loop
-μ-loop n stations r₀ p₀ r p = n - p
+μ-loop k stations r₀ p₀ r p = k - p
 
 loop-holds : tie.Need-loop-holds Inv-loop μ-loop
 unfolding count
-loop-holds c = (search needs, search needs, λ q h. getD-replicate 33 q 0 0 h)
+loop-holds c = (search needs, search needs, λ i h. getD-replicate 33 i 0 0 h)
+
+-- the next station has its count
+station-here : (y : tie.In-loop Inv-loop μ-loop) → getD (y .before .before .args .stations .now) (y .before .loop .p) 0 < 33
+station-here y = let l = y .before in omega (arith, l .before .pre .1 (l .loop .p) (omega arith))
 
 add-r : tie.Need-add-r Inv-loop μ-loop
 add-r c =
-    let b = c .before .before .before in
-    let s = c .slot .result in
-    omega (arith, b .loop .inv .2 s (c .slot .ensures .1), count-bound (b .loop .p) (λ k. eqb (slotOf (getD (b .before .args .stations .now) k 0)) s))
+    let y = c .before in
+    let l = y .before .loop in
+    let stations = y .before .before .args .stations .now in
+    let s = getD stations (l .p) 0 in
+    omega (arith, l .inv .2 s (station-here y), count-bound (l .p) (λ q. eqb (getD stations q 0) s))
 
 loop-again : tie.Need-loop-again Inv-loop μ-loop
 loop-again c =
-    let b = c .before .before .before in
-    let f : ℕ → ℕ = λ k. slotOf (getD (b .before .args .stations .now) k 0) in
-    let l : length (b .loop .r) ≡ 33 = b .loop .inv .1 in
-    let e = c .slot .ensures .0 in
-    let u : f (b .loop .p) < 33 = rw e at (c .slot .ensures .1) in
-    (search needs, simp length-set l, rw e (tally-hit 33 (λ _. true) f (b .loop .r) (b .loop .p) (b .loop .inv .2) refl u (omega arith)))
+    let y = c .before in
+    let l = y .before .loop in
+    let f : ℕ → ℕ = λ q. getD (y .before .before .args .stations .now) q 0 in
+    (search needs, simp length-set (l .inv .1), tally-hit 33 (λ _. true) f (l .r) (l .p) (l .inv .2) refl (station-here y) (omega (arith, station-here y)))
 
 returns : tie.Need-returns Inv-loop μ-loop
 returns c = λ i h.
-    let f : ℕ → ℕ = λ k. getD (c .before .before .args .stations .now) k 0 in
-    c .before .loop .inv .2 (suc i) (omega arith) ∙ slot-count (c .before .loop .p) f i h
-    ∙ ap (λ k. count k (λ p. eqb (f p) (suc i))) {x = c .before .loop .p} {y = c .before .before .args .n} (omega arith)
+    let l = c .before .loop in
+    let a = c .before .before .args in
+    l .inv .2 i h ∙ ap (λ k. count k (λ p. eqb (getD (a .stations .now) p 0) i)) {x = l .p} {y = a .k} (omega arith)
 
 pub tally-spec : {M : Type 1} → statement M
-tally-spec = tie.close (tie.spec Inv-loop μ-loop loop-holds (λ c. search needs) (λ c. search needs)
-    (λ c κs. search needs) (λ c. search needs) add-r (λ c. search needs) (λ c. search needs) (λ c. search needs)
+tally-spec = tie.close (tie.spec Inv-loop μ-loop loop-holds (λ c. search needs) (λ c. search needs) (λ c. omega (arith, station-here (c .before)))
+    (λ c. omega (arith, station-here (c .before))) add-r (λ c. omega (arith, station-here (c .before))) (λ c. search needs) (λ c. search needs)
     loop-again returns)

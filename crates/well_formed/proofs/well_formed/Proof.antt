@@ -31,10 +31,9 @@ returns-3 c =
     let n = i .before .before .args .count in
     let low : 2 ≤ n = omega (arith, i .before .if1 .left) in
     let high : n ≤ 32 = omega (arith, i .if2 .left) in
-    let long = z .shaped .ensures 0 .results .long in
     all-tests _ low high
-    (stations _ high long (l .before .before .before .labels-fit .ensures) (l .before .before .phases-fit .ensures) (l .before .results-fit .ensures))
-    (places _ high long (l .labels-fit2 .ensures) (j .none-from .ensures) (k .none-from2 .ensures)
+    (stations _ high (l .before .before .before .labels-fit .ensures) (l .before .before .phases-fit .ensures) (l .before .results-fit .ensures))
+    (places _ high (l .labels-fit2 .ensures) (j .none-from .ensures) (k .none-from2 .ensures)
     (r .before .phases-fit2 .ensures) (r .rest-is-fresh .ensures))
     (c .no-ring .ensures)
 

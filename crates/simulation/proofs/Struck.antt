@@ -1,0 +1,79 @@
+-- What a scan stores, and its end hands out, is document 01's result with the stations struck out that have no job at the snap (02, Card 2): on the bounded and
+-- on the unbounded table, whatever their labels.
+use Prim.Native.Nat.{ℕ, suc}
+use native.Mathlib.Omega.{arith}
+use mathlib.Core.Path.{_≡_, refl, sym, ap, subst, _∙_}
+use mathlib.Core.Logic.{_≢_, _⊎_, inl, inr}
+use mathlib.Core.Bool.{Bool, true, false, cond}
+use mathlib.Core.List as Lists
+use lib.ListN.{length}
+use lib.Dec.{leb}
+use Rattle.basics.specs.Tests.{ordered}
+use Rattle.basics.proofs.Passing.{passing-map}
+use Rattle.simulation.specs.Calls.{Call, place, Scan, Phase, Idle, Update, Snap, End, Entry, entry, Move, unless, notDue, byPhase}
+use Rattle.simulation.specs.Calls.{judgeIn, judge, written}
+use Rattle.simulation.specs.Machine.{original, Rules, stands, shows, jobAt, scanOf, everyone, struck, Outcome, carryOut, State, outcome, step}
+use Rattle.simulation.proofs.Labellings.{here-yes}
+
+pub struck-out : (jobs : ℕ → ℕ) (order : Lists.List ℕ) → scanOf jobs order ≡ struck (everyone jobs order)
+unfolding scanOf
+struck-out jobs order = sym (passing-map (λ (e : Entry). shows (e .job)) (λ i. entry (suc i) (jobs i)) order)
+
+-- a call comes to the move w, or is refused
+abbrev Comes : Move → Move → Type 0
+Comes w m = (m ≡ w) ⊎ ((x : ℕ) × (m ≡ Move.refused x) × (x ≢ 0))
+
+tested : {w : Move} (b : Bool) (x : ℕ) (m : Move) → x ≢ 0 → Comes w m → Comes w (unless b x m)
+unfolding unless
+tested true x m d h = h
+tested false x m d h = inr (x, refl, d)
+
+judged : {w : Move} (n k : ℕ) (ph : Phase) (c : Call) → Comes w (byPhase false k c ph) → Comes w (judgeIn false n k ph c)
+unfolding judgeIn
+judged n k ph c h = tested _ 10 _ (λ e. omega arith) (tested _ 2 _ (λ e. omega arith) (tested _ 11 _ (λ e. omega arith) h))
+
+-- a step 2 snaps for a scan
+scan-judged : (k : ℕ) (c : Call) → c .code ≡ 2 → (ph : Phase) → Comes (Move.snaps (place c) Scan) (byPhase false k c ph)
+unfolding unless
+scan-judged k c two Idle = rw two (inl refl)
+scan-judged k c two (Snap o) = rw two (inr (3, refl, λ e. omega arith))
+scan-judged k c two Update = rw two (inr (3, refl, λ e. omega arith))
+scan-judged k c two (End o) = rw two (inr (3, refl, λ e. omega arith))
+
+-- a step 5 of a process that is due to end a scan ends it
+end-judged : (k : ℕ) (c : Call) → c .code ≡ 5 → Comes (Move.ends (place c) Scan) (byPhase false k c (End Scan))
+end-judged k c five = tested _ (notDue (c .code)) _ (λ e. not-due (leb (c .code) 2) e) (tested _ 7 _ (λ e. omega arith) (inl refl))
+  where
+    not-due : (b : Bool) → cond b 3 (suc (c .code)) ≢ 0
+    not-due true e = omega arith
+    not-due false e = omega arith
+
+module _ {A : Type 0} (n : ℕ) (r : Rules A) (s : State A) (c : Call) where
+  abbrev result : Lists.List Entry
+  result = s .rest .result (place c)
+
+  abbrev called : Move
+  called = judge false n (s .rest) c
+
+  -- an accepted call does what it comes to
+  does : {w : Move} (P : Outcome → Type 0) → step original n r s c .refusal ≡ 0 → Comes w called → P (outcome n r s w) → P (outcome n r s called)
+  unfolding step carryOut
+  does P ok (inl e) h = subst (λ m. P (outcome n r s m)) (sym e) h
+  does P ok (inr (x, e, d)) h = absurd (d (sym (ap (λ m. outcome n r s m .refusal) e) ∙ ok))
+
+  -- THE LAW: after an accepted step 2 the caller's result is document 01's, struck out
+  pub scan-stores : c .code ≡ 2 → step original n r s c .refusal ≡ 0
+      → step original n r s c .state .rest .result (place c) ≡ struck (everyone (jobAt (s .rest)) (ordered n (stands r (s .labels))))
+  unfolding step carryOut
+  scan-stores two ok = does (λ o. o .rest .result (place c) ≡ struck (everyone (jobAt (s .rest)) (ordered n (stands r (s .labels))))) ok
+      (judged n (length result) _ c (scan-judged (length result) c two (s .rest .process (place c) .phase)))
+      (rw (here-yes (place c)) (struck-out (jobAt (s .rest)) (ordered n (stands r (s .labels)))))
+
+  -- and its end hands that out, whatever jobs there are by then
+  pub end-hands-out : c .code ≡ 5 → s .rest .process (place c) .phase ≡ End Scan → step original n r s c .refusal ≡ 0
+      → step original n r s c .report ≡ written (c .line) (c .room) result
+  unfolding step carryOut
+  end-hands-out five e ok = does (λ o. written (c .line) (c .room) (o .handed) ≡ written (c .line) (c .room) result) ok
+      (judged n (length result) _ c (subst (λ ph. Comes (Move.ends (place c) Scan) (byPhase false (length result) c ph)) (sym e)
+      (end-judged (length result) c five)))
+      refl
