@@ -244,7 +244,7 @@ fn a_short_panel_is_refused_last() {
     }
 }
 
-/// Where no station has a job, a scan shows none and ends with no room at all.
+/// Where no station has a job, a scan shows none, and its end needs no room.
 #[test]
 fn an_empty_scan_needs_no_room() {
     for n in 2..=MAX_STATIONS {
@@ -284,7 +284,7 @@ fn a_scan_snaps_as_it_begins() {
     assert!(table.stations[2].result == row_of(&[2]) && table.stations[2].result_jobs == row_of(&[7]));
 }
 
-/// Document 01's table as it was before Card 1, where the snap of a scan was a step of its own: a station that has begun one is kept aside, and begins
+/// A table where the snap of a scan is a step of its own, as before Card 1: a station that has begun one is kept aside, and begins
 /// here when it snaps there.
 struct Before {
     table: Table,

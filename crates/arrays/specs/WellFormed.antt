@@ -1,16 +1,17 @@
 -- Well-formed tables (01, refusal 13: one that is not is spoiled; 02, Card 2). Jobs and pending jobs are not judged, nor which phase a station is in.
 use Prim.Native.Nat.{ℕ, suc, _+_, _-_}
-use mathlib.Core.Bool.{Bool, true, false, not, _&&_}
+use mathlib.Core.Bool.{Bool, true, false, _&&_}
 use mathlib.Core.List.{[]}
 use lib.ListN.{getD}
 use lib.Dec.{eqb, leb}
 use Rattle.basics.specs.Tests.{within, every, count}
 use Rattle.label.specs.Rows.{digit, rowFits, noRing}
+use Rattle.simulation.specs.Machine.{shows}
 use Rattle.arrays.specs.Arrays.{Rows, Arrays, cell, shownIn, labelRow, rowsAt}
 
 -- an entry of a result fits: one of n stations, with a job
 abbrev pub entryFits : ℕ → ℕ → ℕ → Bool
-entryFits n station job = within 1 n station && not (eqb job 0)
+entryFits n station job = within 1 n station && shows job
 
 -- a result fits (02, Card 2): up to its last station, among the first n places, each entry does, and no station stands twice; past n there is no station, and
 -- past the last station no job

@@ -1,4 +1,4 @@
-// A table in four arrays, which are lent: their types, and the fresh table.
+// A table in four arrays, which are lent: their types, the fresh table, and how far a scan result goes.
 ghost use mathlib.Core.Path.{_≡_};
 ghost use Prim.Native.Nat.{ℕ, _≤_};
 ghost use Rattle.moves.specs.Moves.{phaseOf};

@@ -1,4 +1,4 @@
--- Counts of the numbers below a bound that pass a test, and how often a number stands in a list.
+-- Counts of the numbers below a bound that pass a test.
 use Prim.Native.Nat.{ℕ, zero, suc, _+_, _≤_, _<_}
 use native.Mathlib.Decide.{ℕ-discrete}
 use native.Mathlib.Numerals.{add-one}

@@ -23,7 +23,7 @@ module _ {A : Type 0} (f : A → Bool) where
   unfolding passing
   passing-no x l e = rw e refl
 
-  pub passing-cons : (x : A) (l : Lists.List A) → length (passing f (x ∷ l)) ≡ cond (f x) 1 0 + length (passing f l)
+  passing-cons : (x : A) (l : Lists.List A) → length (passing f (x ∷ l)) ≡ cond (f x) 1 0 + length (passing f l)
   unfolding passing
   passing-cons x l = go (f x)
     where

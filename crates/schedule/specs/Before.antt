@@ -1,5 +1,5 @@
--- What Card 1 leaves as it was (the last sentence of 02's Card 1): schedules that snapped right after they began a scan list what they did. Stated over the
--- bytes of a file and of its two reports.
+-- What Card 1 leaves as it was (the last sentence of 02's Card 1): schedules that snapped right after they began a scan list what they would if scans still had
+-- a snap of their own. Stated over the bytes of a file and of its two reports.
 use Prim.Native.Nat.{ℕ, zero, suc, _/_}
 use mathlib.Core.Path.{_≡_}
 use mathlib.Core.Bool.{Bool, true, false, cond}

@@ -6,14 +6,17 @@ use mathlib.Core.Path.{_≡_, refl, sym, ap, subst, _∙_}
 use mathlib.Core.Logic.{_≢_, _⊎_, inl, inr}
 use mathlib.Core.Bool.{Bool, true, false, cond}
 use mathlib.Core.List as Lists
+use mathlib.Core.List.{[], _∷_}
 use lib.ListN.{length}
 use lib.Dec.{leb}
-use Rattle.basics.specs.Tests.{ordered}
+use Rattle.basics.specs.Tests.{ordered, All}
 use Rattle.basics.proofs.Passing.{passing-map}
-use Rattle.simulation.specs.Calls.{Call, place, Scan, Phase, Idle, Update, Snap, End, Entry, entry, Move, unless, notDue, byPhase}
+use Rattle.simulation.specs.Calls.{Call, place, Scan, Phase, Idle, Update, Snap, End, Entry, entry, Process, Move, unless, notDue, byPhase}
 use Rattle.simulation.specs.Calls.{judgeIn, judge, written}
 use Rattle.simulation.specs.Machine.{original, Rules, stands, shows, jobAt, scanOf, everyone, struck, Outcome, carryOut, State, outcome, step}
 use Rattle.simulation.proofs.Labellings.{here-yes}
+use Rattle.simulation.proofs.Judged.{verdict}
+use Rattle.simulation.proofs.Touched.{rest-kept, apart}
 
 pub struck-out : (jobs : ℕ → ℕ) (order : Lists.List ℕ) → scanOf jobs order ≡ struck (everyone jobs order)
 unfolding scanOf
@@ -69,7 +72,7 @@ module _ {A : Type 0} (n : ℕ) (r : Rules A) (s : State A) (c : Call) where
       (judged n (length result) _ c (scan-judged (length result) c two (s .rest .process (place c) .phase)))
       (rw (here-yes (place c)) (struck-out (jobAt (s .rest)) (ordered n (stands r (s .labels)))))
 
-  -- and its end hands that out, whatever jobs there are by then
+  -- and an end hands out the caller's result, whatever jobs there are by then
   pub end-hands-out : c .code ≡ 5 → s .rest .process (place c) .phase ≡ End Scan → step original n r s c .refusal ≡ 0
       → step original n r s c .report ≡ written (c .line) (c .room) result
   unfolding step carryOut
@@ -77,3 +80,45 @@ module _ {A : Type 0} (n : ℕ) (r : Rules A) (s : State A) (c : Call) where
       (judged n (length result) _ c (subst (λ ph. Comes (Move.ends (place c) Scan) (byPhase false (length result) c ph)) (sym e)
       (end-judged (length result) c five)))
       refl
+
+-- A SCAN FROM SNAP TO END, each call by rules of its own, as an unbounded table has them by its advances
+module _ {A : Type 0} (n : ℕ) where
+  -- the state that some calls leave
+  pub left : State A → Lists.List (Rules A × Call) → State A
+  left s [] = s
+  left s (d ∷ ds) = left (step original n (d .0) s (d .1) .state) ds
+
+  -- calls of other processes leave a process its phase and its result
+  others-keep : (k : ℕ) (ds : Lists.List (Rules A × Call)) → All (λ d. k ≢ place (d .1)) ds → (s : State A)
+      → (left s ds .rest .process k ≡ s .rest .process k) × (left s ds .rest .result k ≡ s .rest .result k)
+  unfolding left step
+  others-keep k [] h s = (refl, refl)
+  others-keep k (d ∷ ds) h s =
+      let c = d .1 in
+      let v = verdict n (length (s .rest .result (place c))) c (s .rest .process (place c) .phase) in
+      let e = rest-kept (ordered n (stands (d .0) (s .labels))) (s .rest) (judge false n (s .rest) c) k (apart v k (λ _. h .0)) in
+      let f = others-keep k ds (h .1) (step original n (d .0) s c .state) in
+      (f .0 ∙ e .0, f .1 ∙ e .1)
+
+  scanned-phase : (r : Rules A) (s : State A) (c : Call) → c .code ≡ 2 → step original n r s c .refusal ≡ 0
+      → step original n r s c .state .rest .process (place c) .phase ≡ End Scan
+  unfolding step carryOut
+  scanned-phase r s c two ok = does n r s c (λ o. o .rest .process (place c) .phase ≡ End Scan) ok
+      (judged n (length (s .rest .result (place c))) _ c (scan-judged (length (s .rest .result (place c))) c two (s .rest .process (place c) .phase)))
+      (rw (here-yes (place c)) refl)
+
+  -- what the end reports is document 01's result of the state that the step 2 met, struck out
+  pub scan-reports : (r r′ : Rules A) (s : State A) (c d : Call) (ds : Lists.List (Rules A × Call)) → c .code ≡ 2 → step original n r s c .refusal ≡ 0
+      → All (λ x. place c ≢ place (x .1)) ds → d .code ≡ 5 → place d ≡ place c → let s′ = left (step original n r s c .state) ds in
+      step original n r′ s′ d .refusal ≡ 0
+      → step original n r′ s′ d .report ≡ written (d .line) (d .room) (struck (everyone (jobAt (s .rest)) (ordered n (stands r (s .labels)))))
+  scan-reports r r′ s c d ds two ok others five same ended =
+      end-hands-out n r′ s′ d five (ap (λ k. s′ .rest .process k .phase) same ∙ ap (λ (p : Process). p .phase) (kept .0) ∙ scanned-phase r s c two ok) ended
+      ∙ ap (written (d .line) (d .room)) (ap (λ k. s′ .rest .result k) same ∙ kept .1 ∙ scan-stores n r s c two ok)
+    where
+      s′ : State A
+      s′ = left (step original n r s c .state) ds
+
+      kept : (s′ .rest .process (place c) ≡ step original n r s c .state .rest .process (place c))
+          × (s′ .rest .result (place c) ≡ step original n r s c .state .rest .result (place c))
+      kept = others-keep (place c) ds others (step original n r s c .state)
