@@ -80,7 +80,7 @@ pub struct Handed {
     pub entries: usize,
 }
 
-// The result of a scan of the first n stations of an order: those that have a job.
+// Writes the result of a scan of the first n stations of an order to `rows`: those that have a job.
 fn scan_result(order: &[usize; 32], jobs: &[u32; 32], n: usize, rows: &mut [[u32; 32]; 2])
     requires { ⌜ (n ≤ 32) × (n ≤ length (now order)) ⌝ }
     requires { ⌜ ((p : ℕ) → p < n → getD (now order) p 0 < 32) ⌝ }

@@ -29,7 +29,7 @@ tally-requires c κs =
     (few y, station-small (s .args .n) (s .args .rows .now) _ (y .shown-in .ensures) fit (s .pre))
 
 none-from-requires-2 : tie.Need-none-from-requires-2
-none-from-requires-2 c κs = few (c .before .before .before .before .before .before .before .before .before .before)
+none-from-requires-2 c κs = omega (arith, few (c .before .before .before .before .before .before .before .before .before .before))
 
 returns-2 : tie.Need-returns-2
 returns-2 c =
