@@ -1,13 +1,15 @@
 //! speed [ROUNDS [CALLS]]: the direct step call, with its test of refusal 13, against the same call in plain Rust (`bench/src/plain.rs`): with a report
-//! buffer, and with a panel.
+//! buffer, and with a panel; and the test alone.
 //!
-//! For each n all four run the same calls, all of them valid, from a fresh table, in turn and round after round; the least time of each is taken.
+//! For each n all four run the same calls, all of them valid, from a fresh table, in turn and round after round; the least time of each is taken. The test
+//! alone is timed by calls with an unknown code, on tables reached by those calls and on one whose labels have all digits of a ring at late positions.
 
 use std::hint::black_box;
 use std::time::Instant;
 use ticket_bench::generate::{schedule, Ending};
 use ticket_bench::plain::{self, Table, LINE};
-use tickets::{Board, Record, MAX_STATIONS, REPORT_LINE};
+use tickets::refusal::CODE;
+use tickets::{Board, Record, CURRENT, MAX_STATIONS, REPORT_LINE};
 
 type Report = [u8; MAX_STATIONS * REPORT_LINE];
 
@@ -33,12 +35,55 @@ fn time(calls: &[(u64, u64, u64)], mut step: impl FnMut(u64, u64, u64)) -> f64 {
     start.elapsed().as_secs_f64() * 1e9 / calls.len() as f64
 }
 
+/// The tables and boards after each hundred of the calls.
+fn reached(n: usize, calls: &[(u64, u64, u64)]) -> (Vec<Table>, Vec<Board>) {
+    let (mut table, mut board) = (Table::fresh(n), Board::fresh(n as u64).unwrap());
+    let mut report: Report = [0; MAX_STATIONS * REPORT_LINE];
+    let after = calls.chunks_exact(100).map(|some| {
+        for &(code, station, job) in some {
+            plain::step(&mut table, code, station, job, &mut report);
+            board.step(code, station, job, &mut report).unwrap();
+        }
+        (table.clone(), board.clone())
+    });
+    after.unzip()
+}
+
+/// Labels whose last quarter is all 3s, all 4s or all 5s, behind a digit that differs between these three kinds: no ring, and many labels to compare.
+fn late_digits(n: usize) -> (Vec<Table>, Vec<Board>) {
+    let (mut table, mut board) = (Table::fresh(n), Board::fresh(n as u64).unwrap());
+    for i in 0..n {
+        let kind = (i % 3) as u8;
+        let label = &mut board.labels[CURRENT][i][..n - 1];
+        let (parting, late) = label[(n - 1) * 3 / 4..].split_first_mut().unwrap();
+        *parting = 1 + kind;
+        late.fill(3 + kind);
+        table.stations[i].label = board.labels[CURRENT][i];
+    }
+    (vec![table], vec![board])
+}
+
+/// Nanoseconds for each call with an unknown code, in plain Rust and direct: the table is judged, and nothing is done.
+fn judged(rounds: u64, (tables, boards): &mut (Vec<Table>, Vec<Board>)) -> [f64; 2] {
+    let unknown = [(0, 1, 0); 20];
+    let mut best = [f64::MAX; 2];
+    for _ in 0..rounds {
+        let plain =
+            tables.iter_mut().map(|table| time(&unknown, |code, station, job| assert_eq!(plain::step(table, code, station, job, &mut []).0, CODE)));
+        best[0] = best[0].min(plain.sum::<f64>() / tables.len() as f64);
+        let direct =
+            boards.iter_mut().map(|board| time(&unknown, |code, station, job| assert_eq!(board.step(code, station, job, &mut []), Err(CODE))));
+        best[1] = best[1].min(direct.sum::<f64>() / boards.len() as f64);
+    }
+    best
+}
+
 fn main() {
     let mut arguments = std::env::args().skip(1).map(|a| a.parse().expect("a number"));
     let rounds = arguments.next().unwrap_or(200);
     let lines = arguments.next().unwrap_or(5000);
-    println!("                        report                         panel");
-    println!(" n   plain ns  direct ns  ratio   plain ns  direct ns  ratio");
+    println!("                        report                         panel           13 alone, reached            13 alone, late digits");
+    println!(" n   plain ns  direct ns  ratio   plain ns  direct ns  ratio   plain ns  direct ns  ratio   plain ns  direct ns  ratio");
     for n in [2, 4, 8, 16, 32] {
         let calls = calls(n, lines);
         let mut best = [f64::MAX; 4];
@@ -73,6 +118,7 @@ fn main() {
             }));
         }
         let columns = |plain: f64, direct: f64| format!("{plain:9.0}  {direct:9.0}  {:5.2}", direct / plain);
-        println!("{n:2}  {}  {}", columns(best[0], best[1]), columns(best[2], best[3]));
+        let [a, b] = [reached(n as usize, &calls), late_digits(n as usize)].map(|mut some| judged(rounds, &mut some));
+        println!("{n:2}  {}  {}  {}  {}", columns(best[0], best[1]), columns(best[2], best[3]), columns(a[0], a[1]), columns(b[0], b[1]));
     }
 }

@@ -473,6 +473,60 @@ fn random_bytes() {
     }
 }
 
+/// Three labels with the same first h digits and 3, 4, 5 behind them close a ring; they do not if one of them differs in any one of those h.
+#[test]
+fn rings_behind_shared_digits() {
+    let call = Call { code: 0, station: 1, job: 0, lent: Lent::Report(0) };
+    for n in 3..=MAX_STATIONS {
+        for h in 0..n - 1 {
+            let mut board = Board::fresh(n as u64).unwrap();
+            for station in 0..3 {
+                board.labels[CURRENT][station][h] = 3 + station as u8;
+            }
+            assert_eq!(Guarded::new(board.clone()).call(call), refusal::BOARD, "{n} {h}");
+            for (station, q) in (0..3).flat_map(|station| (0..h).map(move |q| (station, q))) {
+                let mut board = board.clone();
+                board.labels[CURRENT][station][q] = 2;
+                assert_eq!(Guarded::new(board).call(call), refusal::CODE, "{n} {h} {station} {q}");
+            }
+        }
+    }
+}
+
+/// Two labels, held by the stations in turn, that agree before a position and have any two digits there: scans and new labels are as in plain Rust.
+#[test]
+fn labels_that_agree_before_each_position() {
+    let mut random = Random(5);
+    for n in 2..=MAX_STATIONS {
+        for (q, d, e) in (0..n - 1).flat_map(|q| (0..25).map(move |pair| (q, 1 + pair / 5, 1 + pair % 5))) {
+            let mut begun = Board::fresh(n as u64).unwrap();
+            for p in 0..n - 1 {
+                let shared = 1 + random.below(5) as u8;
+                let labels: [u8; 2] = match p {
+                    _ if p < q => [shared; 2],
+                    _ if p == q => [d, e],
+                    _ => from_fn(|_| 1 + random.below(5) as u8),
+                };
+                for i in 0..n {
+                    begun.labels[CURRENT][i][p] = labels[i % 2];
+                }
+            }
+            begun.jobs[CURRENT][..n].fill(7);
+            let station = 1 + random.below(n as u64);
+            for codes in [&[code::SCAN, code::END][..], &[code::BEGIN_LABEL, code::SNAP, code::UPDATE, code::END]] {
+                let mut guarded = Guarded::new(begun.clone());
+                for &code in codes {
+                    let call = Call { code, station, job: u64::from(code == code::BEGIN_LABEL), lent: Lent::Panel(n) };
+                    // The update may close a ring, as the table was reached by no calls.
+                    let may_close = code == code::END && codes.contains(&code::UPDATE);
+                    let refusal = guarded.call(call);
+                    assert!(refusal == 0 || may_close && refusal == refusal::BOARD, "{n} {q} {d} {e} {call:?}");
+                }
+            }
+        }
+    }
+}
+
 /// Boards of random labels, results, jobs and phases that are well-formed more often than not, reached by no calls.
 #[test]
 fn random_contents() {

@@ -3,22 +3,19 @@ use Prim.Native.Nat.{ℕ, zero, suc, _+_, _-_, _≤_, _<_}
 use native.Mathlib.Numerals.{add-one}
 use native.Mathlib.Omega.{arith}
 use mathlib.Core.Path.{_≡_, refl, sym, ap, _∙_}
+use mathlib.Core.Logic.{_≢_}
 use mathlib.Core.Bool.{Bool, true, false, not, _&&_}
 use mathlib.Core.List.{List, [], _∷_}
 use lib.ListN.{getD}
 use lib.Dec.{eqb}
-use borrow.Author.Tests.{eqb-true, eq-eqb, not-true, not-false}
+use borrow.Author.Tests.{eqb-true, eq-eqb, ne-eqb, not-true, not-false}
 use Rattle.basics.specs.Tests.{every}
 use Rattle.label.specs.Labels.{Label, agrees}
 use Rattle.label.specs.Rows.{noRing}
-use Rattle.rows.specs.Held.{partsWith, noRingAt}
-use Rattle.basics.proofs.Facts.{tf, is-false, and-both, both, every-all, every-at, every-no, every-same}
+use Rattle.rows.specs.Held.{held, some, hasDigit, hasAll, partsWith, noRingAt}
+use Rattle.basics.proofs.Facts.{tf, is-false, is-true, and-both, both, every-all, every-at, every-no, every-same}
 use Rattle.label.proofs.Order.{Agree, agrees-true, agree-agrees}
 use Rattle.label.proofs.RowLaws.{ring, ring-true, ring-of}
-
--- some number below n passes
-abbrev pub some : ℕ → (ℕ → Bool) → Bool
-some n f = not (every n (λ j. not (f j)))
 
 pub some-here : (n : ℕ) (f : ℕ → Bool) (j : ℕ) → j < n → f j ≡ true → some n f ≡ true
 some-here n f j l e = ap not (every-no n _ j l (ap not e))
@@ -43,10 +40,18 @@ some-has (suc n) f e = go (f n) refl (some-has n f)
     go false q ih = let r = ih (sym (some-next n f q) ∙ ap (λ k. some k f) (add-one n) ∙ e) in (r .0, omega arith, r .2)
 
 -- an element that is above both x and y is read as itself, whether x or y stands for what is past the list's end
-pub read-else : (l : List ℕ) (p x y d : ℕ) → x < d → y < d → getD l p x ≡ d → getD l p y ≡ d
+read-else : (l : List ℕ) (p x y d : ℕ) → x < d → y < d → getD l p x ≡ d → getD l p y ≡ d
 read-else [] p x y d h k e = absurd (omega arith)
 read-else (a ∷ l) zero x y d h k e = e
 read-else (a ∷ l) (suc p) x y d h k e = read-else l p x y d h k e
+
+-- so it is with a digit above 1 at position p of row j
+module _ (rows : List (List ℕ)) (j p d : ℕ) (h : 1 < d) where
+  pub reads : getD (getD rows j []) p 0 ≡ d → eqb (held rows j p) d ≡ true
+  reads e = eq-eqb _ d (read-else (getD rows j []) p 0 1 d (omega arith) h e)
+
+  pub reads-not : getD (getD rows j []) p 0 ≢ d → eqb (held rows j p) d ≡ false
+  reads-not n = ne-eqb _ d (λ e. n (read-else (getD rows j []) p 1 0 d h (omega arith) e))
 
 -- two tests that pass alike are one
 alike : (a b : Bool) → (a ≡ true → b ≡ true) → (b ≡ true → a ≡ true) → a ≡ b
@@ -84,11 +89,17 @@ module _ (n : ℕ) (t : ℕ → Label) (p i : ℕ) where
   ring-there : noRingAt n t p i ≡ every n (λ j. every n (λ k. not (ring t i p j k)))
   ring-there = alike _ _
       (λ e. every-all n _ (λ j lj. every-all n _ (λ k lk. ap not (is-false (λ h. tf e (ring-parts j k lj lk h))))))
-      (λ e. not-no (λ h. let r = parts-ring h in tf (r .4) (not-true _ (every-at n _ (every-at n _ e (r .0) (r .2)) (r .1) (r .3)))))
+      (λ e. is-true (λ h. let r = parts-ring h in tf (r .4) (not-true _ (every-at n _ (every-at n _ e (r .0) (r .2)) (r .1) (r .3)))))
+
+  -- a ring has all its digits
+  pub digits-there : i < n → hasAll n t p ≡ false → noRingAt n t p i ≡ true
+  digits-there l e = is-true (λ h.
+      let r = parts-ring h in
+      let q = ring-true t i p (r .0) (r .1) (r .4) in
+      tf (both (both (stands i 3 l (q .2)) (stands (r .0) 4 (r .2) (q .3))) (stands (r .1) 5 (r .3) (q .4))) e)
     where
-      not-no : {b : Bool} → (b ≡ false → ⊥) → b ≡ true
-      not-no {b = true} h = refl
-      not-no {b = false} h = absurd (h refl)
+      stands : (j d : ℕ) → j < n → t j p ≡ d → hasDigit n t p d ≡ true
+      stands j d k s = some-here n (λ j. eqb (t j p) d) j k (eq-eqb (t j p) d s)
 
 -- no ring: none at any position
 pub no-ring-each : (n : ℕ) (t : ℕ → Label) → 1 ≤ n → noRing (n - 1) t ≡ every (n - 1) (λ p. every n (noRingAt n t p))

@@ -36,9 +36,20 @@ pub record OrderedBefore (n : ℕ) (rows : List (List ℕ)) (k : ℕ) (order : L
 unfoldable pub pendingIn : ℕ → List (List ℕ) → ℕ → List ℕ → List ℕ
 pendingIn n rows k own = let z = newest n (standsIn n rows) in cond (eqb k z) own (row 31 (newLabel (n - 1) 1 (held rows) z k))
 
+-- some number below n passes
+abbrev pub some : ℕ → (ℕ → Bool) → Bool
+some n f = not (every n (λ j. not (f j)))
+
+-- one of n labels has the digit d at position p; for each digit of a ring one has it
+abbrev pub hasDigit : ℕ → (ℕ → Label) → ℕ → ℕ → Bool
+hasDigit n t p d = some n (λ j. eqb (t j p) d)
+
+abbrev pub hasAll : ℕ → (ℕ → Label) → ℕ → Bool
+hasAll n t p = hasDigit n t p 3 && hasDigit n t p 4 && hasDigit n t p 5
+
 -- one of n labels agrees with label i before position p and has the digit d there
 abbrev pub partsWith : ℕ → (ℕ → Label) → ℕ → ℕ → ℕ → Bool
-partsWith n t i p d = not (every n (λ j. not (eqb (t j p) d && agrees p (t i) (t j))))
+partsWith n t i p d = some n (λ j. eqb (t j p) d && agrees p (t i) (t j))
 
 -- label i has no 3 at position p with which a 4 and a 5 close a ring
 abbrev pub noRingAt : ℕ → (ℕ → Label) → ℕ → ℕ → Bool

@@ -4,7 +4,33 @@ ghost use mathlib.Core.Bool.{not};
 ghost use Prim.Native.Nat.{_-_, _≤_, _<_};
 ghost use Rattle.basics.specs.Tests.{every};
 ghost use Rattle.label.specs.Rows.{noRing};
-ghost use Rattle.rows.specs.Held.{held, partsWith, noRingAt};
+ghost use Rattle.rows.specs.Held.{held, hasDigit, hasAll, partsWith, noRingAt};
+
+// Whether one of the n labels has the digit d, not 1, at position p.
+fn has_digit(d: u8, rows: &[[u8; 31]; 32], n: usize, p: usize) -> bool
+    requires { ⌜ (1 < d) × (n ≤ 32) × (p < n - 1) ⌝ }
+    ensures { λ r. ⌜ r ≡ hasDigit n (held (now (rows .entry))) p d ⌝ }
+{
+    let mut j: usize = 0;
+    while j < n {
+        if rows[j][p] == d {
+            return true;
+        }
+        j += 1;
+    }
+    false
+}
+
+// Whether all digits of a ring stand at position p.
+fn has_all(rows: &[[u8; 31]; 32], n: usize, p: usize) -> bool
+    requires { ⌜ (n ≤ 32) × (p < n - 1) ⌝ }
+    ensures { λ r. ⌜ r ≡ hasAll n (held (now (rows .entry))) p ⌝ }
+{
+    if !has_digit(3, rows, n, p) {
+        return false;
+    }
+    has_digit(4, rows, n, p) && has_digit(5, rows, n, p)
+}
 
 // Whether one of the n labels agrees with label i before position p and has the digit d, not 1, there.
 fn parts_with(d: u8, rows: &[[u8; 31]; 32], n: usize, i: usize, p: usize) -> bool
@@ -37,6 +63,9 @@ fn no_ring_at(rows: &[[u8; 31]; 32], n: usize, p: usize) -> bool
     requires { ⌜ (n ≤ 32) × (p < n - 1) ⌝ }
     ensures { λ r. ⌜ r ≡ every n (noRingAt n (held (now (rows .entry))) p) ⌝ }
 {
+    if !has_all(rows, n, p) {
+        return true;
+    }
     let mut i: usize = 0;
     while i < n {
         if closes_ring(rows, n, i, p) {

@@ -1,14 +1,11 @@
 use mathlib.Core.Path.{ap, sym, _∙_}
 use mathlib.Core.Bool.{not}
-use mathlib.Core.List.{[]}
 use native.Mathlib.Omega.{arith}
-use lib.ListN.{getD}
 use lib.Dec.{eqb}
-use borrow.Author.Tests.{eq-eqb, ne-eqb}
 use Rattle.basics.proofs.Facts.{both, left-no, right-no}
 use Rattle.rows.specs.Held.{held, partsWith}
 use Rattle.basics.proofs.Loops.{and-yes}
-use Rattle.rows.proofs.Rings.{read-else}
+use Rattle.rows.proofs.Rings.{reads, reads-not}
 use borrow.Author.Needs.{needs}
 use Rattle.rows.proofs.ring.closes_ring.Statement.{statement}
 use Rattle.rows.proofs.ring.closes_ring.Tie as tie
@@ -16,14 +13,13 @@ use Rattle.rows.proofs.ring.closes_ring.Tie as tie
 returns : tie.Need-returns
 returns c =
     let a = c .before .before .args in
-    ap not (sym (left-no _ (left-no _ (ne-eqb _ 3 (λ e. c .if1 .taken (read-else (getD (a .rows .now) (a .i) []) (a .p) 1 0 3 (omega arith)
-    (omega arith) e))))))
+    ap not (sym (left-no _ (left-no _ (reads-not (a .rows .now) (a .i) (a .p) 3 (omega arith) (c .if1 .taken)))))
 
 returns-2 : tie.Need-returns-2
 returns-2 c =
     let b = c .before .before .before in
     let a = b .before .before .args in
-    ap not (and-yes (both (eq-eqb _ 3 (read-else (getD (a .rows .now) (a .i) []) (a .p) 0 1 3 (omega arith) (omega arith) (b .if1 .left)))
+    ap not (and-yes (both (reads (a .rows .now) (a .i) (a .p) 3 (omega arith) (b .if1 .left))
     (sym (c .before .before .parts-with .ensures) ∙ c .before .if2 .taken)) (c .parts-with2 .ensures))
 
 returns-3 : tie.Need-returns-3

@@ -1,19 +1,16 @@
 use Prim.Native.Nat.{_-_, _≤_}
 use mathlib.Core.Path.{_≡_, ap, sym, _∙_}
 use mathlib.Core.Bool.{true, false, not, _&&_}
-use mathlib.Core.List.{[]}
 use mathlib.Core.Logic.{⊎-elim}
 use native.Mathlib.Omega.{arith}
-use lib.ListN.{getD}
 use lib.Dec.{eqb}
 use borrow.Author.Needs.{needs}
-use borrow.Author.Tests.{eq-eqb, ne-eqb}
 use Rattle.basics.specs.Tests.{every}
 use Rattle.label.specs.Labels.{agrees}
 use Rattle.rows.specs.Held.{held}
 use Rattle.basics.proofs.Facts.{both, left-no, right-no}
 use Rattle.basics.proofs.Loops.{every-none, every-more, every-done}
-use Rattle.rows.proofs.Rings.{some-here, read-else}
+use Rattle.rows.proofs.Rings.{some-here, reads, reads-not}
 use Rattle.rows.proofs.ring.parts_with.Statement.{statement}
 use Rattle.rows.proofs.ring.parts_with.Tie as tie
 
@@ -33,7 +30,7 @@ returns c =
     let j = b .before .before .before .loop .j in
     sym (some-here (a .n) (λ k. eqb (held (a .rows .now) k (a .p)) (a .d) && agrees (a .p) (held (a .rows .now) (a .i)) (held (a .rows .now) k)) j
     (search needs)
-    (both (eq-eqb _ (a .d) (read-else (getD (a .rows .now) j []) (a .p) 0 1 (a .d) (omega arith) (omega arith) (b .if1 .taken)))
+    (both (reads (a .rows .now) j (a .p) (a .d) (search needs) (b .if1 .taken))
     (sym (c .before .agree .ensures) ∙ c .if2 .taken)))
 
 loop-again : tie.Need-loop-again Inv-loop μ-loop
@@ -44,7 +41,7 @@ loop-again c =
     let same = agrees (a .p) (held (a .rows .now) (a .i)) (held (a .rows .now) j) in
     let none : (here && same) ≡ false =
     ⊎-elim (λ w. right-no here (sym (w .3 .ensures) ∙ w .4 .left))
-    (λ w. left-no same (ne-eqb _ (a .d) (λ e. w .left (read-else (getD (a .rows .now) j []) (a .p) 1 0 (a .d) (omega arith) (omega arith) e))))
+    (λ w. left-no same (reads-not (a .rows .now) j (a .p) (a .d) (search needs) (w .left)))
     (c .if1 .came) in
     (search needs, every-more _ _ (c .before .before .before .loop .inv .1) (ap not none))
 
