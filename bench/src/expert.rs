@@ -1,12 +1,13 @@
-//! The schedule program in plain Rust once more, by an expert. It is the program of `plain` with these four things:
+//! The schedule program in plain Rust once more, by an expert. It is the program of `plain` with these five things:
 //!
 //! - A label is one number, three bits a digit, and labels are compared as numbers.
 //! - The scan order is kept: an update takes one station out and puts it in again by binary search.
 //! - A scan result has the count of the stations that it shows beside it.
+//! - Out of service is one more phase, and a station has job 0 while it lasts: so neither a step nor a scan asks for it by itself.
 //! - Report lines come from a template: the columns that do not change within a scan are written once, as `plain` does too.
 
 use crate::plain::{fill, put, read_header, read_line, refusal, report_line, write_refusal};
-use crate::plain::{Label, Operation, Phase, LINE, MAX_DIGITS, MAX_STATIONS, MAX_STEPS, REPORT_LINE};
+use crate::plain::{Label, LINE, MAX_DIGITS, MAX_STATIONS, MAX_STEPS, REPORT_LINE};
 use std::io::{self, Read, Write};
 
 /// A label with its station: three bits a digit, earlier digits higher, and the station, from 0, in the lowest bits, since of two equal labels the lower
@@ -52,10 +53,23 @@ fn above(top: Key, digits: usize, station: usize) -> Key {
     kept | next << shift(digits) | station as Key
 }
 
+#[derive(Clone, Copy)]
+enum Phase {
+    Idle,
+    Snap,
+    Update,
+    EndLabel,
+    EndScan,
+    /// Out of service, and idle.
+    Out,
+}
+
 struct Station {
     key: Key,
+    /// 0 while the station is out of service.
     job: u32,
     pending_key: Key,
+    /// Of an idle station the job that it has, in service or out of it.
     pending_job: u32,
     /// How many stations the scan result shows; what its rows hold past them is no part of it.
     shown: usize,
@@ -128,7 +142,7 @@ impl Table {
             shown += usize::from(job != 0);
         }
         self.stations[i].shown = shown;
-        self.stations[i].phase = Phase::End(Operation::Scan);
+        self.stations[i].phase = Phase::EndScan;
     }
 
     fn update(&mut self, i: usize) {
@@ -136,7 +150,7 @@ impl Table {
         let key = s.pending_key;
         s.key = key;
         s.job = s.pending_job;
-        s.phase = Phase::End(Operation::Label);
+        s.phase = Phase::EndLabel;
         let order = &mut self.order[..self.n];
         let from = order.iter().position(|&j| usize::from(j) == i).expect("each station has a place");
         order.copy_within(from + 1.., from);
@@ -149,7 +163,7 @@ impl Table {
     /// A step line: the station, from 0, whose scan it ends, if it does; or the refusal.
     pub fn serve(&mut self, bytes: &[u8]) -> Result<Option<usize>, u64> {
         let (station, code, job) = read_line(bytes)?;
-        if !(1..=5).contains(&code) {
+        if !(1..=7).contains(&code) {
             return Err(refusal::CODE);
         }
         if !(1..=self.n as u64).contains(&station) {
@@ -169,12 +183,22 @@ impl Table {
             (2, Phase::Idle) => self.scan(i),
             (3, Phase::Snap) => self.snap_label(i),
             (4, Phase::Update) => self.update(i),
-            (5, Phase::End(Operation::Label)) => s.phase = Phase::Idle,
-            (5, Phase::End(Operation::Scan)) => {
+            (5, Phase::EndLabel) => s.phase = Phase::Idle,
+            (5, Phase::EndScan) => {
                 s.phase = Phase::Idle;
                 return Ok(Some(i));
             }
-            (1 | 2, _) => return Err(refusal::BUSY),
+            (6, Phase::Idle) => {
+                s.job = 0;
+                s.phase = Phase::Out;
+            }
+            (7, Phase::Out) => {
+                s.job = s.pending_job;
+                s.phase = Phase::Idle;
+            }
+            (1 | 2 | 6, Phase::Out) => return Err(refusal::OUT_OF_SERVICE),
+            (7, _) => return Err(refusal::IN_SERVICE),
+            (1 | 2 | 6, _) => return Err(refusal::BUSY),
             (3, _) => return Err(refusal::NO_SNAP_DUE),
             (4, _) => return Err(refusal::NO_UPDATE_DUE),
             _ => return Err(refusal::NO_END_DUE),

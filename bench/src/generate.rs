@@ -1,4 +1,4 @@
-//! Schedules by a seed. The generator keeps the phases of the stations and no labels.
+//! Schedules by a seed. The generator keeps of each station its phase and whether it is in service, and no labels.
 
 use crate::plain::{put, Operation, Phase, LINE};
 
@@ -42,7 +42,9 @@ pub enum Ending {
 
 struct Player {
     phase: Phase,
-    /// Stalled up to this line.
+    /// Out of service.
+    out: bool,
+    /// Stalled, or out of service, up to this line.
     until: u64,
 }
 
@@ -73,21 +75,31 @@ fn job(random: &mut Random) -> u64 {
     (random.word() >> (64 - bits)).max(1)
 }
 
-/// How long a station stalls: mostly some rounds of the others, now and then for hundreds of them.
+/// How long a station stalls or is out of service: mostly some rounds of the others, now and then for hundreds of them.
 fn stall(random: &mut Random, n: u64) -> u64 {
     let rounds = if random.one_in(64) { 400 } else { 20 };
     1 + random.below(rounds * n)
 }
 
-/// A line that is refused: with 2, 10 or 11, or by the phase of its station.
+/// A line that is refused: with 2, 10 or 11, with 14 or 15, or by the phase of its station.
 fn refused(random: &mut Random, n: u64, players: &[Player]) -> [u8; LINE] {
     let station = 1 + random.below(n);
     let phase = players[station as usize - 1].phase;
-    match random.below(7) {
-        0 => line(random.pick(&[0, n + 1, n + 1, n + 256, 999]), 1 + random.below(5), 0),
-        1 => line(station, random.pick(&[0, 6, 7, 9, 255, 257, 999]), random.pick(&[0, 0, 7])),
+    match random.below(8) {
+        0 => line(random.pick(&[0, n + 1, n + 1, n + 256, 999]), 1 + random.below(7), 0),
+        1 => line(station, random.pick(&[0, 8, 9, 255, 257, 263, 999]), random.pick(&[0, 0, 7])),
         2 if random.one_in(2) => line(station, 1, random.pick(&[0, 4_294_967_296, 99_999_999_999])),
-        2 => line(station, 2 + random.below(4), job(random)),
+        2 => line(station, 2 + random.below(6), job(random)),
+        // 14 or 15: half of the time of a station that is out of service, if one is.
+        3 => {
+            let first_out = (0..n).map(|k| 1 + (station - 1 + k) % n).find(|&k| players[k as usize - 1].out);
+            let named = first_out.filter(|_| random.one_in(2)).unwrap_or(station);
+            match random.pick(&[1, 2, 6]) {
+                _ if !players[named as usize - 1].out => line(named, 7, 0),
+                1 => line(named, 1, job(random)),
+                code => line(named, code, 0),
+            }
+        }
         // 3 to 6: a code that the phase does not allow.
         _ if phase == Phase::Idle => line(station, 3 + random.below(3), 0),
         _ => {
@@ -96,7 +108,7 @@ fn refused(random: &mut Random, n: u64, players: &[Player]) -> [u8; LINE] {
                 Phase::Update => 4,
                 _ => 5,
             };
-            match random.pick(&[1, 2, 3, 4, 5]) {
+            match random.pick(&[1, 2, 3, 4, 5, 6]) {
                 1 => line(station, 1, job(random)),
                 code if code == allowed => line(station, 2, 0),
                 code => line(station, code, 0),
@@ -109,7 +121,7 @@ fn refused(random: &mut Random, n: u64, players: &[Player]) -> [u8; LINE] {
 pub fn schedule(n: u64, lines: u64, seed: u64, ending: Ending) -> Vec<u8> {
     assert!((2..=32).contains(&n), "2 to 32 stations");
     let mut random = Random(seed ^ n << 32);
-    let mut players: Vec<Player> = (0..n).map(|_| Player { phase: Phase::Idle, until: 0 }).collect();
+    let mut players: Vec<Player> = (0..n).map(|_| Player { phase: Phase::Idle, out: false, until: 0 }).collect();
     let mut awake = Vec::new();
     let mut bytes = Vec::with_capacity((lines as usize + 2) * LINE);
     bytes.extend(line(n, 0, 0));
@@ -125,6 +137,8 @@ pub fn schedule(n: u64, lines: u64, seed: u64, ending: Ending) -> Vec<u8> {
         let i = if awake.is_empty() { first.unwrap_or(0) } else { random.pick(&awake) };
         let player = &mut players[i];
         let (code, job, next) = match player.phase {
+            Phase::Idle if player.out => (7, 0, Phase::Idle),
+            Phase::Idle if random.one_in(64) => (6, 0, Phase::Idle),
             Phase::Idle if random.one_in(4) => (2, 0, Phase::End(Operation::Scan)),
             Phase::Idle => (1, job(&mut random), Phase::Snap),
             Phase::Snap => (3, 0, Phase::Update),
@@ -132,6 +146,7 @@ pub fn schedule(n: u64, lines: u64, seed: u64, ending: Ending) -> Vec<u8> {
             Phase::End(_) => (5, 0, Phase::Idle),
         };
         let stalls = match next {
+            _ if code == 6 => true,
             // After the begin of either operation.
             Phase::Snap | Phase::End(Operation::Scan) => random.one_in(32),
             Phase::Update => random.one_in(16),
@@ -141,6 +156,7 @@ pub fn schedule(n: u64, lines: u64, seed: u64, ending: Ending) -> Vec<u8> {
             player.until = now + stall(&mut random, n);
         }
         player.phase = next;
+        player.out = code == 6;
         bytes.extend(line(i as u64 + 1, code, job));
     }
     match ending {

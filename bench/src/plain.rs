@@ -1,4 +1,4 @@
-//! The schedule program in plain Rust, written from documents 01 and 02 (Cards 1 and 2) and not from the Rattle code.
+//! The schedule program in plain Rust, written from documents 01 and 02 (Cards 1, 2 and 4) and not from the Rattle code.
 
 use std::cmp::Ordering;
 use std::io::{self, Read, Write};
@@ -10,7 +10,7 @@ pub const MAX_STEPS: u32 = 1_000_000;
 pub const LINE: usize = 18;
 pub const REPORT_LINE: usize = 29;
 
-/// Document 01's numbers for what is refused.
+/// The documents' numbers for what is refused.
 pub mod refusal {
     pub const COUNT: u64 = 1;
     pub const STATION: u64 = 2;
@@ -25,6 +25,8 @@ pub mod refusal {
     pub const JOB: u64 = 11;
     pub const TOO_MANY: u64 = 12;
     pub const ILL_FORMED: u64 = 13;
+    pub const OUT_OF_SERVICE: u64 = 14;
+    pub const IN_SERVICE: u64 = 15;
 }
 
 /// Digits 1 to 5; positions past n - 1 hold 1.
@@ -65,6 +67,8 @@ pub struct Station {
     pub result: [u8; MAX_STATIONS],
     pub result_jobs: [u32; MAX_STATIONS],
     pub phase: Phase,
+    /// Out of service; such a station is idle.
+    pub out: bool,
 }
 
 impl Station {
@@ -77,6 +81,7 @@ impl Station {
             result: [0; MAX_STATIONS],
             result_jobs: [0; MAX_STATIONS],
             phase: Phase::Idle,
+            out: false,
         }
     }
 
@@ -103,6 +108,7 @@ impl Station {
             && empty.iter().all(|&station| station == 0)
             && jobs.iter().all(|&job| job != 0)
             && no_jobs.iter().all(|&job| job == 0)
+            && (!self.out || self.phase == Phase::Idle)
     }
 }
 
@@ -228,9 +234,9 @@ impl Table {
     fn scan(&mut self, station: usize) {
         let (mut result, mut result_jobs) = ([0; MAX_STATIONS], [0; MAX_STATIONS]);
         let order = self.order();
-        let with_jobs = order[..self.n].iter().map(|&i| (i + 1, self.stations[usize::from(i)].job)).filter(|&(_, job)| job != 0);
-        for (place, shown) in with_jobs.enumerate() {
-            (result[place], result_jobs[place]) = shown;
+        let shown = order[..self.n].iter().map(|&i| (i + 1, &self.stations[usize::from(i)])).filter(|(_, s)| s.job != 0 && !s.out);
+        for (place, (number, s)) in shown.enumerate() {
+            (result[place], result_jobs[place]) = (number, s.job);
         }
         let s = &mut self.stations[station];
         (s.result, s.result_jobs, s.phase) = (result, result_jobs, Phase::End(Operation::Scan));
@@ -238,7 +244,7 @@ impl Table {
 
     /// The step on a well-formed table: how much was written, or the refusal. An ended scan is written by `write`, from the station with the result.
     fn serve(&mut self, code: u64, station: u64, job: u64, write: impl FnOnce(&Station) -> Result<usize, u64>) -> Result<usize, u64> {
-        if !(1..=5).contains(&code) {
+        if !(1..=7).contains(&code) {
             return Err(refusal::CODE);
         }
         if !(1..=self.n as u64).contains(&station) {
@@ -250,6 +256,11 @@ impl Table {
         }
         let i = station as usize - 1;
         let s = &mut self.stations[i];
+        match (code, s.out) {
+            (1 | 2 | 6, true) => return Err(refusal::OUT_OF_SERVICE),
+            (7, false) => return Err(refusal::IN_SERVICE),
+            _ => {}
+        }
         match (code, s.phase) {
             (1, Phase::Idle) => {
                 s.pending_job = job as u32;
@@ -268,7 +279,9 @@ impl Table {
                 s.phase = Phase::Idle;
                 return Ok(written);
             }
-            (1 | 2, _) => return Err(refusal::BUSY),
+            (6, Phase::Idle) => s.out = true,
+            (7, _) => s.out = false,
+            (1 | 2 | 6, _) => return Err(refusal::BUSY),
             (3, _) => return Err(refusal::NO_SNAP_DUE),
             (4, _) => return Err(refusal::NO_UPDATE_DUE),
             _ => return Err(refusal::NO_END_DUE),

@@ -40,7 +40,7 @@ fn vectors() {
             }
         }
     }
-    assert!(counts[0] == 177 && counts[1] >= 70 && counts[2] >= 3, "{counts:?}");
+    assert!(counts[0] == 180 && counts[1] >= 90 && counts[2] >= 4, "{counts:?}");
 }
 
 fn line(code: u64, station: u64, job: u64) -> [u8; LINE] {
@@ -212,7 +212,7 @@ const BYTES: &[u8; 16] = b"  0123459/:a\n\r\0\xb1";
 #[test]
 fn damaged_lines() {
     let mut random = Random(17);
-    let mut last = [0; 14];
+    let mut last = [0; 16];
     for round in 0..20_000 {
         let n = 2 + round % 31;
         let mut bytes = schedule(n, random.below(60), round, Ending::Plain);
@@ -231,7 +231,7 @@ fn damaged_lines() {
             last[std::str::from_utf8(&end[..3]).unwrap().trim().parse::<usize>().unwrap()] += 1;
         }
     }
-    assert!([1, 2, 3, 4, 5, 6, 8, 9, 10].iter().all(|&number| last[number] > 10), "how reports end: {last:?}");
+    assert!([1, 2, 3, 4, 5, 6, 8, 9, 10, 15].iter().all(|&number| last[number] > 10), "how reports end: {last:?}");
 }
 
 /// All columns of three bytes out of some, as station and as code, in the header and behind it.

@@ -4,6 +4,7 @@ use std::fs;
 use std::path::Path;
 use ticket_bench::generate::{schedule, Ending, Random};
 use ticket_bench::plain::{run, step, step_panel, Label, Operation, Phase, Record, Station, Table, LINE, MAX_STATIONS, REPORT_LINE};
+use ticket_bench::FOLLOWS;
 
 fn report(mut schedule: &[u8]) -> Vec<u8> {
     let mut report = Vec::new();
@@ -41,7 +42,7 @@ fn vectors() {
             count += 1;
         }
     }
-    assert_eq!(count, 177);
+    assert_eq!(count, 180);
 }
 
 fn accepted(table: &mut Table, code: u64, station: u64, job: u64) {
@@ -168,7 +169,7 @@ fn a_panel_shows_what_a_report_shows() {
         let schedule = schedule(n as u64, 3_000, 100 + n as u64, Ending::Plain);
         let (mut table, mut other) = (Table::fresh(n), Table::fresh(n));
         let mut scans = 0;
-        // For each station that scans, how many had a job at its snap.
+        // For each station that scans, how many had a job and were in service at its snap.
         let mut scanning = [None; MAX_STATIONS + 1];
         for (at, (code, station, job)) in steps(&schedule).enumerate() {
             let with_jobs = scanning.get(station as usize).copied().flatten();
@@ -187,7 +188,7 @@ fn a_panel_shows_what_a_report_shows() {
             assert!(shown.iter().zip(1..).all(|(record, place)| record.place == place && record.job != 0));
             match (refused, code) {
                 (0, 2) => {
-                    let count = table.stations[..n].iter().filter(|s| s.job != 0).count();
+                    let count = table.stations[..n].iter().filter(|s| s.job != 0 && !s.out).count();
                     scanning[station as usize] = Some(count);
                     kinds[usize::from(count > 0) + usize::from(count == n)] += 1;
                 }
@@ -295,14 +296,14 @@ impl Before {
     fn step(&mut self, code: u64, station: u64, job: u64, report: &mut [u8]) -> (u64, usize) {
         let i = (station as usize).wrapping_sub(1);
         match code {
-            _ if !self.begun.get(i).is_some_and(|&begun| begun) || !(1..=5).contains(&code) => {}
+            _ if !self.begun.get(i).is_some_and(|&begun| begun) || !(1..=7).contains(&code) => {}
             1 if job == 0 || job > u32::MAX.into() => return (11, 0),
             2.. if job != 0 => return (11, 0),
             3 => {
                 self.begun[i] = false;
                 return step(&mut self.table, 2, station, 0, report);
             }
-            _ => return ([3, 3, 4, 5, 6][code as usize - 1], 0),
+            _ => return ([3, 3, 4, 5, 6, 3, 15][code as usize - 1], 0),
         }
         let kept = (code == 2).then(|| self.table.clone());
         let answer = step(&mut self.table, code, station, job, report);
@@ -359,6 +360,85 @@ fn a_short_report_is_refused_last() {
     }
 }
 
+/// Each step of a station in each of its phases and out of service: accepted, or refused by this number.
+#[test]
+fn what_may_follow_what() {
+    for (codes, expected) in FOLLOWS {
+        let mut reached = Table::fresh(2);
+        for &code in codes {
+            assert_eq!(step(&mut reached, code, 1, u64::from(code == 1), &mut [0; REPORT_LINE]).0, 0);
+        }
+        for (code, refused) in (1..).zip(expected) {
+            let job = u64::from(code == 1);
+            let mut table = reached.clone();
+            assert_eq!(step(&mut table, code, 1, job, &mut []).0, refused, "{codes:?}, then {code}");
+            assert_eq!(table == reached, refused != 0, "{codes:?}, then {code}");
+            // What goes before these, last to first.
+            for (code, station, job, refused) in [(code, 1, 1 - job, 11), (code, 1, 1 << 32, 11), (code, 3, 1 - job, 2), (code + 7, 3, 1 - job, 10)] {
+                let mut table = reached.clone();
+                assert_eq!(step(&mut table, code, station, job, &mut []), (refused, 0), "{codes:?}, then {code}");
+                assert!(table == reached);
+            }
+        }
+    }
+}
+
+/// The label of a station out of service counts for the newest, for the new labels of others, and for the order when it is back.
+#[test]
+fn labels_out_of_service_count() {
+    for n in 2..=MAX_STATIONS {
+        // Station 1 is the newest and leaves. Station 2 goes above it, which it would not as the newest in service.
+        let mut table = Table::fresh(n);
+        label(&mut table, &[1]);
+        accepted(&mut table, 6, 1, 0);
+        label(&mut table, &[2]);
+        order(&table, &Vec::from_iter((3..=n as u8).chain([1, 2])));
+        accepted(&mut table, 2, 2, 0);
+        assert_eq!((table.stations[1].result, table.stations[1].result_jobs), (row_of(&[2]), row_of(&[7])));
+        accepted(&mut table, 7, 1, 0);
+        accepted(&mut table, 2, 1, 0);
+        assert_eq!((table.stations[0].result, table.stations[0].result_jobs), (row_of(&[1, 2]), row_of(&[7, 7])));
+        assert_eq!(table.stations[1].result, row_of(&[2]));
+    }
+    // P6 with one of the first two stations out when the third takes its label: both have the first digit of the top label, so it moves on.
+    for out in [1, 2] {
+        let mut table = Table::fresh(3);
+        label(&mut table, &[1, 2]);
+        accepted(&mut table, 6, out, 0);
+        label(&mut table, &[3]);
+        labels(&table, &[&[2, 1], &[2, 2], &[3, 1]]);
+    }
+    // The newest keeps its label over its time out of service.
+    let mut table = Table::fresh(3);
+    label(&mut table, &[1, 2]);
+    accepted(&mut table, 6, 2, 0);
+    accepted(&mut table, 7, 2, 0);
+    label(&mut table, &[2]);
+    labels(&table, &[&[2, 1], &[2, 2], &[1, 1]]);
+}
+
+/// A station that leaves is out of service, and nothing else changes; its return undoes that.
+#[test]
+fn leave_and_return() {
+    for n in 2..=MAX_STATIONS {
+        let (mut table, mut idle) = (Table::fresh(n), 0);
+        for (code, station, job) in steps(&schedule(n as u64, 500, 300 + n as u64, Ending::Plain)) {
+            step(&mut table, code, station, job, &mut [0; MAX_STATIONS * REPORT_LINE]);
+            let kept = table.clone();
+            for i in (0..n).filter(|&i| kept.stations[i].phase == Phase::Idle && !kept.stations[i].out) {
+                accepted(&mut table, 6, i as u64 + 1, 0);
+                let mut expected = kept.clone();
+                expected.stations[i].out = true;
+                assert!(table == expected);
+                accepted(&mut table, 7, i as u64 + 1, 0);
+                assert!(table == kept);
+                idle += 1;
+            }
+        }
+        assert!(idle > 100, "{idle} times, n = {n}");
+    }
+}
+
 /// A table of three stations whose scan results show 1 and 2, none, and 3, 1, 2.
 fn with_results() -> Table {
     let mut table = Table::fresh(3);
@@ -370,7 +450,7 @@ fn with_results() -> Table {
 #[test]
 fn ill_formed_tables() {
     type Damage = fn(&mut Table);
-    let damages: [Damage; 25] = [
+    let damages: [Damage; 31] = [
         |t| t.n = 0,
         |t| t.n = 1,
         |t| t.n = 33,
@@ -398,7 +478,14 @@ fn ill_formed_tables() {
         |t| t.stations[0].result[2] = 3,
         // More stations than there are.
         |t| (t.stations[2].result[3], t.stations[2].result_jobs[3]) = (4, 9),
+        // Out of service and not idle.
+        |t| (t.stations[0].out, t.stations[0].phase) = (true, Phase::Snap),
+        |t| (t.stations[1].out, t.stations[1].phase) = (true, Phase::Update),
+        |t| (t.stations[2].out, t.stations[2].phase) = (true, Phase::End(Operation::Label)),
+        |t| (t.stations[2].out, t.stations[2].phase) = (true, Phase::End(Operation::Scan)),
         // Past the stations.
+        |t| t.stations[3].out = true,
+        |t| t.stations[31].out = true,
         |t| t.stations[3].phase = Phase::Update,
         |t| t.stations[3].result[0] = 1,
         |t| (t.stations[31].result[0], t.stations[31].result_jobs[0]) = (1, 1),
@@ -409,12 +496,12 @@ fn ill_formed_tables() {
         assert!(table.is_well_formed());
         damage(&mut table);
         let kept = table.clone();
-        for (code, station, job) in [(1, 1, 7), (2, 3, 0), (0, 0, 0), (9, 99, 9)] {
+        for (code, station, job) in [(1, 1, 7), (2, 3, 0), (6, 1, 0), (7, 2, 0), (0, 0, 0), (9, 99, 9)] {
             assert_eq!(step(&mut table, code, station, job, &mut [0; 928]), (13, 0), "damage {at}");
         }
         assert!(table == kept);
     }
-    // No job and no phase of the stations is judged, a result may have other jobs than the stations now, and pending labels may close a ring.
+    // No job and no phase of the stations in service is judged, a result may have other jobs than the stations now, and pending labels may close a ring.
     let mut table = with_results();
     for (i, station) in table.stations[..3].iter_mut().enumerate() {
         station.pending_label = row(&[2, 3 + i as u8]);
@@ -457,15 +544,24 @@ fn generated_schedules() {
         assert!(plain != schedule(n, lines, 6, Ending::Plain));
         assert_eq!(plain.len() as u64, (lines + 1) * LINE as u64);
         let shown = refusals(&report(&plain));
-        let mut counts = [0; 14];
+        let mut counts = [0; 16];
         shown.iter().for_each(|&(_, refused)| counts[refused as usize] += 1);
         for (refused, count) in counts.iter().enumerate().skip(1) {
-            assert_eq!(*count > 0, [2, 3, 4, 5, 6, 10, 11].contains(&refused), "refusal {refused}, n = {n}");
+            assert_eq!(*count > 0, [2, 3, 4, 5, 6, 10, 11, 14, 15].contains(&refused), "refusal {refused}, n = {n}");
         }
         let refused: u64 = counts[1..].iter().sum();
         assert!((lines / 50..lines / 20).contains(&refused), "{refused} refused, n = {n}");
         let begun = |code| plain.chunks(LINE).filter(|line| line[5] == code).count();
         assert!((3..5).contains(&((begun(b'1') + begun(b'2')) / begun(b'2'))), "the share of scans, n = {n}");
+        // While a station that has a job is out of service: scans, which do not show it, and snaps, for which its label counts.
+        let (mut table, mut scans, mut snaps) = (Table::fresh(n as usize), 0, 0);
+        for (code, station, job) in steps(&plain) {
+            let out = table.stations.iter().any(|s| s.out && s.job != 0);
+            let served = step(&mut table, code, station, job, &mut [0; MAX_STATIONS * REPORT_LINE]).0 == 0;
+            scans += u32::from(served && out && code == 2);
+            snaps += u32::from(served && out && code == 3);
+        }
+        assert!(scans > 100 && snaps > 300, "{scans} scans and {snaps} snaps while a station is out, n = {n}");
         for (ending, refused) in [(Ending::Incomplete, 8), (Ending::Column, 9)] {
             let report = report(&schedule(n, lines, 5, ending));
             assert_eq!(refusals(&report).last(), Some(&(lines + 2, refused)));

@@ -1,6 +1,7 @@
 /* Document 01's listing as direct calls with a report buffer, as direct calls with a panel, and as a schedule file. Of a refused call with a report
    buffer this prints the line that the schedule program would print; a direct call's lines bear the number 0. The second call of station 2 is refused by
-   4 in all three: a scan has no snap of its own. Its scan shows station 1 alone, which has a job. From the root:
+   4 in all three: a scan has no snap of its own. Its scan shows station 1 alone, which has a job. After the calls with a panel station 1 is out of service
+   for a while: a scan does not show it. From the root:
    rt staticlib exports && cc -Wall -Wextra -O2 bindings/c/example.c target/staticlib/libexports.a -o /tmp/example && /tmp/example */
 #include <inttypes.h>
 #include <stdio.h>
@@ -28,6 +29,18 @@ static const char file[] =
     "  2  5          0\n"
     "  3  3          0\n";
 
+/* Prints how many stations a scan of station 2 shows, or what one of its steps is refused by. */
+static void print_shown(struct tickets_board *board) {
+    struct tickets_record panel[TICKETS_MAX_STATIONS] = {{0, 0, 0}};
+    struct tickets_answer answer = tickets_board_step_panel(board, TICKETS_SCAN, 2, 0, panel, TICKETS_MAX_STATIONS);
+    if (answer.refusal == 0)
+        answer = tickets_board_step_panel(board, TICKETS_END, 2, 0, panel, TICKETS_MAX_STATIONS);
+    if (answer.refusal == 0)
+        printf("stations shown: %" PRIu64 "\n", answer.written);
+    else
+        printf("scan refused by %" PRIu64 "\n", answer.refusal);
+}
+
 int main(void) {
     static struct tickets_board board;
     uint8_t report[TICKETS_MAX_STATIONS * TICKETS_REPORT_LINE] = {0};
@@ -50,6 +63,12 @@ int main(void) {
         for (uint64_t at = 0; at < answer.written; at++)
             printf("panel: place %" PRIu32 ", station %" PRIu32 ", job %" PRIu32 "\n", panel[at].place, panel[at].station, panel[at].job);
     }
+    for (int times = 0; times < 2; times++)
+        printf("station 1 leaves service: %" PRIu64 "\n", tickets_board_leave_service(&board, 1));
+    print_shown(&board);
+    for (int times = 0; times < 2; times++)
+        printf("station 1 returns to service: %" PRIu64 "\n", tickets_board_return_to_service(&board, 1));
+    print_shown(&board);
     static uint8_t whole[TICKETS_REPORT_ROOM(sizeof file - 1)];
     struct tickets_answer answer = tickets_report((const uint8_t *)file, sizeof file - 1, whole, sizeof whole);
     if (answer.refusal != 0)

@@ -17,14 +17,23 @@
 
 enum { TICKETS_MAX_STATIONS = 32, TICKETS_MAX_DIGITS = 31, TICKETS_LINE = 18, TICKETS_REPORT_LINE = 29 };
 
-/* The steps of a call. A label operation is begin, snap, update, end. A scan is two: TICKETS_SCAN begins it and snaps, TICKETS_END ends it. */
-enum { TICKETS_BEGIN_LABEL = 1, TICKETS_SCAN = 2, TICKETS_SNAP = 3, TICKETS_UPDATE = 4, TICKETS_END = 5 };
+/* The steps of a call. A label operation is begin, snap, update, end. A scan is two: TICKETS_SCAN begins it and snaps, TICKETS_END ends it.
+   By TICKETS_LEAVE_SERVICE an idle station leaves service, by TICKETS_RETURN_TO_SERVICE it returns. */
+enum {
+    TICKETS_BEGIN_LABEL = 1,
+    TICKETS_SCAN = 2,
+    TICKETS_SNAP = 3,
+    TICKETS_UPDATE = 4,
+    TICKETS_END = 5,
+    TICKETS_LEAVE_SERVICE = 6,
+    TICKETS_RETURN_TO_SERVICE = 7
+};
 
 /* What is refused; 0 is a call that was served. */
 enum {
     TICKETS_BAD_COUNT = 1,       /* not 2 to 32 stations */
     TICKETS_BAD_STATION = 2,     /* not 1 to count */
-    TICKETS_BUSY = 3,            /* a begin, and the station is not idle */
+    TICKETS_BUSY = 3,            /* a begin or a leave, and the station is not idle */
     TICKETS_NO_SNAP_DUE = 4,
     TICKETS_NO_UPDATE_DUE = 5,
     TICKETS_NO_END_DUE = 6,
@@ -35,13 +44,16 @@ enum {
     TICKETS_BAD_CODE = 10,
     TICKETS_BAD_JOB = 11,        /* not 1 to 4294967295 to begin a label, not 0 for every other step */
     TICKETS_TOO_MANY_LINES = 12, /* a line after the 1000000th step line; it ends a file */
-    TICKETS_BAD_BOARD = 13       /* a board that is no well-formed table */
+    TICKETS_BAD_BOARD = 13,      /* a board that is no well-formed table */
+    TICKETS_OUT_OF_SERVICE = 14, /* a begin or a leave, and the station is out of service */
+    TICKETS_IN_SERVICE = 15      /* a return, and the station is in service */
 };
 
 /* The planes of labels and jobs: what a station has, and what its next update will make of it. */
 enum { TICKETS_CURRENT = 0, TICKETS_PENDING = 1 };
-/* The plane of control: 0 idle, 1 due to snap (for a label), 2 due to update, 3 and 4 due to end a label and a scan. */
-enum { TICKETS_PHASES = 0 };
+/* The planes of control. Phases: 0 idle, 1 due to snap (for a label), 2 due to update, 3 and 4 due to end a label and a scan. Service: 0 in service, 1 out
+   of service, which only an idle station is. */
+enum { TICKETS_PHASES = 0, TICKETS_SERVICE = 1 };
 /* The rows of a scan result: the stations that it shows, from 1, oldest first, and their jobs, which are not 0; past these, zeros. */
 enum { TICKETS_STATIONS = 0, TICKETS_JOBS = 1 };
 
@@ -52,14 +64,14 @@ struct tickets_board {
     uint32_t jobs[2][TICKETS_MAX_STATIONS];
     uint32_t results[TICKETS_MAX_STATIONS][2][TICKETS_MAX_STATIONS];
     uint8_t labels[2][TICKETS_MAX_STATIONS][TICKETS_MAX_DIGITS];
-    uint8_t control[1][TICKETS_MAX_STATIONS];
+    uint8_t control[2][TICKETS_MAX_STATIONS];
 };
 
 static_assert(offsetof(struct tickets_board, jobs) == 8, "jobs");
 static_assert(offsetof(struct tickets_board, results) == 264, "results");
 static_assert(offsetof(struct tickets_board, labels) == 8456, "labels");
 static_assert(offsetof(struct tickets_board, control) == 10440, "control");
-static_assert(sizeof(struct tickets_board) == 10472, "no padding");
+static_assert(sizeof(struct tickets_board) == 10504, "no padding");
 
 /* A place of a scan, for callers who lend a panel of records in place of a report buffer. Places and stations count from 1. */
 struct tickets_record {
@@ -95,7 +107,8 @@ struct tickets_answer tickets_step_panel(uint64_t count, uint8_t (*labels)[TICKE
 #define TICKETS_REPORT_ROOM(schedule_len) (((schedule_len) / TICKETS_LINE + 1) * TICKETS_MAX_STATIONS * TICKETS_REPORT_LINE)
 struct tickets_answer tickets_report(const uint8_t *schedule, size_t schedule_len, uint8_t *report, size_t report_len);
 
-/* Makes the board a fresh table of `count` stations, which have no job and whose scan results are empty; TICKETS_BAD_COUNT leaves it as it is. */
+/* Makes the board a fresh table of `count` stations, which are in service and have no job and whose scan results are empty; TICKETS_BAD_COUNT leaves it
+   as it is. */
 static inline uint64_t tickets_board_fresh(struct tickets_board *board, uint64_t count) {
     uint64_t refusal = tickets_fresh(count, board->labels, board->jobs, board->control, board->results);
     if (refusal == 0)
@@ -103,9 +116,9 @@ static inline uint64_t tickets_board_fresh(struct tickets_board *board, uint64_t
     return refusal;
 }
 
-/* A step of a station. A refused call changes neither the board nor the report buffer. A scan shows the stations whose job at its begin is not 0. Its end
-   writes a report line of 29 bytes for each of them to the front of the buffer, oldest first; where there are none, it writes nothing and needs no room.
-   What stands past the lines stays, and no other step writes any. */
+/* A step of a station. A refused call changes neither the board nor the report buffer. A scan shows the stations that are in service at its begin and have
+   a job then. Its end writes a report line of 29 bytes for each of them to the front of the buffer, oldest first; where there are none, it writes nothing
+   and needs no room. What stands past the lines stays, and no other step writes any. */
 static inline struct tickets_answer tickets_board_step(struct tickets_board *board, uint64_t code, uint64_t station, uint64_t job, uint8_t *report,
     size_t report_len) {
     return tickets_step(board->count, board->labels, board->jobs, board->control, board->results, code, station, job, report, report_len);
@@ -116,6 +129,19 @@ static inline struct tickets_answer tickets_board_step(struct tickets_board *boa
 static inline struct tickets_answer tickets_board_step_panel(struct tickets_board *board, uint64_t code, uint64_t station, uint64_t job,
     struct tickets_record *panel, size_t panel_len) {
     return tickets_step_panel(board->count, board->labels, board->jobs, board->control, board->results, code, station, job, panel, panel_len);
+}
+
+/* An idle station leaves service; answers 0, or the refusal. Until it returns no scan that begins shows it, but others take their labels with regard to
+   its own. */
+static inline uint64_t tickets_board_leave_service(struct tickets_board *board, uint64_t station) {
+    uint8_t none = 0;
+    return tickets_board_step(board, TICKETS_LEAVE_SERVICE, station, 0, &none, 0).refusal;
+}
+
+/* A station that is out of service returns; answers 0, or the refusal. */
+static inline uint64_t tickets_board_return_to_service(struct tickets_board *board, uint64_t station) {
+    uint8_t none = 0;
+    return tickets_board_step(board, TICKETS_RETURN_TO_SERVICE, station, 0, &none, 0).refusal;
 }
 
 #endif

@@ -2,7 +2,7 @@
 
 use std::array::from_fn;
 use ticket_bench::plain::{Operation, Phase, Station, Table, MAX_STATIONS};
-use tickets::{Board, CURRENT, JOBS, PENDING, PHASES, STATIONS};
+use tickets::{Board, CURRENT, JOBS, PENDING, PHASES, SERVICE, STATIONS};
 
 pub const LAST_PHASE: u8 = 4;
 
@@ -33,12 +33,12 @@ pub fn board(table: &Table) -> Board {
         count: table.n as u64,
         labels: [from_fn(|i| stations[i].label), from_fn(|i| stations[i].pending_label)],
         jobs: [from_fn(|i| stations[i].job), from_fn(|i| stations[i].pending_job)],
-        control: [from_fn(|i| phase_number(stations[i].phase))],
+        control: [from_fn(|i| phase_number(stations[i].phase)), from_fn(|i| stations[i].out.into())],
         results: from_fn(|i| [stations[i].result.map(u32::from), stations[i].result_jobs]),
     }
 }
 
-/// The plain table, if every phase has a meaning and every station in a result is a byte.
+/// The plain table, if every phase and every service number has a meaning and every station in a result is a byte.
 pub fn table(board: &Board) -> Option<Table> {
     let mut table = Table { n: usize::try_from(board.count).ok()?, stations: from_fn(|_| Station::fresh()) };
     for (i, station) in table.stations.iter_mut().enumerate() {
@@ -54,6 +54,7 @@ pub fn table(board: &Board) -> Option<Table> {
             result,
             result_jobs: board.results[i][JOBS],
             phase: phase(board.control[PHASES][i])?,
+            out: *[false, true].get(usize::from(board.control[SERVICE][i]))?,
         };
     }
     Some(table)

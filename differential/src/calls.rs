@@ -4,7 +4,7 @@ use crate::boards::{self, LAST_PHASE};
 use crate::draw::{any_step, pick, source, Stations, Step};
 use ticket_bench::generate::Random;
 use ticket_bench::plain::{Table, MAX_DIGITS, MAX_STATIONS, REPORT_LINE};
-use tickets::{Board, CURRENT, JOBS, PENDING, PHASES, STATIONS};
+use tickets::{Board, CURRENT, JOBS, PENDING, PHASES, SERVICE, STATIONS};
 
 /// What is lent for the result of a scan: a report area of so many bytes, or a panel of so many records.
 #[derive(Clone, Copy, Debug)]
@@ -76,6 +76,7 @@ fn made_up(random: &mut Random, n: usize) -> Board {
     let tree = random.word();
     let stray_in = pick(random, &[2, 4, 16, 64]);
     let no_job_in = pick(random, &[1, 2, 4, 1 << 40]);
+    let out_in = pick(random, &[1, 2, 4, 1 << 40]);
     for i in 0..n {
         board.labels[CURRENT][i] = label(random, n, tree, stray_in);
         // A pending label may be any row of digits, and close a ring.
@@ -89,6 +90,7 @@ fn made_up(random: &mut Random, n: usize) -> Board {
             board.results[i][JOBS][place] = job(random);
         }
         board.control[PHASES][i] = random.below(u64::from(LAST_PHASE) + 1) as u8;
+        board.control[SERVICE][i] = u8::from(board.control[PHASES][i] == 0 && random.one_in(out_in));
     }
     board
 }
@@ -148,7 +150,7 @@ fn damage(random: &mut Random, board: &mut Board) {
     let position = below(random, MAX_DIGITS);
     let digit = pick(random, &[0, 1, 2, 3, 4, 5, 6, 7, 128, 255]);
     let number = job(random);
-    match random.below(24) {
+    match random.below(28) {
         0 => board.labels[CURRENT][i][position] = digit,
         1 => board.labels[PENDING][i][position] = digit,
         2 => board.labels[CURRENT][past][position] = digit,
@@ -187,14 +189,20 @@ fn damage(random: &mut Random, board: &mut Board) {
             }
         }
         15 => board.labels[CURRENT][i] = board.labels[PENDING][below(random, n)],
+        // Service numbers that are none, and stations out past n; out of service, which a busy station may not be, and busy, which one out may not be.
+        16 => board.control[SERVICE][i] = pick(random, &[2, 3, 4, 127, 128, 129, 254, 255]),
+        17 => board.control[SERVICE][past] = pick(random, &[1, 1, 1, 2, 128, 255]),
+        18 => board.control[SERVICE][i] ^= 1,
+        19 => (board.control[PHASES][i], board.control[SERVICE][i]) = (random.below(5) as u8, 1),
         // Any one number of the small arrays.
-        16 => {
+        20 => {
             let (row, at) = (below(random, MAX_STATIONS), below(random, MAX_STATIONS));
-            match random.below(4) {
+            match random.below(5) {
                 0 => board.labels[CURRENT][row][position] = random.word() as u8,
                 1 => board.labels[PENDING][row][position] = random.word() as u8,
                 2 => board.results[row][STATIONS][at] = random.word() as u32 >> random.below(32),
-                _ => board.control[PHASES][row] = random.word() as u8,
+                3 => board.control[PHASES][row] = random.word() as u8,
+                _ => board.control[SERVICE][row] = random.word() as u8,
             }
         }
         _ => damage_result(random, board),
@@ -242,7 +250,7 @@ impl Session {
     /// The next call on the board.
     pub fn call(&mut self) -> Call {
         let Session { random, stations, board, n, .. } = self;
-        let step = if random.one_in(self.any_in) { any_step(random, *n) } else { stations.step(random, &board.control[PHASES]) };
+        let step = if random.one_in(self.any_in) { any_step(random, *n) } else { stations.step(random, &board.control) };
         // What the station has to show, whichever step this is.
         let records = if (1..=*n).contains(&step.station) { shown(board, step.station as usize - 1) } else { 0 };
         let bytes = records * REPORT_LINE;

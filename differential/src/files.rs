@@ -46,15 +46,15 @@ fn header(random: &mut Random, n: u64) -> [u8; LINE] {
 fn valid(random: &mut Random, n: u64, lines: u64) -> Vec<u8> {
     let mut stations = Stations::new(random, n);
     let refused_in = pick(random, &[1 << 40, 32, 4]);
-    let mut phases = [0; 32];
+    let mut control = [[0; 32]; 2];
     let mut bytes = Vec::with_capacity((lines as usize + 2) * LINE);
     bytes.extend(line(n, 0, 0));
     for _ in 0..lines {
-        let Step { station, code, job } = if random.one_in(refused_in) { any_step(random, n) } else { stations.step(random, &phases) };
+        let Step { station, code, job } = if random.one_in(refused_in) { any_step(random, n) } else { stations.step(random, &control) };
         bytes.extend(line(station, code, job));
-        // As the line is read, the job aside: a phase that is wrong here only makes the next line a refused one.
-        if let Some(phase) = (station as usize).checked_sub(1).and_then(|i| phases.get_mut(i)) {
-            *phase = after(*phase, code);
+        // As the line is read, the job aside: what is wrong here only makes the next line a refused one.
+        if let Some(i) = (station as usize).checked_sub(1).filter(|&i| i < 32) {
+            (control[0][i], control[1][i]) = after((control[0][i], control[1][i]), code);
         }
     }
     bytes

@@ -15,14 +15,14 @@ use tickets::{Answer, Board};
 
 /// How often each refusal number was the plain program's answer, 0 for a call or a report line that is not refused.
 pub struct Counts {
-    seen: [u64; 14],
+    seen: [u64; 16],
     /// The numbers that can occur.
     owed: &'static [u64],
 }
 
 impl Counts {
     fn new(owed: &'static [u64]) -> Counts {
-        Counts { seen: [0; 14], owed }
+        Counts { seen: [0; 16], owed }
     }
 
     fn add(&mut self, number: u64) {
@@ -122,7 +122,7 @@ pub const FULL: [Ending; 4] = [Ending::Plain, Ending::OneMore, Ending::Incomplet
 
 /// The full files, and so many others. What was counted: the lines of their reports, and the library's answers, of which the program has none.
 pub fn files(seed: u64, files: u64, program: Option<&str>) -> Result<Vec<(&'static str, Counts)>, String> {
-    let mut lines = Counts::new(&[0, 1, 2, 3, 4, 5, 6, 8, 9, 10, 11, 12]);
+    let mut lines = Counts::new(&[0, 1, 2, 3, 4, 5, 6, 8, 9, 10, 11, 12, 14, 15]);
     let mut answers = Counts::new(&[0, 1, 7, 8, 9, 10, 11, 12]);
     for (n, ending) in (2..).zip(FULL) {
         let bytes = schedule(n, MAX_STEPS.into(), seed, ending);
@@ -163,7 +163,7 @@ fn check_call(board: &mut Board, call: &Call, counts: &mut CallCounts) -> Result
     let before = board.clone();
     let Call { step, lent, old } = call;
     let Step { code, station, job } = *step;
-    // A phase without a meaning, or a station in a result past 255, has no plain table; it is refused by 13 with nothing changed.
+    // A phase or a service number without a meaning, or a station in a result past 255, has no plain table; it is refused by 13 with nothing changed.
     let mut table = boards::table(&before);
     let (answer, expected, lent_as_expected, counts) = match *lent {
         Lent::Report(room) => {
@@ -228,8 +228,8 @@ struct CallCounts {
 
 /// Boards one after another, until there were so many calls.
 pub fn calls(seed: u64, calls: u64) -> Result<Vec<(&'static str, Counts)>, String> {
-    let report = Counts::new(&[0, 1, 2, 3, 4, 5, 6, 7, 10, 11, 13]);
-    let panel = Counts::new(&[0, 2, 3, 4, 5, 6, 7, 10, 11, 13]);
+    let report = Counts::new(&[0, 1, 2, 3, 4, 5, 6, 7, 10, 11, 13, 14, 15]);
+    let panel = Counts::new(&[0, 2, 3, 4, 5, 6, 7, 10, 11, 13, 14, 15]);
     let mut counts = CallCounts { report, panel };
     let mut index = 0;
     while counts.report.total() + counts.panel.total() < calls {

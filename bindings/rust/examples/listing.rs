@@ -1,6 +1,7 @@
 //! Document 01's listing as direct calls with a report buffer, as direct calls with a panel, and as a schedule file. Of a refused call with a report
 //! buffer this prints the line that the schedule program would print; a direct call's lines bear the number 0. The second call of station 2 is refused by
-//! 4 in all three: a scan has no snap of its own. Its scan shows station 1 alone, which has a job.
+//! 4 in all three: a scan has no snap of its own. Its scan shows station 1 alone, which has a job. After the calls with a panel station 1 is out of service
+//! for a while: a scan does not show it.
 
 use std::io::{self, Write};
 use tickets::{code, Board, Record, MAX_STATIONS, REPORT_LINE};
@@ -27,6 +28,12 @@ const FILE: &[u8] = b"  2  0          0
   3  3          0
 ";
 
+/// How many stations a scan of station 2 shows.
+fn shown(board: &mut Board) -> usize {
+    board.step(code::SCAN, 2, 0, &mut []).expect("station 2 is idle");
+    board.step_panel(code::END, 2, 0, &mut [Record::default(); MAX_STATIONS]).expect("room for all stations")
+}
+
 fn main() -> io::Result<()> {
     let mut board = Board::fresh(2).expect("2 stations");
     let mut report = [0; MAX_STATIONS * REPORT_LINE];
@@ -49,6 +56,14 @@ fn main() -> io::Result<()> {
             Err(refusal) => writeln!(out, "panel: refused by {refusal}")?,
         }
     }
+    for _ in 0..2 {
+        writeln!(out, "station 1 leaves service: {}", board.leave_service(1).err().unwrap_or(0))?;
+    }
+    writeln!(out, "stations shown: {}", shown(&mut board))?;
+    for _ in 0..2 {
+        writeln!(out, "station 1 returns to service: {}", board.return_to_service(1).err().unwrap_or(0))?;
+    }
+    writeln!(out, "stations shown: {}", shown(&mut board))?;
     let (report, refusal) = tickets::report(FILE);
     assert_eq!(refusal, 0, "nothing ends this file before its last line");
     out.write_all(&report)

@@ -11,13 +11,16 @@ pub const MAX_DIGITS: usize = MAX_STATIONS - 1;
 pub const LINE: usize = 18;
 pub const REPORT_LINE: usize = 29;
 
-/// The steps of a call. A label operation is begin, snap, update, end. A scan is two: `SCAN` begins it and snaps, `END` ends it.
+/// The steps of a call. A label operation is begin, snap, update, end. A scan is two: `SCAN` begins it and snaps, `END` ends it. By `LEAVE_SERVICE` an idle
+/// station leaves service, by `RETURN_TO_SERVICE` it returns.
 pub mod code {
     pub const BEGIN_LABEL: u64 = 1;
     pub const SCAN: u64 = 2;
     pub const SNAP: u64 = 3;
     pub const UPDATE: u64 = 4;
     pub const END: u64 = 5;
+    pub const LEAVE_SERVICE: u64 = 6;
+    pub const RETURN_TO_SERVICE: u64 = 7;
 }
 
 /// The number of a refusal.
@@ -28,7 +31,7 @@ pub mod refusal {
     pub const COUNT: u64 = 1;
     /// Not one of the board's stations.
     pub const STATION: u64 = 2;
-    /// A begin, and the station is not idle.
+    /// A begin or a leave, and the station is not idle.
     pub const BUSY: u64 = 3;
     pub const NO_SNAP_DUE: u64 = 4;
     pub const NO_UPDATE_DUE: u64 = 5;
@@ -47,20 +50,26 @@ pub mod refusal {
     pub const TOO_MANY: u64 = 12;
     /// A board that is no well-formed table.
     pub const BOARD: u64 = 13;
+    /// A begin or a leave, and the station is out of service.
+    pub const OUT_OF_SERVICE: u64 = 14;
+    /// A return, and the station is in service.
+    pub const IN_SERVICE: u64 = 15;
 }
 
 /// The planes of `Board::labels` and `Board::jobs`: what a station has, and what its next update will make of it.
 pub const CURRENT: usize = 0;
 pub const PENDING: usize = 1;
-/// The plane of `Board::control`: 0 idle, 1 due to snap (for a label), 2 due to update, 3 and 4 due to end a label and a scan.
+/// The planes of `Board::control`. Phases: 0 idle, 1 due to snap (for a label), 2 due to update, 3 and 4 due to end a label and a scan. Service: 0 in
+/// service, 1 out of service, which only an idle station is.
 pub const PHASES: usize = 0;
+pub const SERVICE: usize = 1;
 /// The rows of a scan result in `Board::results`: the stations that it shows, from 1, oldest first, and their jobs, which are not 0; past these, zeros.
 pub const STATIONS: usize = 0;
 pub const JOBS: usize = 1;
 
 pub type Labels = [[[u8; MAX_DIGITS]; MAX_STATIONS]; 2];
 pub type Jobs = [[u32; MAX_STATIONS]; 2];
-pub type Control = [[u8; MAX_STATIONS]; 1];
+pub type Control = [[u8; MAX_STATIONS]; 2];
 pub type Results = [[[u32; MAX_STATIONS]; 2]; MAX_STATIONS];
 
 /// A table as plain numbers; place i of a plane and of the results belongs to station i + 1. Every content is a value; one that is no well-formed table
@@ -108,7 +117,7 @@ const _: () = {
     assert!(offset_of!(Board, results) == 264);
     assert!(offset_of!(Board, labels) == 8456);
     assert!(offset_of!(Board, control) == 10_440);
-    assert!(size_of::<Board>() == 10_472 && align_of::<Board>() == 8);
+    assert!(size_of::<Board>() == 10_504 && align_of::<Board>() == 8);
     assert!(size_of::<Answer>() == 16 && align_of::<Answer>() == 8);
     assert!(size_of::<Record>() == 12 && align_of::<Record>() == 4);
 };
@@ -169,14 +178,14 @@ pub fn report(schedule: &[u8]) -> (Vec<u8>, Refusal) {
 }
 
 impl Board {
-    /// The fresh table of n stations, 2 to 32. None has a job, and their scan results are empty.
+    /// The fresh table of n stations, 2 to 32. All are in service, none has a job, and their scan results are empty.
     pub fn fresh(n: u64) -> Result<Board, Refusal> {
         let mut board = Board {
             count: 0,
             jobs: [[0; MAX_STATIONS]; 2],
             results: [[[0; MAX_STATIONS]; 2]; MAX_STATIONS],
             labels: [[[0; MAX_DIGITS]; MAX_STATIONS]; 2],
-            control: [[0; MAX_STATIONS]; 1],
+            control: [[0; MAX_STATIONS]; 2],
         };
         match board.freshen(n) {
             0 => Ok(board),
@@ -196,8 +205,8 @@ impl Board {
 
     /// A step of a station: how many bytes of report were written to the front of the buffer, or the refusal. A refused call changes nothing.
     ///
-    /// A scan shows the stations whose job at its begin is not 0. Its end writes a line of 29 bytes for each of them, oldest first; where there are none,
-    /// it needs no room. No other step writes any.
+    /// A scan shows the stations that are in service at its begin and have a job then. Its end writes a line of 29 bytes for each of them, oldest first;
+    /// where there are none, it needs no room. No other step writes any.
     pub fn step(&mut self, code: u64, station: u64, job: u64, report: &mut [u8]) -> Result<usize, Refusal> {
         self.answer(code, station, job, report).written()
     }
@@ -207,6 +216,16 @@ impl Board {
     /// The end of a scan writes a record for each station that it shows, oldest first, and leaves those past them; no other step writes any.
     pub fn step_panel(&mut self, code: u64, station: u64, job: u64, panel: &mut [Record]) -> Result<usize, Refusal> {
         self.answer_panel(code, station, job, panel).written()
+    }
+
+    /// An idle station leaves service. Until it returns no scan that begins shows it, but others take their labels with regard to its own.
+    pub fn leave_service(&mut self, station: u64) -> Result<(), Refusal> {
+        self.step(code::LEAVE_SERVICE, station, 0, &mut []).map(drop)
+    }
+
+    /// A station that is out of service returns.
+    pub fn return_to_service(&mut self, station: u64) -> Result<(), Refusal> {
+        self.step(code::RETURN_TO_SERVICE, station, 0, &mut []).map(drop)
     }
 
     /// `step` with the answer as it stands.

@@ -1,15 +1,16 @@
-//! The compiled library against the plain Rust table of `bench`, which was written from documents 01 and 02 (Cards 1 and 2) alone.
+//! The compiled library against the plain Rust table of `bench`, which was written from documents 01 and 02 (Cards 1, 2 and 4) alone.
 
 use std::array::from_fn;
 use ticket_bench::generate::Random;
 use ticket_bench::plain::{self, Operation, Phase, Station, Table};
-use tickets::{code, refusal, Answer, Board, Record, CURRENT, JOBS, MAX_DIGITS, MAX_STATIONS, PENDING, PHASES, REPORT_LINE, STATIONS};
+use ticket_bench::FOLLOWS;
+use tickets::{code, refusal, Answer, Board, Record, CURRENT, JOBS, MAX_DIGITS, MAX_STATIONS, PENDING, PHASES, REPORT_LINE, SERVICE, STATIONS};
 
 /// The phases, in the order of their numbers.
 const NAMED: [Phase; 5] = [Phase::Idle, Phase::Snap, Phase::Update, Phase::End(Operation::Label), Phase::End(Operation::Scan)];
 
-/// The plain table with the contents of a board; none if a phase is no phase's number, or a station in a result no number of a byte. Such boards are
-/// refused by 13.
+/// The plain table with the contents of a board; none if a phase is no phase's number, a service number neither 0 nor 1, or a station in a result no
+/// number of a byte. Such boards are refused by 13.
 fn table(board: &Board) -> Option<Table> {
     let mut table = Table { n: board.count as usize, stations: from_fn(|_| Station::fresh()) };
     for (i, station) in table.stations.iter_mut().enumerate() {
@@ -22,6 +23,7 @@ fn table(board: &Board) -> Option<Table> {
         }
         station.result_jobs = board.results[i][JOBS];
         station.phase = *NAMED.get(usize::from(board.control[PHASES][i]))?;
+        station.out = *[false, true].get(usize::from(board.control[SERVICE][i]))?;
     }
     Some(table)
 }
@@ -33,7 +35,7 @@ fn board(table: &Table) -> Board {
         jobs: [from_fn(|i| s[i].job), from_fn(|i| s[i].pending_job)],
         results: from_fn(|i| [s[i].result.map(u32::from), s[i].result_jobs]),
         labels: [from_fn(|i| s[i].label), from_fn(|i| s[i].pending_label)],
-        control: [from_fn(|i| NAMED.iter().position(|&phase| phase == s[i].phase).unwrap() as u8)],
+        control: [from_fn(|i| NAMED.iter().position(|&phase| phase == s[i].phase).unwrap() as u8), from_fn(|i| s[i].out.into())],
     }
 }
 
@@ -132,17 +134,20 @@ fn shown(board: &Board, i: usize) -> usize {
     board.results[i][STATIONS].iter().take_while(|&&station| station != 0).count()
 }
 
-/// A call that fits the phase of its station, mostly; now and then one with another code, station or job, also past 32 bits.
+/// A call that fits the phase of its station, mostly; now and then one with another code, station or job, also past 32 bits. Stations leave service now
+/// and then, and return after some calls that are refused.
 fn random_call(random: &mut Random, board: &Board) -> Call {
     let n = board.count.clamp(1, MAX_STATIONS as u64);
     let i = random.below(n);
-    let due = match board.control[PHASES][i as usize] {
-        0 => 1 + random.below(2),
-        1 => 3,
-        2 => 4,
+    let due = match (board.control[PHASES][i as usize], board.control[SERVICE][i as usize]) {
+        (0, 0) if random.one_in(8) => code::LEAVE_SERVICE,
+        (0, 0) => 1 + random.below(2),
+        (0, _) => [1, 2, 6, 7, 7][random.below(5) as usize],
+        (1, _) => 3,
+        (2, _) => 4,
         _ => 5,
     };
-    let code = if random.one_in(16) { [0, 1, 2, 3, 4, 5, 6, 257, 1 << 32 | 1][random.below(9) as usize] } else { due };
+    let code = if random.one_in(16) { [0, 1, 2, 3, 4, 5, 6, 7, 8, 257, 1 << 32 | 1, 1 << 32 | 7][random.below(12) as usize] } else { due };
     let station = if random.one_in(32) { [0, n + 1, n + 256, 1 << 32 | 1, u64::MAX][random.below(5) as usize] } else { i + 1 };
     let job = match random.below(16) {
         0 => [0, 1, u64::from(u32::MAX), 1 << 32, 1 << 32 | 1, u64::MAX][random.below(6) as usize],
@@ -231,8 +236,16 @@ fn phases(n: u64, others: u64) -> Vec<Board> {
 fn panels_of_all_lengths() {
     for (n, shown) in (2..=MAX_STATIONS).flat_map(|n| [(n, 1), (n, n / 2 + 1), (n, n)]) {
         for before in phases(n as u64, shown as u64 - 1) {
-            let due = [(0, code::BEGIN_LABEL), (0, code::SCAN), (1, code::SNAP), (2, code::UPDATE), (3, code::END), (4, code::END)];
-            for (code, refused) in [(1, 3), (2, 3), (3, 4), (4, 5), (5, 6)] {
+            let due = [
+                (0, code::BEGIN_LABEL),
+                (0, code::SCAN),
+                (0, code::LEAVE_SERVICE),
+                (1, code::SNAP),
+                (2, code::UPDATE),
+                (3, code::END),
+                (4, code::END),
+            ];
+            for (code, refused) in [(1, 3), (2, 3), (3, 4), (4, 5), (5, 6), (6, 3), (7, 15)] {
                 for len in [0, 1, shown - 1, shown, shown + 1, 32, 33, 40] {
                     let mut guarded = Guarded::new(before.clone());
                     let call = Call { code, station: 1, job: u64::from(code == 1), lent: Lent::Panel(len) };
@@ -258,7 +271,7 @@ fn panels_of_all_lengths() {
     }
 }
 
-/// A scan shows the stations with a job, and needs room for them and no more: none if there are none.
+/// A scan shows the stations with a job, where all are in service, and needs room for them and no more: none if there are none.
 #[test]
 fn scans_of_some_stations() {
     for n in 2..=MAX_STATIONS as u64 {
@@ -346,12 +359,15 @@ fn every_refusal_with_a_panel() {
     let [idle, snap, update, end, _, scan, _] = &boards[..] else { panic!("seven boards") };
     let mut damaged = scan.clone();
     damaged.control[PHASES][0] = 5;
+    let mut out = idle.clone();
+    out.leave_service(1).unwrap();
     let calls = [
         (scan, 5, N + 1, 0, refusal::STATION),
         (scan, 5, 0, 0, refusal::STATION),
         (scan, 5, N + 1, 7, refusal::STATION),
         (scan, 1, 1, 7, refusal::BUSY),
         (scan, 2, 1, 0, refusal::BUSY),
+        (scan, 6, 1, 0, refusal::BUSY),
         (snap, 2, 1, 0, refusal::BUSY),
         (scan, 3, 1, 0, refusal::NO_SNAP_DUE),
         (idle, 3, 1, 0, refusal::NO_SNAP_DUE),
@@ -360,13 +376,19 @@ fn every_refusal_with_a_panel() {
         (scan, 5, 2, 0, refusal::NO_END_DUE),
         (update, 5, 1, 0, refusal::NO_END_DUE),
         (scan, 0, 1, 0, refusal::CODE),
-        (scan, 6, N + 1, 7, refusal::CODE),
+        (scan, 8, N + 1, 7, refusal::CODE),
         (scan, 1 << 32 | 5, 1, 0, refusal::CODE),
         (scan, 5, 1, 7, refusal::JOB),
         (scan, 3, 1, 7, refusal::JOB),
         (end, 5, 1, 1 << 32, refusal::JOB),
         (idle, 1, 1, 0, refusal::JOB),
         (idle, 1, 1, 1 << 32, refusal::JOB),
+        (&out, 6, 1, 7, refusal::JOB),
+        (&out, 1, 1, 7, refusal::OUT_OF_SERVICE),
+        (&out, 2, 1, 0, refusal::OUT_OF_SERVICE),
+        (&out, 6, 1, 0, refusal::OUT_OF_SERVICE),
+        (idle, 7, 1, 0, refusal::IN_SERVICE),
+        (scan, 7, 1, 0, refusal::IN_SERVICE),
         (&damaged, 5, 1, 0, refusal::BOARD),
         (&damaged, 9, 9, 9, refusal::BOARD),
     ];
@@ -383,6 +405,239 @@ fn every_refusal_with_a_panel() {
         assert_eq!(guarded.call(Call { code: code::END, station: 1, job: 0, lent: Lent::Panel(len) }), refusal::SHORT_REPORT);
         assert!(guarded.board == *scan && (0..GUARD + len + GUARD).map(old).eq(guarded.panel.iter().copied()));
     }
+}
+
+/// What lends no room and what lends much, in both forms.
+const LENT: [Lent; 4] = [Lent::Report(0), Lent::Report(MAX_STATIONS * REPORT_LINE), Lent::Panel(0), Lent::Panel(MAX_STATIONS)];
+
+/// A call whose job fits its code, with a panel for all stations. It must be answered by this refusal, and a refused one must change nothing.
+#[track_caller]
+fn answered(guarded: &mut Guarded, code: u64, station: u64, expected: u64) {
+    let before = guarded.board.clone();
+    let call = Call { code, station, job: if code == code::BEGIN_LABEL { 70 + station } else { 0 }, lent: Lent::Panel(MAX_STATIONS) };
+    assert_eq!(guarded.call(call), expected, "{call:?}");
+    assert_eq!(guarded.board == before, expected != 0, "{call:?}");
+}
+
+/// Ends the scan of a station, which must show just these, oldest first, with jobs as `answered` and `take` give them.
+#[track_caller]
+fn shows(guarded: &mut Guarded, station: u64, expected: &[u32]) {
+    answered(guarded, code::END, station, 0);
+    let records = (1..).zip(expected).map(|(place, &station)| Record { place, station, job: 70 + station });
+    let all: Vec<Record> = records.chain((GUARD + expected.len()..GUARD + MAX_STATIONS).map(old)).collect();
+    assert_eq!(guarded.panel[GUARD..GUARD + MAX_STATIONS], all, "the scan of station {station}");
+}
+
+/// A board of two stations, after these steps of station 1, each with the job that it needs.
+fn after(codes: &[u64]) -> Board {
+    let mut board = Board::fresh(2).unwrap();
+    for &code in codes {
+        board.step(code, 1, u64::from(code == code::BEGIN_LABEL), &mut [0; REPORT_LINE]).unwrap();
+    }
+    board
+}
+
+/// Each step of a station in each of its phases and out of service is accepted, or refused by this number; before that number go 11, 2, 10 and 13.
+#[test]
+fn what_may_follow_what() {
+    for (codes, expected) in FOLLOWS {
+        let reached = after(codes);
+        let mut damaged = reached.clone();
+        damaged.control[SERVICE][1] = 2;
+        for (code, refused) in (1..).zip(expected) {
+            let job = u64::from(code == code::BEGIN_LABEL);
+            let wrong = 1 - job;
+            let calls = [
+                (&reached, code, 1, job, refused),
+                (&reached, code, 1, wrong, refusal::JOB),
+                (&reached, code, 1, 1 << 32, refusal::JOB),
+                (&reached, code, 3, wrong, refusal::STATION),
+                (&reached, code, 0, job, refusal::STATION),
+                (&reached, code + 7, 3, wrong, refusal::CODE),
+                (&reached, code | 1 << 32, 1, job, refusal::CODE),
+                (&damaged, code, 1, job, refusal::BOARD),
+                (&damaged, code + 7, 3, wrong, refusal::BOARD),
+            ];
+            for (before, code, station, job, expected) in calls {
+                for lent in LENT {
+                    let mut guarded = Guarded::new(before.clone());
+                    let call = Call { code, station, job, lent };
+                    assert_eq!(guarded.call(call), expected, "{codes:?}, then {call:?}");
+                    assert_eq!(guarded.board == *before, expected != 0, "{codes:?}, then {call:?}");
+                }
+            }
+        }
+    }
+}
+
+/// Service numbers from 2 on are none, and past the stations only 0 is one, whatever is called.
+#[test]
+fn service_numbers() {
+    for (n, number) in [2, 17, 32].into_iter().flat_map(|n| (0..=255).map(move |number| (n, number))) {
+        for i in [0, 1, n - 1, n, MAX_STATIONS - 1].into_iter().filter(|&i| i < MAX_STATIONS) {
+            for (code, lent) in (0..=8).flat_map(|code| LENT.map(|lent| (code, lent))) {
+                let mut guarded = Guarded::new(Board::fresh(n as u64).unwrap());
+                guarded.board.control[SERVICE][i] = number;
+                let refused = guarded.call(Call { code, station: 2, job: u64::from(code == code::BEGIN_LABEL), lent });
+                assert_eq!(refused == refusal::BOARD, number > u8::from(i < n), "service {number} of station {} of {n}, code {code}", i + 1);
+            }
+        }
+    }
+}
+
+/// A station that is out of service must be idle: in each other phase the board is refused by 13, whichever station is called.
+#[test]
+fn out_of_service_and_busy() {
+    for n in 2..=MAX_STATIONS {
+        for (i, phase) in (0..n).flat_map(|i| (0..=4).map(move |phase| (i, phase))) {
+            let mut board = Board::fresh(n as u64).unwrap();
+            board.control[PHASES][i] = phase;
+            assert_eq!(Guarded::new(board.clone()).call(Call { code: 0, station: 1, job: 0, lent: Lent::Report(0) }), refusal::CODE);
+            board.control[SERVICE][i] = 1;
+            for (code, station) in [(0, 1), (3, i as u64 + 1), (7, i as u64 + 1), (6, (i as u64 + 1) % n as u64 + 1)] {
+                let refused = Guarded::new(board.clone()).call(Call { code, station, job: 0, lent: Lent::Panel(MAX_STATIONS) });
+                assert_eq!(refused == refusal::BOARD, phase > 0, "phase {phase} of station {} of {n}, code {code}", i + 1);
+            }
+        }
+    }
+}
+
+/// A scan shows what is in service at its snap: a station that leaves later is still shown, one that returns later is not.
+#[test]
+fn scans_by_the_service_at_their_snap() {
+    for n in 4..=MAX_STATIONS as u64 {
+        let mut guarded = Guarded::new(Board::fresh(n).unwrap());
+        for station in [2, 1, n] {
+            take(&mut guarded.board, station);
+        }
+        answered(&mut guarded, code::SCAN, 3, 0);
+        answered(&mut guarded, code::LEAVE_SERVICE, 1, 0);
+        answered(&mut guarded, code::SCAN, n, 0);
+        answered(&mut guarded, code::RETURN_TO_SERVICE, 1, 0);
+        answered(&mut guarded, code::LEAVE_SERVICE, 2, 0);
+        shows(&mut guarded, 3, &[2, 1, n as u32]);
+        shows(&mut guarded, n, &[2, n as u32]);
+        answered(&mut guarded, code::SCAN, 3, 0);
+        shows(&mut guarded, 3, &[1, n as u32]);
+        // Where no station in service has a job, a scan is empty and needs no room.
+        answered(&mut guarded, code::LEAVE_SERVICE, 1, 0);
+        answered(&mut guarded, code::LEAVE_SERVICE, n, 0);
+        answered(&mut guarded, code::SCAN, 3, 0);
+        assert_eq!(guarded.board.results[2], [[0; MAX_STATIONS]; 2]);
+        assert_eq!(guarded.call(Call { code: code::END, station: 3, job: 0, lent: Lent::Panel(0) }), 0);
+        // The result of a station that is out stays with it.
+        let result = [[2, 1, n as u32], [72, 71, 70 + n as u32]];
+        answered(&mut guarded, code::RETURN_TO_SERVICE, 1, 0);
+        answered(&mut guarded, code::RETURN_TO_SERVICE, 2, 0);
+        answered(&mut guarded, code::RETURN_TO_SERVICE, n, 0);
+        answered(&mut guarded, code::SCAN, 1, 0);
+        shows(&mut guarded, 1, &result[STATIONS]);
+        answered(&mut guarded, code::LEAVE_SERVICE, 1, 0);
+        for (row, shown) in guarded.board.results[0].iter().zip(result) {
+            assert!(row.starts_with(&shown) && row[3..] == [0; MAX_STATIONS - 3]);
+        }
+    }
+}
+
+/// The room for a scan is that of the stations that it shows; those out of service need none.
+#[test]
+fn room_without_stations_out_of_service() {
+    for n in 2..=MAX_STATIONS as u64 {
+        for out in 1..n {
+            let mut board = Board::fresh(n).unwrap();
+            (1..=n).for_each(|station| take(&mut board, station));
+            (1..=out).for_each(|station| board.leave_service(station).unwrap());
+            board.step(code::SCAN, n, 0, &mut []).unwrap();
+            let shown = (n - out) as usize;
+            for (lent, expected) in [
+                (Lent::Panel(shown - 1), refusal::SHORT_REPORT),
+                (Lent::Report(shown * REPORT_LINE - 1), refusal::SHORT_REPORT),
+                (Lent::Panel(shown), 0),
+                (Lent::Report(shown * REPORT_LINE), 0),
+            ] {
+                let mut guarded = Guarded::new(board.clone());
+                assert_eq!(guarded.call(Call { code: code::END, station: n, job: 0, lent }), expected, "{out} of {n} out, {lent:?}");
+            }
+        }
+    }
+}
+
+/// The label of a station out of service counts: for who is the newest, for the new labels of the others, and for its place when it is back.
+#[test]
+fn labels_out_of_service_count() {
+    for n in 2..=MAX_STATIONS as u64 {
+        let mut guarded = Guarded::new(Board::fresh(n).unwrap());
+        take(&mut guarded.board, 1);
+        answered(&mut guarded, code::LEAVE_SERVICE, 1, 0);
+        // The newest in service would keep its label, and station 1 come after it.
+        take(&mut guarded.board, 2);
+        answered(&mut guarded, code::SCAN, 2, 0);
+        shows(&mut guarded, 2, &[2]);
+        answered(&mut guarded, code::RETURN_TO_SERVICE, 1, 0);
+        answered(&mut guarded, code::SCAN, 1, 0);
+        shows(&mut guarded, 1, &[1, 2]);
+    }
+    // Three stations: both others share the first digit of the top label, whether one of them is out or not, so it moves on.
+    let labels = |board: &Board| -> [[u8; 2]; 3] { from_fn(|i| from_fn(|p| board.labels[CURRENT][i][p])) };
+    for out in [None, Some(1), Some(2)] {
+        let mut board = Board::fresh(3).unwrap();
+        take(&mut board, 1);
+        take(&mut board, 2);
+        assert_eq!(labels(&board), [[2, 1], [2, 2], [1, 1]]);
+        if let Some(station) = out {
+            board.leave_service(station).unwrap();
+        }
+        take(&mut board, 3);
+        assert_eq!(labels(&board), [[2, 1], [2, 2], [3, 1]], "station {out:?} out");
+    }
+    // The newest keeps its label over its time out of service.
+    let mut board = Board::fresh(3).unwrap();
+    take(&mut board, 1);
+    board.leave_service(1).unwrap();
+    board.return_to_service(1).unwrap();
+    take(&mut board, 1);
+    assert_eq!(labels(&board), [[2, 1], [1, 1], [1, 1]]);
+}
+
+/// A leave changes the one service number, and the return that follows leaves the board as it was; the calls with names answer as the steps do.
+#[test]
+fn leave_and_return() {
+    let mut random = Random(6);
+    let (mut left, mut refused) = (0, 0);
+    for n in 2..=MAX_STATIONS as u64 {
+        let mut guarded = Guarded::new(Board::fresh(n).unwrap());
+        for _ in 0..200 {
+            guarded.call(random_call(&mut random, &guarded.board));
+            let (before, station) = (guarded.board.clone(), 1 + random.below(n));
+            let i = station as usize - 1;
+            let mut board = before.clone();
+            match (before.control[PHASES][i], before.control[SERVICE][i]) {
+                (0, 0) => {
+                    assert_eq!(board.leave_service(station), Ok(()));
+                    let mut expected = before.clone();
+                    expected.control[SERVICE][i] = 1;
+                    assert!(board == expected);
+                    assert_eq!(board.leave_service(station), Err(refusal::OUT_OF_SERVICE));
+                    assert!(board == expected);
+                    assert_eq!(board.return_to_service(station), Ok(()));
+                    left += 1;
+                }
+                (0, _) => {
+                    assert_eq!(board.leave_service(station), Err(refusal::OUT_OF_SERVICE));
+                    refused += 1;
+                }
+                _ => {
+                    assert_eq!(board.leave_service(station), Err(refusal::BUSY));
+                    assert_eq!(board.return_to_service(station), Err(refusal::IN_SERVICE));
+                    refused += 1;
+                }
+            }
+            assert_eq!(board.leave_service(n + 1), Err(refusal::STATION));
+            assert_eq!(board.return_to_service(0), Err(refusal::STATION));
+            assert!(board == before);
+        }
+    }
+    assert!(left > 500 && refused > 500, "{left} left, {refused} refused");
 }
 
 /// Phase numbers from 5 on are none, for a station of the board and past them, whatever is called.
@@ -417,7 +672,7 @@ fn fresh_boards() {
         if (2..=32).contains(&n) {
             let fresh = board(&Table::fresh(n as usize));
             assert_eq!(over.freshen(n), 0);
-            assert!(over.results == [[[0; MAX_STATIONS]; 2]; MAX_STATIONS]);
+            assert!(over.results == [[[0; MAX_STATIONS]; 2]; MAX_STATIONS] && over.control == [[0; MAX_STATIONS]; 2]);
             assert!(over == fresh && Board::fresh(n) == Ok(fresh));
         } else {
             assert_eq!(over.freshen(n), refusal::COUNT);
@@ -527,7 +782,7 @@ fn labels_that_agree_before_each_position() {
     }
 }
 
-/// Boards of random labels, results, jobs and phases that are well-formed more often than not, reached by no calls.
+/// Boards of random labels, results, jobs, phases and service that are well-formed more often than not, reached by no calls.
 #[test]
 fn random_contents() {
     let mut random = Random(4);
@@ -550,6 +805,8 @@ fn random_contents() {
             b.jobs[CURRENT][i] = if random.one_in(4) { 0 } else { random.word() as u32 };
             b.jobs[PENDING][i] = random.word() as u32;
             b.control[PHASES][i] = random.below(5) as u8;
+            // Out of service, which only idle stations are.
+            b.control[SERVICE][i] = u8::from(b.control[PHASES][i] == 0 && random.one_in(3));
             let mut stations: Vec<u32> = (1..=n as u32).collect();
             for place in 0..random.below(n as u64 + 1) as usize {
                 b.results[i][STATIONS][place] = stations.swap_remove(random.below(stations.len() as u64) as usize);
@@ -570,6 +827,10 @@ fn random_contents() {
             // A place of a result that is empty, or like the first.
             8 => (b.results[i % n][STATIONS][place % n], b.results[i % n][JOBS][place % n]) = (0, 0),
             9 => b.results[i % n][STATIONS][place % n] = b.results[i % n][STATIONS][0],
+            10 => b.control[SERVICE][i] = 2 + random.below(254) as u8,
+            // Mostly a station past n, or a busy one.
+            11 => b.control[SERVICE][i] = 1,
+            12 => b.control[PHASES][i % n] = 1 + random.below(4) as u8,
             _ => {}
         }
         for _ in 0..4 {

@@ -61,7 +61,7 @@ fn vectors() {
     let mut counts = [0; 14];
     run(&root.join("tests"), &mut counts);
     run(&root.join("examples"), &mut counts);
-    assert!(counts.iter().sum::<usize>() >= 250, "{counts:?}");
+    assert!(counts.iter().sum::<usize>() >= 270, "{counts:?}");
     assert!([0, 1, 8, 9, 10, 11].iter().all(|&number| counts[number] > 0), "{counts:?}");
 }
 

@@ -19,7 +19,7 @@ ones = ap (row 31) (sym (fresh-row 31)) ∙ row-digit 31 (replicate 31 1) (lengt
 same : {A : Type 0} (x : A) → replicate 32 x ≡ tabulate 32 0 (λ i. x)
 same x = replicate-tabulate 32 0 x _ (λ p _. refl)
 
-pub fresh-arrays : (n : ℕ) → arrays n (replicate 2 (replicate 32 (replicate 31 1))) (replicate 2 (replicate 32 0)) (replicate 1 (replicate 32 0))
+pub fresh-arrays : (n : ℕ) → arrays n (replicate 2 (replicate 32 (replicate 31 1))) (replicate 2 (replicate 32 0)) (replicate 2 (replicate 32 0))
     (replicate 32 (replicate 2 (replicate 32 0))) ≡ freshTable lent n
 unfolding arraysOf
 fresh-arrays n =
@@ -27,4 +27,4 @@ fresh-arrays n =
     let j = same {A = ℕ} 0 in
     let r : replicate 32 (replicate 2 (replicate 32 0)) ≡ tabulate 32 0 (λ i. resultRows []) =
     ap (λ (x : Lists.List ℕ). replicate 32 (x ∷ x ∷ [])) j ∙ same (resultRows []) in
-    λ x. arrays n (l x ∷ l x ∷ []) (j x ∷ j x ∷ []) (j x ∷ []) (r x)
+    λ x. arrays n (l x ∷ l x ∷ []) (j x ∷ j x ∷ []) (j x ∷ j x ∷ []) (r x)

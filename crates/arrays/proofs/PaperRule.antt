@@ -19,13 +19,13 @@ plane a b c = (a ∷ replicate 30 1) ∷ (b ∷ replicate 30 1) ∷ (c ∷ repli
 
 -- the labels 3.1 and 4.1 close a ring with the pending label 5.1 of the third station
 pub unreached : Arrays
-unreached = arrays 3 (plane 3 4 1 ∷ plane 3 4 5 ∷ []) (replicate 2 (replicate 32 0)) (replicate 1 (replicate 32 0))
+unreached = arrays 3 (plane 3 4 1 ∷ plane 3 4 5 ∷ []) (replicate 2 (replicate 32 0)) (replicate 2 (replicate 32 0))
     (replicate 32 (resultRows []))
 
 -- by the paper's rule the first station's snap makes no new label, and 3.1 stays pending; by 01's it makes 4.2
 pub rules-part : (wellFormed unreached ≡ true)
     × (row 2 (paperPending 3 (digits 3) (stateOf unreached .labels) 0) ≡ 3 ∷ 1 ∷ [])
     × (row 2 (pendingAfter 3 (digits 3) (stateOf unreached .labels) 0) ≡ 4 ∷ 2 ∷ [])
-unfolding unreached plane wellFormed stationFits placeFresh resultFits resultFresh paperPending tot everyChoice totallyOrdered pendingAfter row rowFits noRing
-    below next agrees firstDifference labelBelow labelBefore nextLabel others level newLabel every count firstFrom lastOf newest tabulate
+unfolding unreached plane wellFormed stationFits placeFresh resultFits resultFresh paperPending tot everyChoice totallyOrdered pendingAfter row
+    rowFits noRing below next agrees firstDifference labelBelow labelBefore nextLabel others level newLabel every count firstFrom lastOf newest tabulate
 rules-part = (refl, refl, refl)

@@ -3,7 +3,7 @@ use Prim.Native.Nat.{ℕ, _+_, _-_, _≤_, _<_}
 use native.Mathlib.Omega.{arith}
 use mathlib.Core.Path.{_≡_}
 use mathlib.Core.Logic.{_≢_}
-use mathlib.Core.Bool.{Bool, true, false}
+use mathlib.Core.Bool.{Bool, true, false, _&&_, _||_}
 use lib.Dec.{eqb, leb}
 use borrow.Author.Tests.{eqb-true, leb-true}
 use Rattle.basics.specs.Tests.{within, every, newest, ordered}
@@ -13,12 +13,13 @@ use Rattle.label.proofs.RowLaws.{fits-digit, ringless}
 use Rattle.label.proofs.Total.{Total, total, newest-inside, newest-last, newest-only, Sorted, ordered-sorted}
 use Rattle.simulation.specs.Machine.{digits, stands}
 use Rattle.arrays.specs.Arrays.{Arrays, cell, labelRow, rowsAt, stateOf}
-use Rattle.arrays.specs.WellFormed.{resultFits, resultFresh, stationFits, placeFresh, wellFormed}
+use Rattle.arrays.specs.WellFormed.{resultFits, resultFresh, controlFits, controlFresh, stationFits, placeFresh, wellFormed}
 
 -- one of the n stations
 pub record Fits (a : Arrays) (i : ℕ) : Type 0 where
   pub label : (x : Bool) → rowFits 31 (a .count - 1) (labelRow a x i) ≡ true
   pub phase : cell (a .control) 0 i 0 ≤ 4
+  pub out : cell (a .control) 1 i 0 ≤ 1
   pub result : resultFits (a .count) (rowsAt a i) ≡ true
 
 -- a place past them
@@ -27,6 +28,7 @@ pub record Fresh (a : Arrays) (i : ℕ) : Type 0 where
   pub job : cell (a .jobs) 0 i 0 ≡ 0
   pub pendingJob : cell (a .jobs) 1 i 0 ≡ 0
   pub phase : cell (a .control) 0 i 0 ≡ 0
+  pub out : cell (a .control) 1 i 0 ≡ 0
   pub result : resultFresh (rowsAt a i) ≡ true
 
 pub record Passed (a : Arrays) : Type 0 where
@@ -43,28 +45,36 @@ either P f t true = t
 fits : (a : Arrays) (i : ℕ) → stationFits a i ≡ true → Fits a i
 unfolding stationFits
 fits a i e =
-    let result = and-both _ (resultFits (a .count) (rowsAt a i)) e in
-    let phase = and-both _ (leb (cell (a .control) 0 i 0) 4) (result .0) in
-    let label = and-both (rowFits 31 (a .count - 1) (labelRow a false i)) (rowFits 31 (a .count - 1) (labelRow a true i)) (phase .0) in
+    let p = cell (a .control) 0 i 0 in
+    let o = cell (a .control) 1 i 0 in
+    let control = and-both _ (controlFits p o) e in
+    let result = and-both _ (resultFits (a .count) (rowsAt a i)) (control .0) in
+    let label = and-both (rowFits 31 (a .count - 1) (labelRow a false i)) (rowFits 31 (a .count - 1) (labelRow a true i)) (result .0) in
+    let known = and-both (leb p 4) (leb o 1) (and-both (leb p 4 && leb o 1) (eqb o 0 || eqb p 0) (control .1) .0) in
     record {
       label = either (λ x. rowFits 31 (a .count - 1) (labelRow a x i) ≡ true) (label .0) (label .1);
-      phase = leb-true (cell (a .control) 0 i 0) 4 (phase .1);
+      phase = leb-true p 4 (known .0);
+      out = leb-true o 1 (known .1);
       result = result .1;
     }
 
 fresh : (a : Arrays) (i : ℕ) → placeFresh a i ≡ true → Fresh a i
 unfolding placeFresh
 fresh a i e =
-    let result = and-both _ (resultFresh (rowsAt a i)) e in
-    let phase = and-both _ (eqb (cell (a .control) 0 i 0) 0) (result .0) in
-    let pending = and-both _ (eqb (cell (a .jobs) 1 i 0) 0) (phase .0) in
+    let p = cell (a .control) 0 i 0 in
+    let o = cell (a .control) 1 i 0 in
+    let control = and-both _ (controlFresh p o) e in
+    let result = and-both _ (resultFresh (rowsAt a i)) (control .0) in
+    let pending = and-both _ (eqb (cell (a .jobs) 1 i 0) 0) (result .0) in
     let job = and-both _ (eqb (cell (a .jobs) 0 i 0) 0) (pending .0) in
     let label = and-both (rowFits 31 0 (labelRow a false i)) (rowFits 31 0 (labelRow a true i)) (job .0) in
+    let idle = and-both (eqb p 0) (eqb o 0) (control .1) in
     record {
       label = either (λ x. rowFits 31 0 (labelRow a x i) ≡ true) (label .0) (label .1);
       job = eqb-true _ 0 (job .1);
       pendingJob = eqb-true _ 0 (pending .1);
-      phase = eqb-true _ 0 (phase .1);
+      phase = eqb-true _ 0 (idle .0);
+      out = eqb-true _ 0 (idle .1);
       result = result .1;
     }
 

@@ -1,17 +1,18 @@
--- Samples P1 to P12 hold of the tables of every lawful form: computed on arrays without the test for 13, which no table on the way fails.
+-- Samples P1 to P12, and those of Card 4, hold of the tables of every lawful form: computed on arrays without the test for 13, which no table on the way fails.
 use Prim.Native.Nat.{ℕ, _≤_}
 use native.Mathlib.Omega.{arith}
-use mathlib.Core.Path.{_≡_, refl, sym, ap, _∙_}
+use mathlib.Core.Path.{_≡_, refl, sym, ap, subst, _∙_}
 use mathlib.Core.List as Lists
-use mathlib.Core.List.{[], _∷_}
-use Rattle.basics.specs.Tests.{every, count, firstFrom, newest, inserted, ordered, tabulate}
+use mathlib.Core.List.{[], _∷_, _++_}
+use Rattle.basics.specs.Tests.{every, count, firstFrom, lastOf, newest, inserted, ordered, passing, tabulate}
 use Rattle.label.specs.Labels as Labels
 use Rattle.label.specs.Labels.{below, next, agrees, firstDifference, labelBelow, labelBefore, nextLabel, others, level, newLabel}
 use Rattle.label.specs.Rows.{row}
 use Rattle.simulation.specs.Calls.{Call, unless, judgeIn}
 use Rattle.simulation.specs.Machine.{original, digits, pendingAfter, relabelled, scanOf, carryOut, State, fresh, step}
 use Rattle.transition.specs.Forms.{Form, freshTable, after}
-use Rattle.transition.specs.Samples.{call, labelled, shown, order, reaches, Holds, one, two, three, stalled, SamplesHold}
+use Rattle.transition.specs.Samples.{call, labelled, shown, order, shownBy, reaches, scanShows, Holds, one, two, three, stalled, SamplesHold}
+use Rattle.transition.specs.Samples.{absent, ServiceSamplesHold}
 use Rattle.transition.proofs.Reached.{Reached, reached-fresh}
 use Rattle.transition.proofs.Theorem.{Lawful, reached-held, reached-written, reached-next, same-after}
 use Rattle.arrays.specs.Arrays.{Arrays, stateOf, arraysOf}
@@ -20,7 +21,7 @@ use Rattle.arrays.proofs.States.{lent-lawful}
 
 carried : ℕ → Arrays → Lists.List Call → Arrays
 unfolding row arraysOf unless judgeIn pendingAfter relabelled scanOf carryOut step below next agrees firstDifference labelBelow labelBefore nextLabel others
-    level newLabel every count firstFrom newest inserted ordered tabulate call labelled
+    level newLabel every count firstFrom newest inserted ordered passing tabulate call labelled
 carried n a [] = a
 carried n a (c ∷ cs) = carried n (arraysOf n (step original n (digits n) (stateOf a) c .state)) cs
 
@@ -32,19 +33,23 @@ module _ (n : ℕ) (low : 2 ≤ n) (high : n ≤ 32) where
       ∙ carried-same cs (step original n (digits n) s c .state) (reached-next lent lent-lawful n low high r c)
       ∙ ap (λ u. carried n (arraysOf n (step original n (digits n) u c .state)) cs) (sym (reached-held lent lent-lawful n low high r))
 
-  leads : (F : Form) → Lawful F → (cs : Lists.List Call) (l : Lists.List (Lists.List ℕ)) (o : Lists.List ℕ)
-      → let s = stateOf (carried n (freshTable lent n) cs) in (shown n s ≡ l) × (order n s ≡ o) → Holds F (reaches n cs l o)
-  leads F L cs l o = rw (same-after F lent L lent-lawful n low high cs ∙ ap stateOf (carried-same cs (fresh (λ p. 1)) (reached-fresh n (omega arith))))
-      (λ c. c)
+  -- what holds of the state that the calls lead to, on these arrays, holds of the one in every lawful form
+  leads : (F : Form) → Lawful F → (P : State Labels.Label → Type 0) (cs : Lists.List Call) → P (stateOf (carried n (freshTable lent n) cs))
+      → P (F .state (after F (freshTable F n) cs))
+  leads F L P cs =
+      subst P (sym (same-after F lent L lent-lawful n low high cs ∙ ap stateOf (carried-same cs (fresh (λ p. 1)) (reached-fresh n (omega arith)))))
 
 module _ (F : Form) (L : Lawful F) where
   two-stations : (cs : Lists.List Call) {l : Lists.List (Lists.List ℕ)} {o : Lists.List ℕ}
       → let s = stateOf (carried 2 (freshTable lent 2) cs) in (shown 2 s ≡ l) × (order 2 s ≡ o) → Holds F (reaches 2 cs l o)
-  two-stations cs {l} {o} = leads 2 (omega arith) (omega arith) F L cs l o
+  two-stations cs {l} {o} = leads 2 (omega arith) (omega arith) F L (λ s. (shown 2 s ≡ l) × (order 2 s ≡ o)) cs
 
   three-stations : (cs : Lists.List Call) {l : Lists.List (Lists.List ℕ)} {o : Lists.List ℕ}
       → let s = stateOf (carried 3 (freshTable lent 3) cs) in (shown 3 s ≡ l) × (order 3 s ≡ o) → Holds F (reaches 3 cs l o)
-  three-stations cs {l} {o} = leads 3 (omega arith) (omega arith) F L cs l o
+  three-stations cs {l} {o} = leads 3 (omega arith) (omega arith) F L (λ s. (shown 3 s ≡ l) × (order 3 s ≡ o)) cs
+
+  scan-of-two : (cs : Lists.List Call) (k : ℕ) (l : Lists.List ℕ) → shownBy k (stateOf (carried 2 (freshTable lent 2) cs)) ≡ l → Holds F (scanShows 2 cs k l)
+  scan-of-two cs k l = leads 2 (omega arith) (omega arith) F L (λ s. shownBy k s ≡ l) cs
 
   pub samples-hold : SamplesHold F
   unfolding shown order carried one two three stalled
@@ -75,6 +80,22 @@ module _ (F : Form) (L : Lawful F) where
               ),
             ),
           ),
+        ),
+      ),
+    ),
+  )
+
+  pub service-samples-hold : ServiceSamplesHold F
+  unfolding shown order shownBy carried one two three absent lastOf
+  service-samples-hold = (
+    two-stations _ (refl, refl),
+    (
+      three-stations _ (refl, refl),
+      (
+        scan-of-two (absent ++ one (call 2 2)) 2 (two 1 2) refl,
+        (
+          scan-of-two (labelled (two 1 2) ++ two (call 1 6) (call 2 2)) 2 (one 2) refl,
+          (scan-of-two (labelled (two 1 2) ++ two (call 2 2) (call 1 6)) 2 (two 1 2) refl, tt),
         ),
       ),
     ),

@@ -5,14 +5,14 @@ use native.Mathlib.Omega.{arith}
 use native.Mathlib.Decide.{decLt}
 use mathlib.Core.Path.{_≡_, refl, sym, ap, ap₂, _∙_, fun-ext}
 use mathlib.Core.Logic.{by-cases}
-use mathlib.Core.Bool.{Bool, true, false, not, cond}
+use mathlib.Core.Bool.{Bool, true, false, not, _||_, cond}
 use mathlib.Core.List as Lists
 use mathlib.Core.List.{[], _∷_}
 use lib.ListN.{length, getD, List·getD-eq-default}
 use lib.Dec.{eqb}
 use borrow.Author.Tests.{eqb-true, eq-eqb, le-leb}
 use Rattle.basics.specs.Tests.{every, tabulate}
-use Rattle.basics.proofs.Facts.{both, within-of, every-all, every-at, last, length-tabulate, getD-tabulate, getD-all, tabulate-is, two-lists, one-list}
+use Rattle.basics.proofs.Facts.{both, within-of, every-all, every-at, last, length-tabulate, getD-tabulate, getD-all, tabulate-is, two-lists}
 use Rattle.label.specs.Labels as Labels
 use Rattle.label.specs.Rows.{digit, row, rowFits, noRing}
 use Rattle.label.proofs.RowLaws.{digit-row, row-digit, label-fits, fits-behind}
@@ -20,11 +20,11 @@ use Rattle.simulation.specs.Calls.{Call, Phase, Idle, Snap, Update, End, Label,
 use Rattle.simulation.specs.Machine.{original, digits, State, step}
 use Rattle.transition.specs.Forms.{TableAnswer, stepOf}
 use Rattle.transition.proofs.Written.{Kept, Unused, Writable, writable-step}
-use Rattle.transition.proofs.Reached.{Reached, choice-ring-free}
+use Rattle.transition.proofs.Reached.{Idles, Reached, choice-ring-free}
 use Rattle.transition.proofs.Theorem.{Lawful, step-written}
-use Rattle.arrays.specs.Arrays.{Rows, Arrays, arrays, cell, plane, planes, phaseNumber, phaseFor, resultRows, shownIn, resultOf, rowsAt}
-use Rattle.arrays.specs.Arrays.{labelRow, stateOf, jobsOf, arraysOf}
-use Rattle.arrays.specs.WellFormed.{stationFits, placeFresh, wellFormed}
+use Rattle.arrays.specs.Arrays.{Rows, Arrays, arrays, cell, plane, planes, phaseNumber, phaseFor, outNumber, outFor, resultRows, shownIn, resultOf}
+use Rattle.arrays.specs.Arrays.{rowsAt, labelRow, stateOf, jobsOf, controlOf, arraysOf}
+use Rattle.arrays.specs.WellFormed.{controlFits, stationFits, placeFresh, wellFormed}
 use Rattle.arrays.specs.Form.{lent}
 use Rattle.arrays.specs.Sizes.{Shaped}
 use Rattle.arrays.proofs.Passed.{passed, newest-station}
@@ -60,6 +60,22 @@ number-kept b = either (eqb b 0) Idle _ tt (either (eqb b 1) (Snap Label) _ tt (
     either true p q h k = h
     either false p q h k = k
 
+-- SERVICE
+
+pub out-back : (x : Bool) → outFor (outNumber x) ≡ x
+out-back true = refl
+out-back false = refl
+
+pub out-low : (x : Bool) → outNumber x ≤ 1
+out-low true = omega arith
+out-low false = omega arith
+
+pub out-number : (b : ℕ) → b ≤ 1 → outNumber (outFor b) ≡ b
+out-number b h = eqb-true _ b (every-at 2 (λ k. eqb (outNumber (outFor k)) k) all b (omega arith))
+  where
+    all : every 2 (λ k. eqb (outNumber (outFor k)) k) ≡ true
+    all = unfold every in refl
+
 -- A STATE THAT CAN BE WRITTEN DOWN is the state that its arrays hold
 module _ (n : ℕ) (high : n ≤ 32) (s : State Labels.Label) (w : Writable n s) where
   -- what stands in the arrays at every place, past the last too
@@ -87,6 +103,11 @@ module _ (n : ℕ) (high : n ≤ 32) (s : State Labels.Label) (w : Writable n s)
   phase-at i = getD-all 32 i (λ j. phaseNumber (s .rest .process j .phase)) 0
       (λ l. sym (ap (λ (p : Process). phaseNumber (p .phase)) (w .past i (omega arith) .process)))
 
+  out-at : (i : ℕ) → cell (arraysOf n s .control) 1 i 0 ≡ outNumber (s .rest .process i .out)
+  unfolding arraysOf
+  out-at i = getD-all 32 i (λ j. outNumber (s .rest .process j .out)) 0
+      (λ l. sym (ap (λ (p : Process). outNumber (p .out)) (w .past i (omega arith) .process)))
+
   rows-at : (i : ℕ) → i < 32 → rowsAt (arraysOf n s) i ≡ resultRows (s .rest .result i)
   unfolding arraysOf
   rows-at i l = getD-tabulate 32 0 i (λ j. resultRows (s .rest .result j)) [] l ∙ ap (λ j. resultRows (s .rest .result j)) (zero-add i)
@@ -108,6 +129,7 @@ module _ (n : ℕ) (high : n ≤ 32) (s : State Labels.Label) (w : Writable n s)
         pendingJob = job-at true i y;
         phase =
             (ap phaseFor (phase-at i) ∙ phase-back (s .rest .process i .phase) (w .phase i)) y;
+        out = (ap outFor (out-at i) ∙ out-back (s .rest .process i .out)) y;
       };
       result = λ i. result-at i y;
     };
@@ -124,12 +146,19 @@ module _ (n : ℕ) (low : 2 ≤ n) (high : n ≤ 32) (s : State Labels.Label) (r
   rows-fresh : (x : Bool) (i : ℕ) → n ≤ i → rowFits 31 0 (labelRow (arraysOf n s) x i) ≡ true
   rows-fresh x i l = label-fits 31 0 _ (λ p. 1) (label-at n high s w x i ∙ w .past i l .labels x) (λ p. (omega arith, omega arith)) (λ p _. refl)
 
+  control-fits : (p : Process) → Idles p → controlFits (phaseNumber (p .phase)) (outNumber (p .out)) ≡ true
+  control-fits p h = both (both (le-leb _ 4 (phase-low (p .phase))) (le-leb _ 1 (out-low (p .out)))) (idle (p .out) h)
+    where
+      idle : (x : Bool) → (x ≡ true → p .phase ≡ Idle) → eqb (outNumber x) 0 || eqb (phaseNumber (p .phase)) 0 ≡ true
+      idle true f = rw (f refl) refl
+      idle false f = refl
+
   pub reached-passes : wellFormed (arraysOf n s) ≡ true
   unfolding wellFormed stationFits placeFresh arraysOf
   reached-passes = both (both (both (within-of 2 32 n low high)
       (every-all n _ (λ i l. both (both (both (rows-fit false i l) (rows-fit true i l))
-      (le-leb (cell (arraysOf n s .control) 0 i 0) 4 (rw (phase-at n high s w i) (phase-low (s .rest .process i .phase)))))
-      (rw (rows-at n high s w i (omega arith)) (sound-fits n (s .rest .result i) high (w .listed i) (r .sound i))))))
+      (rw (rows-at n high s w i (omega arith)) (sound-fits n (s .rest .result i) high (w .listed i) (r .sound i))))
+      (rw (phase-at n high s w i, out-at n high s w i) (control-fits (s .rest .process i) (r .idles i))))))
       (every-all (32 - n) _ (λ i l. fresh (n + i) (omega arith) (omega arith))))
       (ap (λ (u : State Labels.Label). noRing (n - 1) (u .labels false)) (held-written n high s w) ∙ choice-ring-free n (omega arith) r (λ i. false))
     where
@@ -137,8 +166,9 @@ module _ (n : ℕ) (low : 2 ≤ n) (high : n ≤ 32) (s : State Labels.Label) (r
       fresh i h l = let u = w .past i h .process in both (both (both (both (both (rows-fresh false i h) (rows-fresh true i h))
           (eq-eqb (cell (arraysOf n s .jobs) 0 i 0) 0 (job-at n high s w false i ∙ ap (λ (p : Process). p .job) u)))
           (eq-eqb (cell (arraysOf n s .jobs) 1 i 0) 0 (job-at n high s w true i ∙ ap (λ (p : Process). p .pendingJob) u)))
-          (eq-eqb (cell (arraysOf n s .control) 0 i 0) 0 (phase-at n high s w i ∙ ap (λ (p : Process). phaseNumber (p .phase)) u)))
-          (rw (rows-at n high s w i l, w .past i h .result) empty-fresh)
+          (rw (rows-at n high s w i l, w .past i h .result) empty-fresh))
+          (both (eq-eqb (cell (arraysOf n s .control) 0 i 0) 0 (phase-at n high s w i ∙ ap (λ (p : Process). phaseNumber (p .phase)) u))
+          (eq-eqb (cell (arraysOf n s .control) 1 i 0) 0 (out-at n high s w i ∙ ap (λ (p : Process). outNumber (p .out)) u)))
 
 pub lent-lawful : Lawful lent
 unfolding arraysOf
@@ -157,6 +187,9 @@ module _ (a : Arrays) (g : Shaped a) (e : wellFormed a ≡ true) where
   phase-known : (i : ℕ) → i < 32 → cell (a .control) 0 i 0 ≤ 4
   phase-known i l = by-cases (decLt i (a .count)) (λ u. passed a e .each i u .phase) (λ u. omega (arith, passed a e .rest i (omega arith) l .phase))
 
+  out-known : (i : ℕ) → i < 32 → cell (a .control) 1 i 0 ≤ 1
+  out-known i l = by-cases (decLt i (a .count)) (λ u. passed a e .each i u .out) (λ u. omega (arith, passed a e .rest i (omega arith) l .out))
+
   pub labels-back : planes (λ x i. row 31 (stateOf a .labels x i)) ≡ a .labels
   labels-back = ap₂ (λ b c. b ∷ c ∷ []) (each 0 (omega arith)) (each 1 (omega arith)) ∙ two-lists (a .labels) [] (g .labels .long)
     where
@@ -169,9 +202,11 @@ module _ (a : Arrays) (g : Shaped a) (e : wellFormed a ≡ true) where
       (tabulate-is 32 (getD (a .jobs) 1 []) 0 _ (g .jobs .each 1 (omega arith)) (λ i l. refl))
       ∙ two-lists (a .jobs) [] (g .jobs .long)
 
-  pub control-back : tabulate 32 0 (λ i. phaseNumber (stateOf a .rest .process i .phase)) ∷ [] ≡ a .control
-  control-back = ap (λ b. b ∷ []) (tabulate-is 32 (getD (a .control) 0 []) 0 _ (g .control .each 0 (omega arith)) (λ i l. number-back _ (phase-known i l)))
-      ∙ one-list (a .control) [] (g .control .long)
+  pub control-back : planes (controlOf (stateOf a)) ≡ a .control
+  control-back = ap₂ (λ b c. b ∷ c ∷ [])
+      (tabulate-is 32 (getD (a .control) 0 []) 0 _ (g .control .each 0 (omega arith)) (λ i l. number-back _ (phase-known i l)))
+      (tabulate-is 32 (getD (a .control) 1 []) 0 _ (g .control .each 1 (omega arith)) (λ i l. out-number _ (out-known i l)))
+      ∙ two-lists (a .control) [] (g .control .long)
 
   pub results-back : tabulate 32 0 (λ i. resultRows (stateOf a .rest .result i)) ≡ a .results
   results-back = tabulate-is 32 (a .results) [] _ (g .results .long) (λ i l.
@@ -203,7 +238,7 @@ module _ (a : Arrays) (g : Shaped a) (e : wellFormed a ≡ true) where
       unused : (i : ℕ) → a .count ≤ i → i < 32 → Unused (stateOf a) i
       unused i h l = let f = passed a e .rest i h l in record {
         labels = λ x. fun-ext (λ p. fits-behind 31 0 (labelRow a x i) (label-long x i l) (f .label x) p (omega arith));
-        process = λ y. record { job = f .job y; pendingJob = f .pendingJob y; phase = phaseFor (f .phase y) };
+        process = λ y. record { job = f .job y; pendingJob = f .pendingJob y; phase = phaseFor (f .phase y); out = outFor (f .out y) };
         result = none-held (a .count) (rowsAt a i) (λ p u. fresh-cells (rowsAt a i) (f .result) p (omega (arith, high)) .0);
       }
 
@@ -217,6 +252,7 @@ module _ (a : Arrays) (g : Shaped a) (e : wellFormed a ≡ true) where
           job = none (a .jobs) 0 i (g .jobs .each 0 (omega arith)) l y;
           pendingJob = none (a .jobs) 1 i (g .jobs .each 1 (omega arith)) l y;
           phase = phaseFor (none (a .control) 0 i (g .control .each 0 (omega arith)) l y);
+          out = outFor (none (a .control) 1 i (g .control .each 1 (omega arith)) l y);
         };
         result = ap (resultOf (a .count)) (List·getD-eq-default (a .results) [] (omega (arith, g .results .long))) ∙ none-held (a .count) [] (λ p _. refl);
       }

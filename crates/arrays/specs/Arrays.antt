@@ -18,8 +18,8 @@ Rows = Lists.List (Lists.List ℕ)
 abbrev pub Planes : Type 0
 Planes = Lists.List Rows
 
--- planes of labels (current, pending), of jobs (current, pending) and of control bytes (the phase), each with a place for each station; and for each
--- station the two rows of its scan result, stations and jobs
+-- planes of labels (current, pending), of jobs (current, pending) and of control bytes (the phase; whether the station is out of service), each with a place
+-- for each station; and for each station the two rows of its scan result, stations and jobs
 pub record Arrays : Type 0 where
   pub count : ℕ
   pub labels : Planes
@@ -35,7 +35,7 @@ arrays n l j c r = record { count = n; labels = l; jobs = j; control = c; result
 abbrev pub cell : {A : Type 0} → Lists.List (Lists.List A) → ℕ → ℕ → A → A
 cell xs f i d = getD (getD xs f []) i d
 
--- the plane of what is current (false) or pending (true), and both planes of what f gives for each station
+-- the plane of what is current (false) or pending (true), and two planes of what f gives for each station
 abbrev pub plane : Bool → ℕ
 plane x = cond x 1 0
 
@@ -57,6 +57,13 @@ phaseFor b =
     (cond (eqb b 1) (Snap Label)
     (cond (eqb b 2) Update
     (cond (eqb b 3) (End Label) (End Scan))))
+
+-- the number of what is out of service, 1, and in service, 0 (02, Card 4); any other number is that of neither, and is read as 1 is
+abbrev pub outNumber : Bool → ℕ
+outNumber out = cond out 1 0
+
+abbrev pub outFor : ℕ → Bool
+outFor b = not (eqb b 0)
 
 -- the rows of a scan result, with 0s past its last entry; and the first k entries in rows
 abbrev pub resultRows : Lists.List Entry → Rows
@@ -82,7 +89,12 @@ labelRow a x i = cell (a .labels) (plane x) i []
 
 abbrev pub restOf : Arrays → Rest
 restOf a = record {
-  process = λ i. record { job = cell (a .jobs) 0 i 0; pendingJob = cell (a .jobs) 1 i 0; phase = phaseFor (cell (a .control) 0 i 0) };
+  process = λ i. record {
+    job = cell (a .jobs) 0 i 0;
+    pendingJob = cell (a .jobs) 1 i 0;
+    phase = phaseFor (cell (a .control) 0 i 0);
+    out = outFor (cell (a .control) 1 i 0);
+  };
   result = λ i. resultOf (a .count) (rowsAt a i);
 }
 
@@ -93,9 +105,12 @@ stateOf a = record { labels = λ x i. digit (labelRow a x i); rest = restOf a }
 abbrev pub jobsOf : State Labels.Label → Bool → ℕ → ℕ
 jobsOf s x i = let p = s .rest .process i in cond x (p .pendingJob) (p .job)
 
+abbrev pub controlOf : State Labels.Label → Bool → ℕ → ℕ
+controlOf s x i = let p = s .rest .process i in cond x (outNumber (p .out)) (phaseNumber (p .phase))
+
 unfoldable pub arraysOf : ℕ → State Labels.Label → Arrays
 arraysOf n s = arrays n
     (planes (λ x i. row 31 (s .labels x i)))
     (planes (jobsOf s))
-    (tabulate 32 0 (λ i. phaseNumber (s .rest .process i .phase)) ∷ [])
+    (planes (controlOf s))
     (tabulate 32 0 (λ i. resultRows (s .rest .result i)))

@@ -15,6 +15,6 @@ pub record Shaped (a : Arrays) : Type 0 where
   pub labels : Sized 2 32 (a .labels)
   pub label : (f : ℕ) → f < 2 → Sized 32 31 (getD (a .labels) f [])
   pub jobs : Sized 2 32 (a .jobs)
-  pub control : Sized 1 32 (a .control)
+  pub control : Sized 2 32 (a .control)
   pub results : Sized 32 2 (a .results)
   pub result : (i : ℕ) → i < 32 → Sized 2 32 (getD (a .results) i [])

@@ -3,7 +3,7 @@ ghost use mathlib.Core.Path.{_≡_};
 ghost use Prim.Native.Nat.{ℕ, _≤_};
 ghost use Rattle.moves.specs.Moves.{phaseOf};
 ghost use Rattle.transition.specs.Forms.{freshTable};
-ghost use Rattle.arrays.specs.Arrays.{arrays, phaseFor, shownIn};
+ghost use Rattle.arrays.specs.Arrays.{arrays, phaseFor, outFor, shownIn};
 ghost use Rattle.arrays.specs.Form.{lent};
 ghost use Rattle.arrays.specs.Sizes.{Shaped};
 use moves::Operation;
@@ -15,8 +15,8 @@ pub type Labels = [[[u8; 31]; 32]; 2];
 // Current and pending jobs.
 pub type Jobs = [[u32; 32]; 2];
 
-// What each station is due to do: its phase, as a number.
-pub type Control = [[u8; 32]; 1];
+// What each station is due to do, its phase, as a number; and whether it is out of service.
+pub type Control = [[u8; 32]; 2];
 
 // The stations, from 1, and the jobs of each station's scan result.
 pub type Results = [[[u32; 32]; 2]; 32];
@@ -31,6 +31,11 @@ pub const UPDATE: u8 = 2;
 pub const END_LABEL: u8 = 3;
 
 pub const END_SCAN: u8 = 4;
+
+// The numbers of a station in service, and of one that is out of it.
+pub const IN_SERVICE: u8 = 0;
+
+pub const OUT_OF_SERVICE: u8 = 1;
 
 // The phase that a number stands for.
 pub fn phase_of(b: u8) -> Phase
@@ -49,6 +54,13 @@ pub fn phase_of(b: u8) -> Phase
         return Phase::End(Operation::Label);
     }
     Phase::End(Operation::Scan)
+}
+
+// Whether a number stands for out of service; every number but 0 is read so.
+pub fn is_out(b: u8) -> bool
+    ensures { λ r. ⌜ r ≡ outFor b ⌝ }
+{
+    b != IN_SERVICE
 }
 
 // The lengths of lent arrays, which are known of arrays passed by value. Nothing is left of the copies when this is compiled.
@@ -85,10 +97,11 @@ pub fn refresh(
     let plane = [label; 32];
     let none = [0u32; 32];
     let idle = [IDLE; 32];
+    let serving = [IN_SERVICE; 32];
     let empty = [none; 2];
     *labels = [plane; 2];
     *jobs = [none; 2];
-    let phases = [idle; 1];
-    *control = phases;
+    let state = [idle, serving];
+    *control = state;
     *results = [empty; 32];
 }

@@ -39,6 +39,9 @@ fn changed(s: Station, other: Station, letter: u8, p: usize, v: u8, job: u32) ->
         b'w' => {
             next.pending_job = job;
         }
+        b'u' => {
+            next.out_of_service = v != 0;
+        }
         b'c' => {
             next = other;
         }

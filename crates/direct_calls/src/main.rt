@@ -1,7 +1,7 @@
 // Direct calls of the steps, as the command file on standard input asks for them. The file is run twice: step calls get their tables by value, and then
 // from an owner that lends them. Calls by name and sessions get them by value both times, and calls with a panel from an owner both times. A call shows the
-// buffer or the panel, its refusal number and its count, of bytes or of records. The file `stdout` beside this folder has what document 01 asks with Cards 1
-// and 2.
+// buffer or the panel, its refusal number and its count, of bytes or of records. The file `stdout` beside this folder has what document 01 asks with Cards 1,
+// 2 and 4.
 //
 // A line that starts with # or is empty is shown as it is. Any other is a command: a letter and four columns of 12 bytes, with 0 in those that it
 // does not use; or one of `o` and `v`, which end with a line of a schedule file. Places and positions count from 0. A bad line ends the run.
@@ -16,6 +16,7 @@
 //     e place entry station job  changes an entry of the scan result
 //     j place 0 0 job            changes the job
 //     w place 0 0 job            changes the pending job
+//     u place 0 out              changes whether the station is out of service: 1 if it is, 0 if not
 //     c place other              changes the record to the one at another place
 //     o, a line                  opens a session with this header, and shows the number of its refusal
 //     v room, a line             serves the line, and lends so many bytes, each a dot
@@ -45,8 +46,8 @@ pub fn number(before: u8, v: u64) {
     io::print_decimal(STDOUT_FILENO, v);
 }
 
-// A form of the step calls: on a lent table. 1 to 5 are the calls with the names of these steps, and 0 is the call by value.
-const LENT: u64 = 6;
+// A form of the step calls: on a lent table. 1 to 7 are the calls with the names of these steps, and 0 is the call by value.
+const LENT: u64 = 8;
 
 // Makes a step call in one of its forms.
 fn stepped(t: Table, form: u64, c: Command, report: &mut [u8]) -> Outcome {
@@ -56,6 +57,8 @@ fn stepped(t: Table, form: u64, c: Command, report: &mut [u8]) -> Outcome {
         3 => step::snap(t, c.b),
         4 => step::update(t, c.b),
         5 => step::end(t, c.b, report),
+        6 => step::leave_service(t, c.b),
+        7 => step::return_to_service(t, c.b),
         LENT => lent_table::step_owned(t, c.a, c.b, c.c, report),
         _ => step::step(t, c.a, c.b, c.c, report),
     }
@@ -103,7 +106,7 @@ fn bad() {
 
 // Obeys the lines of a file, up to a bad one.
 fn run(form: u64, file: &[u8])
-    requires { ⌜ length (now file) ≤ 65536 ⌝ }
+    requires { ⌜ length (now file) ≤ 131072 ⌝ }
 {
     let mut t = Table::fresh(2);
     let mut s = session::open(&file[..0]);
@@ -124,7 +127,7 @@ fn run(form: u64, file: &[u8])
 }
 
 fn main() {
-    let mut buffer = io::large_buffer();
+    let mut buffer = [0; 131072];
     let n = io::read_full(STDIN_FILENO, &mut buffer);
     run(0, &buffer[..n]);
     run(LENT, &buffer[..n]);

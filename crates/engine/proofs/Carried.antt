@@ -17,22 +17,24 @@ use Rattle.label.specs.Labels.{newLabel}
 use Rattle.label.specs.Rows.{digit, row}
 use Rattle.label.proofs.RowLaws.{row-digit}
 use Rattle.rows.specs.Held.{pendingIn}
-use Rattle.simulation.specs.Calls.{Label, Scan, Idle, Update, End, Phase, Process, Rest}
-use Rattle.simulation.specs.Machine.{Labelling, digits, stands, pendingAfter, LabelStep, stay, snap, update, relabelled, inPhase, begun, updated}
-use Rattle.simulation.specs.Machine.{jobAt, changed, scanOf, carryOut}
+use Rattle.simulation.specs.Calls.{Label, Scan, Idle, Update, End, Process, Rest}
+use Rattle.simulation.specs.Machine.{Labelling, digits, stands, pendingAfter, LabelStep, stay, snap, update, relabelled, inPhase, begun, updated, setOut}
+use Rattle.simulation.specs.Machine.{changed, scanOf, carryOut}
 use Rattle.simulation.proofs.Labellings.{here-yes}
+use Rattle.simulation.proofs.Scans.{scan-alike}
 use Rattle.moves.specs.Moves.{moveOf}
 use Rattle.moves.specs.declared.Move.{Move}
 use Rattle.moves.specs.declared.Move.the-variants as Moves
-use Rattle.moves.specs.declared.Move.the-variants.{Refused, BeginLabel, SnapLabel, SnapScan, EndLabel, EndScan}
+use Rattle.moves.specs.declared.Move.the-variants.{Refused, BeginLabel, SnapLabel, SnapScan, EndLabel, EndScan, LeaveService, ReturnToService}
 use Rattle.moves.specs.declared.Refusal.{Refusal}
 use Rattle.moves.specs.declared.Refusal.the-variants.{Accepted}
-use Rattle.arrays.specs.Arrays.{Rows, Planes, Arrays, arrays, cell, planes, phaseNumber, resultRows, entriesIn, restOf, stateOf, jobsOf, arraysOf}
+use Rattle.arrays.specs.Arrays.{Rows, Planes, Arrays, arrays, cell, planes, phaseNumber, outNumber, resultRows, entriesIn, restOf, stateOf}
+use Rattle.arrays.specs.Arrays.{jobsOf, controlOf, arraysOf}
 use Rattle.arrays.specs.Sizes.{Shaped}
 use Rattle.arrays.proofs.Passed.{passed}
 use Rattle.arrays.proofs.Results.{station-most}
 use Rattle.arrays.proofs.States.{labels-back, jobs-back, control-back, results-back, written-held}
-use Rattle.engine.specs.Scans.{orderOf, scanRows}
+use Rattle.engine.specs.Scans.{orderOf, found, scanRows}
 use Rattle.engine.proofs.Scanned.{put}
 use Rattle.engine.specs.Contracts.{Prepared, handsOut, Performs, Named, Carries}
 use Rattle.engine.specs.declared.Handed.{Handed}
@@ -53,7 +55,7 @@ at-own o k f = rw (here-yes k) refl
 at-other : (o : Rest) (k : ℕ) (f : Process → Process) (i : ℕ) → i ≢ k → changed o k f .process i ≡ o .process i
 at-other o k f i d = rw (ne-eqb i k d) refl
 
--- what a change of one record leaves of all of them
+-- what a change of one record leaves-service of all of them
 at-all : {A : Type 0} (v : Process → A) (o : Rest) (k : ℕ) (f : Process → Process) → ((p : Process) → v (f p) ≡ v p)
     → (i : ℕ) → v (o .process i) ≡ v (changed o k f .process i)
 at-all v o k f e i = by-here (λ b. v (o .process i) ≡ v (cond b (f (o .process i)) (o .process i))) k i (λ _. sym (e (o .process i))) (λ _. refl)
@@ -115,10 +117,11 @@ module _ {a : Arrays} {x : Task} {order : Lists.List ℕ} (s : Prepared a x orde
   abbrev jobsIn : (Process → Process) → Bool → ℕ → ℕ
   jobsIn f y i = let p = changed (restOf a) k f .process i in cond y (p .pendingJob) (p .job)
 
-  jobs-stay : (p : Phase) → a .jobs ≡ planes (jobsIn (inPhase p))
-  jobs-stay p = sym (jobs-back a g (s .passed)) ∙ ap₂ (λ x y. x ∷ y ∷ [])
-      (tabulate-same 32 0 _ _ (λ i _. at-all (λ (q : Process). q .job) (restOf a) k (inPhase p) (λ q. refl) i))
-      (tabulate-same 32 0 _ _ (λ i _. at-all (λ (q : Process). q .pendingJob) (restOf a) k (inPhase p) (λ q. refl) i))
+  jobs-stay : (f : Process → Process) → ((p : Process) → f p .job ≡ p .job) → ((p : Process) → f p .pendingJob ≡ p .pendingJob)
+      → a .jobs ≡ planes (jobsIn f)
+  jobs-stay f e d = sym (jobs-back a g (s .passed)) ∙ ap₂ (λ x y. x ∷ y ∷ [])
+      (tabulate-same 32 0 _ _ (λ i _. at-all (λ (q : Process). q .job) (restOf a) k f e i))
+      (tabulate-same 32 0 _ _ (λ i _. at-all (λ (q : Process). q .pendingJob) (restOf a) k f d i))
 
   jobs-begun : put (a .jobs) 1 k (x .job) ≡ planes (jobsIn (begun (x .job)))
   jobs-begun = ap (λ p. put p 1 k (x .job)) (sym (jobs-back a g (s .passed)))
@@ -134,40 +137,51 @@ module _ {a : Arrays} {x : Task} {order : Lists.List ℕ} (s : Prepared a x orde
       (λ i d. sym (ap (λ (p : Process). p .job) (at-other (restOf a) k updated i d)))
       (at-all (λ (p : Process). p .pendingJob) (restOf a) k updated (λ p. refl))
 
-  -- PHASES
+  -- CONTROL, after a change of the record of k
 
-  abbrev phaseIn : Rest → ℕ → ℕ
-  phaseIn o i = phaseNumber (o .process i .phase)
+  abbrev controlIn : (Process → Process) → Bool → ℕ → ℕ
+  controlIn f y i = let p = changed (restOf a) k f .process i in cond y (outNumber (p .out)) (phaseNumber (p .phase))
 
-  -- a change of one record that leads to the phase with this number
-  phase-put : (f : Process → Process) (v : ℕ) → v ≡ phaseNumber (f (restOf a .process k) .phase)
-      → put (a .control) 0 k v ≡ tabulate 32 0 (phaseIn (changed (restOf a) k f)) ∷ []
-  phase-put f v e = ap (λ c. put c 0 k v) (sym (control-back a g (s .passed)))
-      ∙ ap (λ p. p ∷ []) (set-tabulate 32 k v (phaseIn (restOf a)) (phaseIn (changed (restOf a) k f)) (omega (arith, s .inside, s .high))
+  -- one that leads to the phase with this number
+  phase-put : (f : Process → Process) (v : ℕ) → ((p : Process) → f p .out ≡ p .out) → v ≡ phaseNumber (f (restOf a .process k) .phase)
+      → put (a .control) 0 k v ≡ planes (controlIn f)
+  phase-put f v same e = ap (λ c. put c 0 k v) (sym (control-back a g (s .passed)))
+      ∙ put-current (controlOf (stateOf a)) (controlIn f) k v (omega (arith, s .inside, s .high))
       (e ∙ sym (ap (λ (p : Process). phaseNumber (p .phase)) (at-own (restOf a) k f)))
-      (λ i _ d. sym (ap (λ (p : Process). phaseNumber (p .phase)) (at-other (restOf a) k f i d))))
+      (λ i d. sym (ap (λ (p : Process). phaseNumber (p .phase)) (at-other (restOf a) k f i d)))
+      (at-all (λ (p : Process). outNumber (p .out)) (restOf a) k f (λ p. ap outNumber (same p)))
+
+  -- one of service
+  service-put : (b : Bool) (v : ℕ) → v ≡ outNumber b → put (a .control) 1 k v ≡ planes (controlIn (setOut b))
+  service-put b v e = ap (λ c. put c 1 k v) (sym (control-back a g (s .passed)))
+      ∙ put-pending (controlOf (stateOf a)) (controlIn (setOut b)) k v (omega (arith, s .inside, s .high))
+      (e ∙ sym (ap (λ (p : Process). outNumber (p .out)) (at-own (restOf a) k (setOut b))))
+      (λ i d. sym (ap (λ (p : Process). outNumber (p .out)) (at-other (restOf a) k (setOut b) i d)))
+      (at-all (λ (p : Process). phaseNumber (p .phase)) (restOf a) k (setOut b) (λ p. refl))
 
   -- RESULTS
 
   -- the rows of what a scan stores
-  scan-written : order ≡ orderOf n rows → scanRows n order (getD (a .jobs) 0 []) ≡ resultRows (scanOf (jobAt (restOf a)) sorted)
-  scan-written e = ap (λ l. resultRows (scanOf (jobAt (restOf a)) l))
-      (ap (take n) e ∙ take-at sorted (replicate (32 - n) 0) n (ordered-length (stands (digits n) labels) n))
+  abbrev here : ℕ → Process
+  here = found (getD (a .jobs) 0 []) (getD (a .control) 1 [])
 
-  results-scanned : order ≡ orderOf n rows → set (a .results) k (scanRows n order (getD (a .jobs) 0 [])) ≡ tabulate 32 0
-      (λ i. resultRows (cond (eqb i k) (scanOf (jobAt (restOf a)) sorted) (restOf a .result i)))
-  results-scanned e = ap (λ r. set r k (scanRows n order (getD (a .jobs) 0 []))) (sym (results-back a g (s .passed)))
+  scan-written : order ≡ orderOf n rows → scanRows n order here ≡ resultRows (scanOf (restOf a .process) sorted)
+  scan-written e = ap resultRows (ap (scanOf here) (ap (take n) e ∙ take-at sorted (replicate (32 - n) 0) n (ordered-length (stands (digits n) labels) n))
+      ∙ scan-alike here (restOf a .process) (λ i. refl) (λ i. refl) sorted)
+
+  results-scanned : order ≡ orderOf n rows → set (a .results) k (scanRows n order here) ≡ tabulate 32 0
+      (λ i. resultRows (cond (eqb i k) (scanOf (restOf a .process) sorted) (restOf a .result i)))
+  results-scanned e = ap (λ r. set r k (scanRows n order here)) (sym (results-back a g (s .passed)))
       ∙ set-tabulate 32 k _ (λ i. resultRows (restOf a .result i)) _ (omega (arith, s .inside, s .high)) (scan-written e ∙ rw (here-yes k) refl)
       (λ i _ d. rw (ne-eqb i k d) refl)
 
   -- ALL OF IT
 
-  -- the arrays after a change of the record of k that leaves the results
-  record-changed : (w : LabelStep) {b : Planes} {j : Rows} (f : Process → Process) (v : ℕ) → b ≡ labelsFor w → j ≡ planes (jobsIn f)
-      → v ≡ phaseNumber (f (restOf a .process k) .phase) → arrays n b j (put (a .control) 0 k v) (a .results)
-      ≡ arraysOf n (record { labels = relabelled n (digits n) labels w; rest = changed (restOf a) k f })
+  -- the arrays after a change of the record of k that leaves-service the results
+  record-changed : (w : LabelStep) {b : Planes} {j c : Rows} (f : Process → Process) → b ≡ labelsFor w → j ≡ planes (jobsIn f) → c ≡ planes (controlIn f)
+      → arrays n b j c (a .results) ≡ arraysOf n (record { labels = relabelled n (digits n) labels w; rest = changed (restOf a) k f })
   unfolding arraysOf
-  record-changed w f v el ej ev y = arrays n (el y) (ej y) (phase-put f v ev y) (sym (results-back a g (s .passed)) y)
+  record-changed w f el ej ec y = arrays n (el y) (ej y) (ec y) (sym (results-back a g (s .passed)) y)
 
   -- THE MOVES
 
@@ -192,41 +206,61 @@ module _ {a : Arrays} {x : Task} {order : Lists.List ℕ} (s : Prepared a x orde
 
   pub begins-label : Accepts BeginLabel (arrays n (a .labels) (put (a .jobs) 1 k (x .job)) (put (a .control) 0 k 1) (a .results))
   unfolding carryOut tabulate
-  begins-label r e d = quiet e d
-      (record { table = record-changed stay (begun (x .job)) 1 labels-stay jobs-begun refl; number = refl; place = refl; handed = refl }) refl refl
+  begins-label r e d =
+      let f = begun (x .job) in
+      let t = record-changed stay f labels-stay jobs-begun (phase-put f 1 (λ p. refl) refl) in
+      quiet e d (record { table = t; number = refl; place = refl; handed = refl }) refl refl
 
   pub snaps-label : {p : Lists.List ℕ} → p ≡ pendingIn n rows k (cell (a .labels) 1 k [])
       → Accepts SnapLabel (arrays n (put (a .labels) 1 k p) (a .jobs) (put (a .control) 0 k 2) (a .results))
   unfolding carryOut tabulate
   snaps-label q r e d =
+      let f = inPhase Update in
       let l = ap (put (a .labels) 1 k) q ∙ labels-snap in
-      quiet e d (record { table = record-changed (snap k) (inPhase Update) 2 l (jobs-stay Update) refl; number = refl; place = refl; handed = refl }) refl refl
+      let t = record-changed (snap k) f l (jobs-stay f (λ p. refl) (λ p. refl)) (phase-put f 2 (λ p. refl) refl) in
+      quiet e d (record { table = t; number = refl; place = refl; handed = refl }) refl refl
 
-  pub snaps-scan : {q : Rows} → q ≡ scanRows n order (getD (a .jobs) 0 [])
-      → Accepts SnapScan (arrays n (a .labels) (a .jobs) (put (a .control) 0 k 4) (set (a .results) k q))
+  pub snaps-scan : {q : Rows} → q ≡ scanRows n order here → Accepts SnapScan (arrays n (a .labels) (a .jobs) (put (a .control) 0 k 4) (set (a .results) k q))
   unfolding carryOut tabulate arraysOf
-  snaps-scan q r e d = quiet e d (record {
-    table = λ y. arrays n (labels-stay y) (jobs-stay (End Scan) y) (phase-put (inPhase (End Scan)) 4 refl y)
-        ((ap (set (a .results) k) q ∙ results-scanned (s .isOrder e)) y);
-    number = refl;
-    place = refl;
-    handed = refl;
-  }) refl refl
+  snaps-scan q r e d =
+      let f = inPhase (End Scan) in quiet e d (record {
+        table = λ y. arrays n (labels-stay y) (jobs-stay f (λ p. refl) (λ p. refl) y) (phase-put f 4 (λ p. refl) refl y)
+            ((ap (set (a .results) k) q ∙ results-scanned (s .isOrder e)) y);
+        number = refl;
+        place = refl;
+        handed = refl;
+      }) refl refl
 
   pub updates : Accepts Moves.Update
       (arrays n (put (a .labels) 0 k (cell (a .labels) 1 k [])) (put (a .jobs) 0 k (cell (a .jobs) 1 k 0)) (put (a .control) 0 k 3) (a .results))
   unfolding carryOut tabulate
-  updates r e d = quiet e d
-      (record { table = record-changed (update k) updated 3 labels-update jobs-updated refl; number = refl; place = refl; handed = refl }) refl refl
+  updates r e d =
+      let t = record-changed (update k) updated labels-update jobs-updated (phase-put updated 3 (λ p. refl) refl) in
+      quiet e d (record { table = t; number = refl; place = refl; handed = refl }) refl refl
 
   -- the end of an operation, in the arrays
   ended : arrays n (a .labels) (a .jobs) (put (a .control) 0 k 0) (a .results)
       ≡ arraysOf n (record { labels = relabelled n (digits n) labels stay; rest = changed (restOf a) k (inPhase Idle) })
-  ended = record-changed stay (inPhase Idle) 0 labels-stay (jobs-stay Idle) refl
+  ended =
+      let f = inPhase Idle in
+      record-changed stay f labels-stay (jobs-stay f (λ p. refl) (λ p. refl)) (phase-put f 0 (λ p. refl) refl)
 
   pub ends-label : Accepts EndLabel (arrays n (a .labels) (a .jobs) (put (a .control) 0 k 0) (a .results))
   unfolding carryOut tabulate
   ends-label r e d = quiet e d (record { table = ended; number = refl; place = refl; handed = refl }) refl refl
+
+  -- leaving service, and returning to it
+  serviced : (b : Bool) (v : ℕ) → v ≡ outNumber b → arrays n (a .labels) (a .jobs) (put (a .control) 1 k v) (a .results)
+      ≡ arraysOf n (record { labels = relabelled n (digits n) labels stay; rest = changed (restOf a) k (setOut b) })
+  serviced b v e = record-changed stay (setOut b) labels-stay (jobs-stay (setOut b) (λ p. refl) (λ p. refl)) (service-put b v e)
+
+  pub leaves-service : Accepts LeaveService (arrays n (a .labels) (a .jobs) (put (a .control) 1 k 1) (a .results))
+  unfolding carryOut tabulate
+  leaves-service r e d = quiet e d (record { table = serviced true 1 refl; number = refl; place = refl; handed = refl }) refl refl
+
+  pub returns-to-service : Accepts ReturnToService (arrays n (a .labels) (a .jobs) (put (a .control) 1 k 0) (a .results))
+  unfolding carryOut tabulate
+  returns-to-service r e d = quiet e d (record { table = serviced false 0 refl; number = refl; place = refl; handed = refl }) refl refl
 
   pub ends-scan : {r : Handed} → x .action ≡ EndScan → r ≡ record { refusal = Accepted; place = k; entries = x .shown }
       → Carries a x (arrays n (a .labels) (a .jobs) (put (a .control) 0 k 0) (a .results)) r

@@ -5,19 +5,19 @@ use native.Mathlib.Omega.{arith}
 use native.Mathlib.Decide.{decLt}
 use mathlib.Core.Path.{_≡_, refl, sym, ap, ap₂, _∙_}
 use mathlib.Core.Logic.{_≢_, by-cases}
-use mathlib.Core.Bool.{Bool}
+use mathlib.Core.Bool.{Bool, true, false, _&&_, Bool·not-not}
 use mathlib.Core.List as Lists
 use mathlib.Core.List.{[], _∷_, _++_, map, map-append, append-nil}
 use lib.ListN.{length, getD, take, set, replicate, length-append, List·getD-append, List·getD-eq-default}
 use lib.Seq.{take-suc, getD-at}
-use borrow.Author.Tests.{eq-eqb, ne-eqb}
+use lib.Dec.{eqb}
 use Rattle.basics.specs.Tests.{passing, tabulate}
 use Rattle.basics.proofs.Facts.{replicate-tabulate, set-tabulate}
 use Rattle.basics.proofs.Passing.{passing-yes, passing-no, passing-append}
-use Rattle.simulation.specs.Calls.{Entry, entry}
-use Rattle.simulation.specs.Machine.{shows, scanOf}
+use Rattle.simulation.specs.Calls.{Entry, entry, Process}
+use Rattle.simulation.specs.Machine.{hasJob, shows, scanOf}
 use Rattle.arrays.specs.Arrays.{Rows, resultRows}
-use Rattle.engine.specs.Scans.{scanned, scanRows}
+use Rattle.engine.specs.Scans.{found, scanned, scanRows}
 
 -- a row of the result l: its stations, or its jobs
 abbrev rowFor : (Entry → ℕ) → Lists.List Entry → Lists.List ℕ
@@ -39,53 +39,57 @@ row-more f l e k q h = set-tabulate 32 k (f e) _ _ h (ap f (sym at-end)) (λ p _
         (λ u. List·getD-eq-default (l ++ e ∷ []) (entry 0 0) (omega (arith, length-append l (e ∷ [])))
         ∙ sym (List·getD-eq-default l (entry 0 0) (omega arith)))
 
+-- what the code asks of a process
+pub found-shows : (jobs service : Lists.List ℕ) (i : ℕ) {b : Bool} → (hasJob (getD jobs i 0) && eqb (getD service i 0) 0) ≡ b → shows (found jobs service i) ≡ b
+found-shows jobs service i e = ap (λ x. hasJob (getD jobs i 0) && x) (Bool·not-not (eqb (getD service i 0) 0)) ∙ e
+
 -- the next station of the order
-module _ (order jobs : Lists.List ℕ) (p : ℕ) (h : p < length order) where
+module _ (order : Lists.List ℕ) (process : ℕ → Process) (p : ℕ) (h : p < length order) where
   abbrev i : ℕ
   i = getD order p 0
 
   abbrev shown : ℕ → Bool
-  shown j = shows (getD jobs j 0)
+  shown j = shows (process j)
 
   abbrev entryFor : ℕ → Entry
-  entryFor j = entry (suc j) (getD jobs j 0)
+  entryFor j = entry (suc j) (process j .job)
 
-  one-more : scanned (p + 1) order jobs ≡ scanned p order jobs ++ map entryFor (passing shown (i ∷ []))
+  one-more : scanned (p + 1) order process ≡ scanned p order process ++ map entryFor (passing shown (i ∷ []))
   unfolding scanOf
   one-more = ap (λ l. map entryFor (passing shown l)) (ap (λ k. take k order) (add-one p) ∙ take-suc order p 0 h)
       ∙ ap (map entryFor) (passing-append shown (take p order) (i ∷ []))
       ∙ map-append entryFor (passing shown (take p order)) (passing shown (i ∷ []))
 
-  with-job : getD jobs i 0 ≢ 0 → scanned (p + 1) order jobs ≡ scanned p order jobs ++ entryFor i ∷ []
+  with-this : shown i ≡ true → scanned (p + 1) order process ≡ scanned p order process ++ entryFor i ∷ []
   unfolding passing
-  with-job d = one-more ∙ ap (λ l. scanned p order jobs ++ map entryFor l) (passing-yes shown i [] (rw (ne-eqb (getD jobs i 0) 0 d) refl))
+  with-this e = one-more ∙ ap (λ l. scanned p order process ++ map entryFor l) (passing-yes shown i [] e)
 
-  without-job : getD jobs i 0 ≡ 0 → scanned (p + 1) order jobs ≡ scanned p order jobs
+  without-this : shown i ≡ false → scanned (p + 1) order process ≡ scanned p order process
   unfolding passing
-  without-job e = one-more ∙ ap (λ l. scanned p order jobs ++ map entryFor l) (passing-no shown i [] (rw (eq-eqb (getD jobs i 0) 0 e) refl)) ∙ append-nil _
+  without-this e = one-more ∙ ap (λ l. scanned p order process ++ map entryFor l) (passing-no shown i [] e) ∙ append-nil _
 
 -- rows with the k entries of a scan of the first p stations of the order
-pub record Filled (order jobs : Lists.List ℕ) (p k : ℕ) (rows : Rows) : Type 0 where
-  pub count : k ≡ length (scanned p order jobs)
-  pub held : rows ≡ scanRows p order jobs
+pub record Filled (order : Lists.List ℕ) (process : ℕ → Process) (p k : ℕ) (rows : Rows) : Type 0 where
+  pub count : k ≡ length (scanned p order process)
+  pub held : rows ≡ scanRows p order process
 
 -- row or plane f with v at place k
 abbrev pub put : {A : Type 0} → Lists.List (Lists.List A) → ℕ → ℕ → A → Lists.List (Lists.List A)
 put xs f k v = set xs f (set (getD xs f []) k v)
 
-module _ (order jobs : Lists.List ℕ) where
-  pub none-yet : Filled order jobs 0 0 (replicate 2 (replicate 32 0))
+module _ (order : Lists.List ℕ) (process : ℕ → Process) where
+  pub none-yet : Filled order process 0 0 (replicate 2 (replicate 32 0))
   unfolding scanOf passing
   none-yet = record { count = refl; held = ap₂ (λ a b. a ∷ b ∷ []) (row-none (λ e. e .station) refl) (row-none (λ e. e .job) refl) }
 
   -- the next station is shown, or struck out
-  module _ (p k : ℕ) {rows : Rows} (f : Filled order jobs p k rows) (h : p < length order) where
-    pub shown-next : {k′ : ℕ} {rows′ : Rows} → k < 32 → getD jobs (getD order p 0) 0 ≢ 0
-        → rows′ ≡ put (put rows 0 k (getD order p 0 + 1)) 1 k (getD jobs (getD order p 0) 0) → k′ ≡ k + 1 → Filled order jobs (p + 1) k′ rows′
+  module _ (p k : ℕ) {rows : Rows} (f : Filled order process p k rows) (h : p < length order) where
+    pub shown-next : {k′ : ℕ} {rows′ : Rows} → k < 32 → shows (process (getD order p 0)) ≡ true
+        → rows′ ≡ put (put rows 0 k (getD order p 0 + 1)) 1 k (process (getD order p 0) .job) → k′ ≡ k + 1 → Filled order process (p + 1) k′ rows′
     shown-next u d er ek =
-        let w = with-job order jobs p h d in
-        let l = scanned p order jobs in
-        let e = entry (suc (getD order p 0)) (getD jobs (getD order p 0) 0) in
+        let w = with-this order process p h d in
+        let l = scanned p order process in
+        let e = entry (suc (getD order p 0)) (process (getD order p 0) .job) in
         record {
           count = omega (arith, f .count, ap length w, length-append l (e ∷ []));
           held = er ∙ ap₂ (λ r v. put (put r 0 k v) 1 k (e .job)) (f .held) (add-one _) ∙ ap₂ (λ a b. a ∷ b ∷ [])
@@ -93,7 +97,7 @@ module _ (order jobs : Lists.List ℕ) where
               ∙ ap resultRows (sym w);
         }
 
-    pub struck-next : {k′ : ℕ} {rows′ : Rows} → getD jobs (getD order p 0) 0 ≡ 0 → rows′ ≡ rows → k′ ≡ k → Filled order jobs (p + 1) k′ rows′
+    pub struck-next : {k′ : ℕ} {rows′ : Rows} → shows (process (getD order p 0)) ≡ false → rows′ ≡ rows → k′ ≡ k → Filled order process (p + 1) k′ rows′
     struck-next z er ek =
-        let w = sym (without-job order jobs p h z) in
+        let w = sym (without-this order process p h z) in
         record { count = ek ∙ f .count ∙ ap length w; held = er ∙ f .held ∙ ap resultRows w }

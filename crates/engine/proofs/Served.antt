@@ -15,14 +15,14 @@ use Rattle.rows.proofs.OrderLaws.{listed-below, order-front}
 use Rattle.simulation.specs.Calls as Calls
 use Rattle.simulation.specs.Calls.{Room, Call, place, Entry, holds, judgeIn, judge, PanelRecord, reportLines, panelRecords, Report, size, written}
 use Rattle.simulation.specs.Machine.{digits, labelsAfter, answer, step}
-use Rattle.simulation.proofs.Judged.{Verdict, turned, begins, scans, updates, snaps, ends, judge-unknown-station, scan-ends, verdict}
+use Rattle.simulation.proofs.Judged.{Verdict, turned, begins, scans, updates, snaps, ends, service, judge-unknown-station, scan-ends, verdict}
 use Rattle.simulation.proofs.Reports.{records-length}
 use Rattle.transition.specs.Forms.{Form, TableAnswer, over, onto, answered, stepOf}
 use Rattle.transition.specs.Sequences.{Steps}
 use Rattle.transition.proofs.Theorem.{step-written, step-ill-formed}
 use Rattle.moves.specs.Moves.{refusalNumber, moveOf, called}
 use Rattle.moves.proofs.MoveLaws.{by-move, begun-job, place-below}
-use Rattle.arrays.specs.Arrays.{Rows, Arrays, cell, phaseNumber, phaseFor, entriesIn, shownIn, restOf, stateOf}
+use Rattle.arrays.specs.Arrays.{Rows, Arrays, cell, phaseNumber, phaseFor, outFor, entriesIn, shownIn, restOf, stateOf}
 use Rattle.arrays.specs.WellFormed.{wellFormed}
 use Rattle.arrays.specs.Form.{lent}
 use Rattle.arrays.proofs.Passed.{passed, label-digits}
@@ -42,11 +42,11 @@ pub orderly : (a : Arrays) → wellFormed a ≡ true → Orderly (a .count) (get
 orderly a e = let p = passed a e in record { low = p .low; high = p .high; valid = λ i l q h. label-digits a e false i q l h; free = p .free }
 
 -- a call is judged by the entries that are due as by all that its process has: where none are due, none are asked for
-due-same : (n k b : ℕ) (c : Call) → b ≤ 4 → judgeIn false n (due b k) (phaseFor b) c ≡ judgeIn false n k (phaseFor b) c
+due-same : (n k : ℕ) (out : Bool) (b : ℕ) (c : Call) → b ≤ 4 → judgeIn false n (due b k) out (phaseFor b) c ≡ judgeIn false n k out (phaseFor b) c
 unfolding judgeIn
-due-same n k b c h = ap (λ x. judgeIn false n (due x k) (phaseFor b) c) (sym (number-back b h)) ∙ go (phaseFor b)
+due-same n k out b c h = ap (λ x. judgeIn false n (due x k) out (phaseFor b) c) (sym (number-back b h)) ∙ go (phaseFor b)
   where
-    go : (ph : Calls.Phase) → judgeIn false n (due (phaseNumber ph) k) ph c ≡ judgeIn false n k ph c
+    go : (ph : Calls.Phase) → judgeIn false n (due (phaseNumber ph) k) out ph c ≡ judgeIn false n k out ph c
     go Calls.Idle = refl
     go (Calls.Snap o) = refl
     go Calls.Update = refl
@@ -68,8 +68,9 @@ Roomy k room (Calls.Move.updates i) = Unit {0}
 Roomy k room (Calls.Move.snaps i o) = Unit {0}
 Roomy k room (Calls.Move.ends i Calls.Label) = Unit {0}
 Roomy k room (Calls.Move.ends i Calls.Scan) = holds room k ≡ true
+Roomy k room (Calls.Move.setsOut i b) = Unit {0}
 
-roomy : {n k : ℕ} {c : Call} {ph : Calls.Phase} {w : Calls.Move} → Verdict n k c ph w → Roomy k (c .room) w
+roomy : {n k : ℕ} {c : Call} {out : Bool} {ph : Calls.Phase} {w : Calls.Move} → Verdict n k c out ph w → Roomy k (c .room) w
 roomy (turned x f) = tt
 roomy (begins own q) = tt
 roomy (scans own q) = tt
@@ -77,6 +78,7 @@ roomy (updates own q) = tt
 roomy (snaps own o q) = tt
 roomy (ends own Calls.Label q f) = tt
 roomy (ends own Calls.Scan q f) = f
+roomy (service own b q) = tt
 
 holds-none : (room : Room) → holds room 0 ≡ true
 holds-none (Calls.Buffer b) = le-leb 0 b (omega arith)
@@ -85,16 +87,21 @@ holds-none (Calls.Panel r) = le-leb 0 r (omega arith)
 room-shown : (k i job : ℕ) (room : Room) (m : Move) → Roomy k room (moveOf i job m) → holds room (handsOut k m) ≡ true
 room-shown k i job room = by-move (λ m. Roomy k room (moveOf i job m) → holds room (handsOut k m) ≡ true)
     (λ x h. holds-none room) (λ h. holds-none room) (λ h. holds-none room) (λ h. holds-none room) (λ h. holds-none room) (λ h. holds-none room) (λ h. h)
+    (λ h. holds-none room) (λ h. holds-none room)
 
 shown-few : (k : ℕ) → k ≤ 32 → (m : Move) → handsOut k m ≤ 32
 shown-few k h = by-move (λ m. handsOut k m ≤ 32) (λ x. omega arith) (omega arith) (omega arith) (omega arith) (omega arith) (omega arith) h
+    (omega arith) (omega arith)
 
 module _ (a : Arrays) (ok : wellFormed a ≡ true) (q : Request) (room : Room) (top : ℕ) (x : Task)
     (j : Judges (a .count) (a .control) (a .results) q room top x) where
   abbrev c : Call
   c = callOf q room
 
-  -- the caller's phase
+  -- whether the caller is out of service, and its phase
+  abbrev out : Bool
+  out = outFor (cell (a .control) 1 (x .place) 0)
+
   abbrev number : ℕ
   number = cell (a .control) 0 (x .place) 0
 
@@ -116,10 +123,10 @@ module _ (a : Arrays) (ok : wellFormed a ≡ true) (q : Request) (room : Room) (
 
   shown-all : x .action ≡ EndScan → x .shown ≡ shownHere
   shown-all e = j .shown ∙ ap (λ b. due b shownHere) (sym (number-back number known)
-      ∙ ap phaseNumber (scan-ends (verdict (a .count) (x .shown) c ph) (sym (j .action) ∙ ap (moveOf (x .place) (q .job)) e)))
+      ∙ ap phaseNumber (scan-ends (verdict (a .count) (x .shown) c out ph) (sym (j .action) ∙ ap (moveOf (x .place) (q .job)) e)))
 
   job-fits : x .action ≡ BeginLabel → x .job ≤ 4294967295
-  job-fits e = subst (λ k. k ≤ 4294967295) (sym (j .job)) (begun-job (a .count) (x .shown) ph c (x .place) (x .action) (j .action) e)
+  job-fits e = subst (λ k. k ≤ 4294967295) (sym (j .job)) (begun-job (a .count) (x .shown) out ph c (x .place) (x .action) (j .action) e)
 
   -- what carrying out asks for, given the newest station and the scan order where they are needed
   pub ready : {z : Task} (order : Lists.List ℕ) → z .action ≡ x .action → z .place ≡ x .place → z .job ≡ x .job → z .shown ≡ x .shown
@@ -140,16 +147,19 @@ module _ (a : Arrays) (ok : wellFormed a ≡ true) (q : Request) (room : Room) (
   judged = ap (λ v. moveOf (x .place) v (x .action)) (j .job) ∙ j .action ∙ go (within 1 (a .count) (q .station)) refl
     where
       at : ℕ → Calls.Move
-      at i = judgeIn false (a .count) (length (restOf a .result i)) (restOf a .process i .phase) c
+      at i = judgeIn false (a .count) (length (restOf a .result i)) (restOf a .process i .out) (restOf a .process i .phase) c
 
-      go : (b : Bool) → within 1 (a .count) (q .station) ≡ b → judgeIn false (a .count) (x .shown) ph c ≡ judge false (a .count) (restOf a) c
-      go true e = ap (λ k. judgeIn false (a .count) k ph c) (j .shown) ∙ due-same (a .count) shownHere number c known
-          ∙ ap (λ k. judgeIn false (a .count) k ph c) (sym (length-tabulate shownHere 0 _)) ∙ ap at (j .place ∙ rw e refl)
-      go false e = let s = judge-unknown-station (a .count) c e in s .1 (x .shown) ph ∙ sym (s .1 _ (restOf a .process (place c) .phase))
+      go : (b : Bool) → within 1 (a .count) (q .station) ≡ b → judgeIn false (a .count) (x .shown) out ph c ≡ judge false (a .count) (restOf a) c
+      go true e = ap (λ k. judgeIn false (a .count) k out ph c) (j .shown) ∙ due-same (a .count) shownHere out number c known
+          ∙ ap (λ k. judgeIn false (a .count) k out ph c) (sym (length-tabulate shownHere 0 _)) ∙ ap at (j .place ∙ rw e refl)
+      go false e =
+          let s = judge-unknown-station (a .count) c e in
+          let p = restOf a .process (place c) in
+          s .1 (x .shown) out ph ∙ sym (s .1 _ (p .out) (p .phase))
 
   has-room : holds room (handsOut (x .shown) (x .action)) ≡ true
   has-room = room-shown (x .shown) (x .place) (q .job) room (x .action)
-      (subst (Roomy (x .shown) room) (sym (j .action)) (roomy (verdict (a .count) (x .shown) c ph)))
+      (subst (Roomy (x .shown) room) (sym (j .action)) (roomy (verdict (a .count) (x .shown) c out ph)))
 
   -- so carrying it out is the step call
   pub served : {a′ : Arrays} {r : Handed} → Carries a x a′ r → Hands a c a′ r

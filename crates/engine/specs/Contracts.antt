@@ -15,13 +15,13 @@ use Rattle.simulation.specs.Machine as Machine
 use Rattle.simulation.specs.Machine.{digits, State, labelsAfter, outcome}
 use Rattle.transition.specs.Forms.{stepOf}
 use Rattle.moves.specs.Moves.{refusalNumber, moveOf, called, placeOf}
-use Rattle.arrays.specs.Arrays.{Rows, Planes, Arrays, cell, phaseFor, entriesIn, shownIn, stateOf, arraysOf}
+use Rattle.arrays.specs.Arrays.{Rows, Planes, Arrays, cell, phaseFor, outFor, entriesIn, shownIn, stateOf, arraysOf}
 use Rattle.arrays.specs.WellFormed.{wellFormed}
 use Rattle.arrays.specs.Form.{lent}
 use Rattle.engine.specs.Scans.{orderOf}
 use Rattle.moves.specs.declared.Move.{Move}
 use Rattle.moves.specs.declared.Move.the-variants as Moves
-use Rattle.moves.specs.declared.Move.the-variants.{Refused, BeginLabel, SnapLabel, SnapScan, EndLabel, EndScan}
+use Rattle.moves.specs.declared.Move.the-variants.{Refused, BeginLabel, SnapLabel, SnapScan, EndLabel, EndScan, LeaveService, ReturnToService}
 use Rattle.engine.specs.declared.Request.{Request}
 use Rattle.engine.specs.declared.Task.{Task}
 use Rattle.engine.specs.declared.Handed.{Handed}
@@ -58,6 +58,8 @@ handsOut k SnapScan = 0
 handsOut k Moves.Update = 0
 handsOut k EndLabel = 0
 handsOut k EndScan = k
+handsOut k LeaveService = 0
+handsOut k ReturnToService = 0
 
 -- how many a process whose phase has this number may hand out
 abbrev pub due : ℕ → ℕ → ℕ
@@ -90,7 +92,8 @@ Carries a x a′ r =
 pub record Judges (n : ℕ) (control : Rows) (results : Planes) (q : Request) (room : Room) (top : ℕ) (x : Task) : Type 0 where
   pub place : x .place ≡ placeOf n (q .station)
   pub shown : x .shown ≡ due (cell control 0 (x .place) 0) (shownIn n (cell results (x .place) 0 []))
-  pub action : moveOf (x .place) (q .job) (x .action) ≡ judgeIn false n (x .shown) (phaseFor (cell control 0 (x .place) 0)) (callOf q room)
+  pub action : moveOf (x .place) (q .job) (x .action)
+      ≡ judgeIn false n (x .shown) (outFor (cell control 1 (x .place) 0)) (phaseFor (cell control 0 (x .place) 0)) (callOf q room)
   pub job : x .job ≡ q .job
   pub newest : x .newest ≡ top
 

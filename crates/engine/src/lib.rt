@@ -16,20 +16,23 @@ ghost use Rattle.moves.specs.declared.Refusal.the-variants.{Accepted};
 ghost use Rattle.arrays.specs.Arrays.{arrays, entriesIn, shownIn};
 ghost use Rattle.arrays.specs.WellFormed.{wellFormed};
 ghost use Rattle.arrays.specs.Form.{lent};
-ghost use Rattle.engine.specs.Scans.{orderOf, scanRows};
+ghost use Rattle.engine.specs.Scans.{orderOf, found, scanRows};
 ghost use Rattle.engine.specs.Contracts.{directly, callOf, Prepared, due, Named, Carries, Judges, Hands, rowOf, recordOf};
 use arrays::Control;
 use arrays::END_LABEL;
 use arrays::END_SCAN;
 use arrays::IDLE;
+use arrays::IN_SERVICE;
 use arrays::Jobs;
 use arrays::Labels;
+use arrays::OUT_OF_SERVICE;
 use arrays::Results;
 use arrays::SNAP;
 use arrays::UPDATE;
 use moves::Move;
 use moves::Refusal;
 use moves::Room;
+use moves::Standing;
 
 // The planes.
 const CURRENT: usize = 0;
@@ -37,6 +40,8 @@ const CURRENT: usize = 0;
 const PENDING: usize = 1;
 
 const PHASE: usize = 0;
+
+const SERVICE: usize = 1;
 
 // What a caller is told: the refusal, and how many bytes or records of report were written.
 pub struct Reply {
@@ -80,11 +85,17 @@ pub struct Handed {
     pub entries: usize,
 }
 
-// Writes the result of a scan of the first n stations of an order to `rows`: those that have a job.
-fn scan_result(order: &[usize; 32], jobs: &[u32; 32], n: usize, rows: &mut [[u32; 32]; 2])
+// Writes the result of a scan of the first n stations of an order to `rows`: those that have a job and are in service.
+fn scan_result(
+    order: &[usize; 32],
+    jobs: &[u32; 32],
+    service: &[u8; 32],
+    n: usize,
+    rows: &mut [[u32; 32]; 2],
+)
     requires { ⌜ (n ≤ 32) × (n ≤ length (now order)) ⌝ }
     requires { ⌜ ((p : ℕ) → p < n → getD (now order) p 0 < 32) ⌝ }
-    ensures { λ _. ⌜ now (rows .exit) ≡ scanRows n (now (order .entry)) (now (jobs .entry)) ⌝ }
+    ensures { λ _. ⌜ now (rows .exit) ≡ scanRows n (now (order .entry)) (found (now (jobs .entry)) (now (service .entry))) ⌝ }
 {
     *rows = [[0u32; 32]; 2];
     let mut k: usize = 0;
@@ -92,7 +103,7 @@ fn scan_result(order: &[usize; 32], jobs: &[u32; 32], n: usize, rows: &mut [[u32
     while p < n {
         let i = order[p];
         let job = jobs[i];
-        if job != 0 {
+        if (job != 0) & (service[i] == IN_SERVICE) {
             rows[0][k] = (i + 1) as u32;
             rows[1][k] = job;
             k += 1;
@@ -196,7 +207,13 @@ pub fn carry_out(
             accepted(place, 0)
         }
         Move::SnapScan => {
-            scan_result(order, &jobs[CURRENT], n, &mut results[place]);
+            scan_result(
+                order,
+                &jobs[CURRENT],
+                &control[SERVICE],
+                n,
+                &mut results[place],
+            );
             control[PHASE][place] = END_SCAN;
             accepted(place, 0)
         }
@@ -213,6 +230,14 @@ pub fn carry_out(
         Move::EndScan => {
             control[PHASE][place] = IDLE;
             accepted(place, task.shown)
+        }
+        Move::LeaveService => {
+            control[SERVICE][place] = OUT_OF_SERVICE;
+            accepted(place, 0)
+        }
+        Move::ReturnToService => {
+            control[SERVICE][place] = IN_SERVICE;
+            accepted(place, 0)
         }
     }
 }
@@ -246,9 +271,11 @@ pub fn judge(
     let place = moves::place_of(station, n);
     let number = control[PHASE][place];
     let phase = arrays::phase_of(number);
+    let out = arrays::is_out(control[SERVICE][place]);
     let shown = due_entries(number, n, &results[place][0]);
+    let own = Standing { phase, out, shown };
     Task {
-        action: moves::judge(n, shown, phase, q.code, station, job, room),
+        action: moves::judge(n, own, q.code, station, job, room),
         place,
         job,
         newest: top,

@@ -16,7 +16,7 @@ use arrays::Jobs;
 use arrays::Labels;
 use arrays::Results;
 
-// What a caller is told: document 01's number, 0 if the call is served, and how many bytes or records of report were written.
+// What a caller is told: the documents' number, 0 if the call is served, and how many bytes or records of report were written.
 #[repr(C)]
 pub struct Answer {
     pub refusal: u64,

@@ -47,6 +47,8 @@ accepted Refusals.UnknownStep e = absurd (omega arith)
 accepted Refusals.JobOutOfRange e = absurd (omega arith)
 accepted Refusals.TooManyLines e = absurd (omega arith)
 accepted Refusals.IllFormedTable e = absurd (omega arith)
+accepted Refusals.OutOfService e = absurd (omega arith)
+accepted Refusals.InService e = absurd (omega arith)
 
 -- BYTES
 

@@ -53,12 +53,12 @@ orderBy n l = ordered n (λ i j. labelBefore (n - 1) (l i) i (l j) j) ++ replica
 
 -- what a move does not touch
 untouched : (k job i : ℕ) → i ≢ k → (m : Move) → touched (moveOf k job m) i ≡ false
-untouched k job i d = let e = ne-eqb i k d in by-move (λ m. touched (moveOf k job m) i ≡ false) (λ x. refl) e e e e e e
+untouched k job i d = let e = ne-eqb i k d in by-move (λ m. touched (moveOf k job m) i ≡ false) (λ x. refl) e e e e e e e e
 
 labels-same : (n k job : ℕ) (l : Labelling Labels.Label) (m : Move) → m ≢ Update → relabelled n (digits n) l (labelStep (moveOf k job m)) false ≡ l false
 unfolding relabelled
 labels-same n k job l = by-move (λ m. m ≢ Update → relabelled n (digits n) l (labelStep (moveOf k job m)) false ≡ l false)
-    (λ x d. refl) (λ d. refl) (λ d. refl) (λ d. refl) (λ d. absurd (d refl)) (λ d. refl) (λ d. refl)
+    (λ x d. refl) (λ d. refl) (λ d. refl) (λ d. refl) (λ d. absurd (d refl)) (λ d. refl) (λ d. refl) (λ d. refl) (λ d. refl)
 
 module _ {a : Arrays} {order : Lists.List ℕ} (f : Runnable a order) where
   abbrev n : ℕ

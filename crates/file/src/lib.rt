@@ -109,14 +109,8 @@ fn serve_line(
         (arrays n (now (labels .exit)) (now (jobs .exit)) (now (control .exit)) (now (results .exit))) r (now (out .exit)) ⌝ }
     ensures { λ _. ⌜ Runnable (arrays n (now (labels .exit)) (now (jobs .exit)) (now (control .exit)) (now (results .exit))) (now (order .exit)) ⌝ }
 {
-    let task = engine::judge(
-        n,
-        request,
-        control,
-        results,
-        Room::Buffer(ROOM),
-        order[n - 1],
-    );
+    let top = order[n - 1];
+    let task = engine::judge(n, request, control, results, Room::Buffer(ROOM), top);
     let h = engine::carry_out(n, task, order, labels, jobs, control, results);
     let m = task.action;
     let place = task.place;
@@ -239,7 +233,7 @@ fn report_steps(n: usize, rest: &[u8], out: &mut [u8]) -> Reply
 {
     let mut labels = [[[0u8; 31]; 32]; 2];
     let mut jobs = [[0u32; 32]; 2];
-    let mut control = [[0u8; 32]; 1];
+    let mut control = [[0u8; 32]; 2];
     let mut results = [[[0u32; 32]; 2]; 32];
     arrays::refresh(n, &mut labels, &mut jobs, &mut control, &mut results);
     let mut order = rows::order::order(&labels[0], n);

@@ -69,6 +69,26 @@ pub fn end(t: &mut Table, station: u64, report: &mut [u8]) -> Reply
     next.reply
 }
 
+// A station leaves service.
+pub fn leave_service(t: &mut Table, station: u64) -> Reply
+    ensures { λ r. ⌜ Steps declared (now (t .entry)) (called 0 6 station 0 (Buffer 0)) (Bytes []) (now (t .exit)) (refusalNumber (r .refusal)) (r .written)
+        (Bytes []) ⌝ }
+{
+    let next = step::leave_service(*t, station);
+    *t = next.table;
+    next.reply
+}
+
+// A station returns to service.
+pub fn return_to_service(t: &mut Table, station: u64) -> Reply
+    ensures { λ r. ⌜ Steps declared (now (t .entry)) (called 0 7 station 0 (Buffer 0)) (Bytes []) (now (t .exit)) (refusalNumber (r .refusal)) (r .written)
+        (Bytes []) ⌝ }
+{
+    let next = step::return_to_service(*t, station);
+    *t = next.table;
+    next.reply
+}
+
 // The owner of a table lends it for a step call, and hands it back: whoever calls this has no reference to a table.
 pub fn step_owned(t: Table, code: u64, station: u64, job: u64, report: &mut [u8]) -> Outcome
     ensures { λ r. ⌜ Steps declared t (called 0 code station job (Buffer (length (now (report .entry))))) (Bytes (now (report .entry)))

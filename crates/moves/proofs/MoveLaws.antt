@@ -16,29 +16,31 @@ use Rattle.simulation.specs.Calls.{Call, judgeIn}
 use Rattle.simulation.proofs.Judged.{begin-fits, verdict}
 use Rattle.moves.specs.Moves.{moveOf, placeOf}
 use Rattle.moves.specs.declared.Move.{Move}
-use Rattle.moves.specs.declared.Move.the-variants.{Refused, BeginLabel, SnapLabel, SnapScan, Update, EndLabel, EndScan}
+use Rattle.moves.specs.declared.Move.the-variants.{Refused, BeginLabel, SnapLabel, SnapScan, Update, EndLabel, EndScan, LeaveService, ReturnToService}
 use Rattle.moves.specs.declared.Refusal.{Refusal}
 use Rattle.moves.proofs.Move.{the-type}
 
 -- a fact about every move, from one for each
 pub by-move : (P : Move → Type 0) → ((x : Refusal) → P (Refused x)) → P BeginLabel → P SnapLabel → P SnapScan → P Update → P EndLabel → P EndScan
-    → (m : Move) → P m
-by-move P r a b c d e f (Refused x) = r x
-by-move P r a b c d e f BeginLabel = a
-by-move P r a b c d e f SnapLabel = b
-by-move P r a b c d e f SnapScan = c
-by-move P r a b c d e f Update = d
-by-move P r a b c d e f EndLabel = e
-by-move P r a b c d e f EndScan = f
+    → P LeaveService → P ReturnToService → (m : Move) → P m
+by-move P r a b c d e f g h (Refused x) = r x
+by-move P r a b c d e f g h BeginLabel = a
+by-move P r a b c d e f g h SnapLabel = b
+by-move P r a b c d e f g h SnapScan = c
+by-move P r a b c d e f g h Update = d
+by-move P r a b c d e f g h EndLabel = e
+by-move P r a b c d e f g h EndScan = f
+by-move P r a b c d e f g h LeaveService = g
+by-move P r a b c d e f g h ReturnToService = h
 
 -- a move in an arm for these tags is none that the arm leaves out
 pub not-among : (tags : List ℕ) (x : Move) → T (not (hasKey tags (tagOf the-type x))) → (m : Move) → OneOf tags (tagOf the-type m) → m ≢ x
 not-among tags x out m h e = miss tags (tagOf the-type x) out (subst (λ y. OneOf tags (tagOf the-type y)) e h)
 
 -- a label operation that is judged to begin has a job of 32 bits
-pub begun-job : (n shown : ℕ) (ph : Calls.Phase) (c : Call) (k : ℕ) (m : Move) → moveOf k (c .job) m ≡ judgeIn false n shown ph c → m ≡ BeginLabel
-    → c .job ≤ 4294967295
-begun-job n shown ph c k m h e = begin-fits (verdict n shown c ph) (sym h ∙ ap (moveOf k (c .job)) e)
+pub begun-job : (n shown : ℕ) (out : Bool) (ph : Calls.Phase) (c : Call) (k : ℕ) (m : Move) → moveOf k (c .job) m ≡ judgeIn false n shown out ph c
+    → m ≡ BeginLabel → c .job ≤ 4294967295
+begun-job n shown out ph c k m h e = begin-fits (verdict n shown c out ph) (sym h ∙ ap (moveOf k (c .job)) e)
 
 -- the place of a station that there is, and of one that there is not
 pub place-below : (n station : ℕ) → 2 ≤ n → placeOf n station < n

@@ -1,6 +1,6 @@
 -- What a step call amounts to: the declared phases, room, refusals and moves as the machine has them, a call from its parts and the place of its station.
 use Prim.Native.Nat.{ℕ, _-_}
-use mathlib.Core.Bool.{cond}
+use mathlib.Core.Bool.{true, false, cond}
 use Rattle.basics.specs.Tests.{within}
 use Rattle.simulation.specs.Calls as Calls
 use Rattle.simulation.specs.Calls.{Call}
@@ -13,10 +13,10 @@ use Rattle.moves.specs.declared.Room.the-variants.{Buffer, Panel}
 use Rattle.moves.specs.declared.Refusal.{Refusal}
 use Rattle.moves.specs.declared.Refusal.the-variants.{Accepted, StationCount, UnknownStation, Busy, NoSnapDue, NoUpdateDue, NothingToEnd}
 use Rattle.moves.specs.declared.Refusal.the-variants.{NoRoom, IncompleteLine, MalformedColumn, UnknownStep, JobOutOfRange, TooManyLines}
-use Rattle.moves.specs.declared.Refusal.the-variants.{IllFormedTable}
+use Rattle.moves.specs.declared.Refusal.the-variants.{IllFormedTable, OutOfService, InService}
 use Rattle.moves.specs.declared.Move.{Move}
 use Rattle.moves.specs.declared.Move.the-variants as Moves
-use Rattle.moves.specs.declared.Move.the-variants.{Refused, BeginLabel, SnapLabel, SnapScan, EndLabel, EndScan}
+use Rattle.moves.specs.declared.Move.the-variants.{Refused, BeginLabel, SnapLabel, SnapScan, EndLabel, EndScan, LeaveService, ReturnToService}
 
 -- the declared operations and phases as the machine's
 abbrev pub operationOf : Operation → Calls.Operation
@@ -34,7 +34,7 @@ abbrev pub roomOf : Room → Calls.Room
 roomOf (Buffer b) = Calls.Buffer b
 roomOf (Panel r) = Calls.Panel r
 
--- 01, "When a step is turned down": the number of each refusal
+-- 01, "When a step is turned down", and 02, Card 4: the number of each refusal
 abbrev pub refusalNumber : Refusal → ℕ
 refusalNumber Accepted = 0
 refusalNumber StationCount = 1
@@ -50,6 +50,8 @@ refusalNumber UnknownStep = 10
 refusalNumber JobOutOfRange = 11
 refusalNumber TooManyLines = 12
 refusalNumber IllFormedTable = 13
+refusalNumber OutOfService = 14
+refusalNumber InService = 15
 
 -- a declared move as the action of process k, where a begin has this job
 abbrev pub moveOf : ℕ → ℕ → Move → Calls.Move
@@ -60,6 +62,8 @@ moveOf k job SnapScan = Calls.Move.snaps k Calls.Scan
 moveOf k job Moves.Update = Calls.Move.updates k
 moveOf k job EndLabel = Calls.Move.ends k Calls.Label
 moveOf k job EndScan = Calls.Move.ends k Calls.Scan
+moveOf k job LeaveService = Calls.Move.setsOut k true
+moveOf k job ReturnToService = Calls.Move.setsOut k false
 
 -- a call from its parts
 abbrev pub called : ℕ → ℕ → ℕ → ℕ → Calls.Room → Call

@@ -2,7 +2,7 @@
 ghost use mathlib.Core.Path.{_≡_};
 ghost use mathlib.Core.Bool.{false};
 ghost use Prim.Native.Nat.{ℕ, _-_, _≤_};
-ghost use Rattle.simulation.specs.Calls.{refused, unless, jobFits, notDue, holds, byPhase, judgeIn};
+ghost use Rattle.simulation.specs.Calls.{refused, unless, jobFits, notDue, needsService, byService, holds, byPhase, judgeIn};
 ghost use Rattle.moves.specs.Moves.{phaseOf, roomOf, refusalNumber, moveOf, called, placeOf};
 
 // What a process is doing: it takes a label, or it scans (document 01: mark, list).
@@ -26,7 +26,8 @@ pub enum Room {
     Panel(usize),
 }
 
-// Why a call is turned down, in the order of document 01's numbers; `Accepted` is 0. Its trade words stand beside the names.
+// Why a call is turned down, in the order of the documents' numbers, of which 14 and 15 are document 02's; `Accepted` is 0. Document 01's trade words stand
+// beside the names.
 pub enum Refusal {
     Accepted,
     StationCount, // 1, bad crew
@@ -42,10 +43,12 @@ pub enum Refusal {
     JobOutOfRange, // 11, bad job
     TooManyLines, // 12, full sheet
     IllFormedTable, // 13, spoiled table
+    OutOfService, // 14
+    InService, // 15
 }
 
 impl Refusal {
-    // Document 01's number.
+    // The documents' number.
     pub fn number(self) -> u64
         ensures { λ r. ⌜ r ≡ refusalNumber self ⌝ }
     {
@@ -64,6 +67,8 @@ impl Refusal {
             Refusal::JobOutOfRange => 11,
             Refusal::TooManyLines => 12,
             Refusal::IllFormedTable => 13,
+            Refusal::OutOfService => 14,
+            Refusal::InService => 15,
         }
     }
 }
@@ -77,6 +82,15 @@ pub enum Move {
     Update,
     EndLabel,
     EndScan,
+    LeaveService,
+    ReturnToService,
+}
+
+// What a call is judged by of the station that it names: its phase, whether it is out of service, and how many stations its scan result shows.
+pub struct Standing {
+    pub phase: Phase,
+    pub out: bool,
+    pub shown: usize,
 }
 
 // Whether there is room for so many stations.
@@ -92,25 +106,23 @@ fn room_for(shown: usize, room: Room) -> bool
 
 // The refusal of a step that is not due.
 fn not_due(code: u64) -> Move
-    requires { ⌜ code ≤ 5 ⌝ }
     ensures { λ r. ⌜ ((k job : ℕ) → moveOf k job r ≡ refused (notDue code)) ⌝ }
 {
-    if code <= 2 {
-        return Move::Refused(Refusal::Busy);
-    }
     if code == 3 {
         return Move::Refused(Refusal::NoSnapDue);
     }
     if code == 4 {
         return Move::Refused(Refusal::NoUpdateDue);
     }
-    Move::Refused(Refusal::NothingToEnd)
+    if code == 5 {
+        return Move::Refused(Refusal::NothingToEnd);
+    }
+    Move::Refused(Refusal::Busy)
 }
 
 // What a known step with a fitting job amounts to, by the phase of its station and how many stations its scan result shows.
 fn by_phase(shown: usize, code: u64, room: Room, p: Phase) -> Move
     requires { ⌜ shown ≤ 32 ⌝ }
-    requires { ⌜ code ≤ 5 ⌝ }
     ensures { λ r. ⌜ ((line station job : ℕ) → moveOf (station - 1) job r ≡ byPhase false shown (called line code station job (roomOf room)) (phaseOf p)) ⌝ }
 {
     match p {
@@ -120,6 +132,12 @@ fn by_phase(shown: usize, code: u64, room: Room, p: Phase) -> Move
             }
             if code == 2 {
                 return Move::SnapScan;
+            }
+            if code == 6 {
+                return Move::LeaveService;
+            }
+            if code == 7 {
+                return Move::ReturnToService;
             }
             not_due(code)
         }
@@ -156,12 +174,37 @@ fn by_phase(shown: usize, code: u64, room: Room, p: Phase) -> Move
     }
 }
 
-// What a known step of one of n stations amounts to: its job is judged first, and then the phase.
-fn by_code(shown: usize, code: u64, job: u64, room: Room, p: Phase) -> Move
-    requires { ⌜ shown ≤ 32 ⌝ }
-    requires { ⌜ code ≤ 5 ⌝ }
-    ensures { λ r. ⌜ ((line station : ℕ) → moveOf (station - 1) job r ≡ unless (jobFits code job) 11
-        (byPhase false shown (called line code station job (roomOf room)) (phaseOf p))) ⌝ }
+// Whether a step is one that only a station in service takes.
+fn needs_service(code: u64) -> bool
+    ensures { λ r. ⌜ r ≡ needsService code ⌝ }
+{
+    (code == 1) | (code == 2) | (code == 6)
+}
+
+// What a known step with a fitting job amounts to: whether its station is out of service is judged first, and then the phase.
+fn by_service(own: Standing, code: u64, room: Room) -> Move
+    requires { ⌜ own .shown ≤ 32 ⌝ }
+    ensures { λ r. ⌜ ((line station job : ℕ) → moveOf (station - 1) job r ≡ byService (own .out) code
+        (byPhase false (own .shown) (called line code station job (roomOf room)) (phaseOf (own .phase)))) ⌝ }
+{
+    let phase = own.phase;
+    if own.out {
+        if needs_service(code) {
+            return Move::Refused(Refusal::OutOfService);
+        }
+        return by_phase(own.shown, code, room, phase);
+    }
+    if code == 7 {
+        return Move::Refused(Refusal::InService);
+    }
+    by_phase(own.shown, code, room, phase)
+}
+
+// What a known step of one of n stations amounts to: its job is judged first.
+fn by_code(own: Standing, code: u64, job: u64, room: Room) -> Move
+    requires { ⌜ own .shown ≤ 32 ⌝ }
+    ensures { λ r. ⌜ ((line station : ℕ) → moveOf (station - 1) job r ≡ unless (jobFits code job) 11 (byService (own .out) code
+        (byPhase false (own .shown) (called line code station job (roomOf room)) (phaseOf (own .phase))))) ⌝ }
 {
     if code == 1 {
         if job < 1 {
@@ -170,31 +213,24 @@ fn by_code(shown: usize, code: u64, job: u64, room: Room, p: Phase) -> Move
         if 4294967295 < job {
             return Move::Refused(Refusal::JobOutOfRange);
         }
-        return by_phase(shown, code, room, p);
+        return by_service(own, code, room);
     }
     if job != 0 {
         return Move::Refused(Refusal::JobOutOfRange);
     }
-    by_phase(shown, code, room, p)
+    by_service(own, code, room)
 }
 
-// What a call amounts to for a station in this phase, of n stations, whose scan result shows so many.
-pub fn judge(
-    n: usize,
-    shown: usize,
-    p: Phase,
-    code: u64,
-    station: u64,
-    job: u64,
-    room: Room,
-) -> Move
-    requires { ⌜ shown ≤ 32 ⌝ }
-    ensures { λ r. ⌜ ((line : ℕ) → moveOf (placeOf n station) job r ≡ judgeIn false n shown (phaseOf p) (called line code station job (roomOf room))) ⌝ }
+// What a call amounts to for a station of n with this standing.
+pub fn judge(n: usize, own: Standing, code: u64, station: u64, job: u64, room: Room) -> Move
+    requires { ⌜ own .shown ≤ 32 ⌝ }
+    ensures { λ r. ⌜ ((line : ℕ) → moveOf (placeOf n station) job r
+        ≡ judgeIn false n (own .shown) (own .out) (phaseOf (own .phase)) (called line code station job (roomOf room))) ⌝ }
 {
     if code < 1 {
         return Move::Refused(Refusal::UnknownStep);
     }
-    if 5 < code {
+    if 7 < code {
         return Move::Refused(Refusal::UnknownStep);
     }
     if station < 1 {
@@ -203,7 +239,7 @@ pub fn judge(
     if (n as u64) < station {
         return Move::Refused(Refusal::UnknownStation);
     }
-    by_code(shown, code, job, room, p)
+    by_code(own, code, job, room)
 }
 
 // The place of a station of n, from 0; that of the first if there is no such station.

@@ -17,8 +17,8 @@ use Rattle.schedule.specs.Lines.{lineRead}
 use Rattle.schedule.specs.Files.{stepLines, fileReport}
 use Rattle.schedule.specs.declared.Line.the-variants.{Step}
 
--- BEFORE: document 01's board, where step 2 only begins a scan; which stations a scan shows is the same on both (02, Card 2). The declared table has no phase
--- between the begin and the snap, so its tables are the machine's states themselves, and each is well-formed.
+-- BEFORE: document 01's board, where step 2 only begins a scan; which stations a scan shows is the same on both (02, Cards 2 and 4), and so are steps 6 and 7.
+-- The declared table has no phase between the begin and the snap, so its tables are the machine's states themselves, and each is well-formed.
 
 pub record Stated : Type 0 where
   pub count : ℕ

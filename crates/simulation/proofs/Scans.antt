@@ -1,17 +1,18 @@
 -- A scan that snaps as it begins (02, Card 1), beside one that begins and snaps in steps of their own (01): the two boards judge every other call alike, and
 -- where the begin is directly followed by its snap, they come to the same state.
-use Prim.Native.Nat.{ℕ, _-_}
+use Prim.Native.Nat.{ℕ, suc, _-_}
 use mathlib.Core.Path.{_≡_, refl, sym, ap, ap₂, _∙_, fun-ext}
 use mathlib.Core.Logic.{_⊎_, inl, inr}
-use mathlib.Core.Bool.{Bool, true, false, cond}
+use mathlib.Core.Bool.{Bool, true, false, not, _&&_, cond}
 use mathlib.Core.List as Lists
-use mathlib.Core.List.{[]}
+use mathlib.Core.List.{[], map}
 use lib.ListN.{length}
 use lib.Dec.{eqb}
 use borrow.Author.Tests.{eqb-true, eq-eqb}
-use Rattle.basics.specs.Tests.{within, ordered}
-use Rattle.simulation.specs.Calls.{Call, place, Scan, Phase, Idle, Update, Snap, End, Rest, Move, unless, byPhase, judgeIn, judge, written}
-use Rattle.simulation.specs.Machine.{Board, original, apart, Rules, stands, relabelled, inPhase, jobAt, changed, stored, scanOf, carryOut, State}
+use Rattle.basics.specs.Tests.{within, ordered, passing}
+use Rattle.simulation.specs.Calls.{Call, place, Scan, Phase, Idle, Update, Snap, End, entry, Process, Rest, Move, unless, byService, byPhase}
+use Rattle.simulation.specs.Calls.{judgeIn, judge, written}
+use Rattle.simulation.specs.Machine.{Board, original, apart, Rules, stands, relabelled, inPhase, changed, stored, hasJob, scanOf, carryOut, State}
 use Rattle.simulation.specs.Machine.{labelsAfter, outcome, Answer, answer, step}
 
 -- JUDGING: document 01's board and the original one find the same move, or the begin of a scan and its snap
@@ -25,33 +26,47 @@ module _ (n : ℕ) (c : Call) where
   tested true x w w′ f = f refl
   tested false x w w′ f = alike (Move.refused x)
 
-  either : (b : Bool) (v w w′ : Move) → Judged n c w w′ → Judged n c (cond b v w) (cond b v w′)
-  either true v w w′ j = alike v
-  either false v w w′ j = j
+  either : (b : Bool) (v v′ w w′ : Move) → (b ≡ true → Judged n c v v′) → Judged n c w w′ → Judged n c (cond b v w) (cond b v′ w′)
+  either true v v′ w w′ i j = i refl
+  either false v v′ w w′ i j = j
 
   by-phase : (k : ℕ) → within 1 n (c .station) ≡ true → (ph : Phase) → Judged n c (byPhase true k c ph) (byPhase false k c ph)
-  by-phase k own Idle = either (eqb (c .code) 1) _ _ _ (tested _ _ _ _ (λ e. scans (eqb-true (c .code) 2 e) own))
+  by-phase k own Idle = either (eqb (c .code) 1) _ _ _ _ (λ _. alike _)
+      (either (eqb (c .code) 2) _ _ _ _ (λ e. scans (eqb-true (c .code) 2 e) own) (alike _))
   by-phase k own (Snap o) = alike _
   by-phase k own Update = alike _
   by-phase k own (End o) = alike _
 
-  judged : (k : ℕ) (ph : Phase) → Judged n c (judgeIn true n k ph c) (judgeIn false n k ph c)
-  unfolding judgeIn
-  judged k ph = tested _ 10 _ _ (λ _. tested _ 2 _ _ (λ own. tested _ 11 _ _ (λ _. by-phase k own ph)))
+  by-service : (out : Bool) (w w′ : Move) → Judged n c w w′ → Judged n c (byService out (c .code) w) (byService out (c .code) w′)
+  by-service true w w′ j = tested _ 14 _ _ (λ _. j)
+  by-service false w w′ j = tested _ 15 _ _ (λ _. j)
 
-  -- a step 3 with job 0 is judged by the phase
-  snap-judged : (b : Bool) (k : ℕ) (ph : Phase) → c .code ≡ 3 → c .job ≡ 0 → within 1 n (c .station) ≡ true → judgeIn b n k ph c ≡ byPhase b k c ph
+  judged : (k : ℕ) (out : Bool) (ph : Phase) → Judged n c (judgeIn true n k out ph c) (judgeIn false n k out ph c)
+  unfolding judgeIn
+  judged k out ph = tested _ 10 _ _ (λ _. tested _ 2 _ _ (λ own. tested _ 11 _ _ (λ _. by-service out _ _ (by-phase k own ph))))
+
+  -- a step 3 with job 0 is judged by the phase, in service or not
+  snap-judged : (b : Bool) (k : ℕ) (out : Bool) (ph : Phase) → c .code ≡ 3 → c .job ≡ 0 → within 1 n (c .station) ≡ true
+      → judgeIn b n k out ph c ≡ byPhase b k c ph
   unfolding judgeIn unless
-  snap-judged b k ph e f own = rw (e, f, own) refl
+  snap-judged b k true ph e f own = rw (e, f, own) refl
+  snap-judged b k false ph e f own = rw (e, f, own) refl
+
+-- a scan asks for jobs and service alone
+pub scan-alike : (f g : ℕ → Process) → ((i : ℕ) → f i .job ≡ g i .job) → ((i : ℕ) → f i .out ≡ g i .out) → (order : Lists.List ℕ)
+    → scanOf f order ≡ scanOf g order
+unfolding scanOf
+scan-alike f g job out order = λ y. map (λ i. entry (suc i) (job i y)) (passing (λ i. hasJob (job i y) && not (out i y)) order)
 
 -- PHASES: a scan sees the same if a phase differs, and of two phases the second stays
 module _ (o : Rest) (k : ℕ) (ph : Phase) where
-  scan-same : (order : Lists.List ℕ) → scanOf (jobAt (changed o k (inPhase ph))) order ≡ scanOf (jobAt o) order
-  scan-same order = ap (λ f. scanOf f order) (fun-ext (λ i. go (eqb i k) i))
+  scan-same : (order : Lists.List ℕ) → scanOf (changed o k (inPhase ph) .process) order ≡ scanOf (o .process) order
+  scan-same = scan-alike _ _ (λ i. kept (λ p. p .job) (λ p. refl) (eqb i k) i) (λ i. kept (λ p. p .out) (λ p. refl) (eqb i k) i)
     where
-      go : (b : Bool) (i : ℕ) → cond b (inPhase ph (o .process i)) (o .process i) .job ≡ o .process i .job
-      go true i = refl
-      go false i = refl
+      kept : {A : Type 0} (v : Process → A) → ((p : Process) → v (inPhase ph p) ≡ v p) → (b : Bool) (i : ℕ)
+          → v (cond b (inPhase ph (o .process i)) (o .process i)) ≡ v (o .process i)
+      kept v e true i = e (o .process i)
+      kept v e false i = refl
 
   phase-again : (ph′ : Phase) → changed (changed o k (inPhase ph)) k (inPhase ph′) ≡ changed o k (inPhase ph′)
   phase-again ph′ = ap (λ f. record { process = f; result = o .result }) (fun-ext (λ i. go (eqb i k) i))
@@ -116,16 +131,16 @@ module _ {A : Type 0} (n : ℕ) (r : Rules A) where
         due = changed (s .rest) k (inPhase (Snap Scan))
 
         done : Rest
-        done = stored (changed (s .rest) k (inPhase (End Scan))) k (scanOf (jobAt (s .rest)) order)
+        done = stored (changed (s .rest) k (inPhase (End Scan))) k (scanOf (s .rest .process) order)
 
-        same : stored (changed due k (inPhase (End Scan))) k (scanOf (jobAt due) order) ≡ done
+        same : stored (changed due k (inPhase (End Scan))) k (scanOf (due .process) order) ≡ done
         same = ap₂ (λ o l. stored o k l) (phase-again (s .rest) k (Snap Scan) (End Scan)) (scan-same (s .rest) k (Snap Scan) order)
 
         there : (d : Call) → SnapOf c d → place d ≡ k
         there d h = ap (λ x. x - 1) (h .station)
 
         by-due : (b : Bool) (o : Rest) (d : Call) → SnapOf c d → judge b n o d ≡ byPhase b (length (o .result (place d))) d (o .process (place d) .phase)
-        by-due b o d h = snap-judged n d b _ _ (h .code) (h .job) (ap (within 1 n) (h .station) ∙ own)
+        by-due b o d h = snap-judged n d b _ _ _ (h .code) (h .job) (ap (within 1 n) (h .station) ∙ own)
 
         snap-due : (d : Call) → SnapOf c d → judge true n due d ≡ Move.snaps k Scan
         snap-due d h = by-due true due d h ∙ ap (byPhase true _ d) (phase-here (s .rest) k (Snap Scan) (place d) (there d h))
@@ -136,7 +151,7 @@ module _ {A : Type 0} (n : ℕ) (r : Rules A) where
 
     -- EVERY CALL is answered alike, or begins a scan
     pub same-or-scans : (step apart n r s c ≡ step original n r s c) ⊎ Scans s c
-    same-or-scans = go (judged n c _ (s .rest .process (place c) .phase)) refl refl
+    same-or-scans = go (judged n c _ _ _) refl refl
       where
         go : {w w′ : Move} → Judged n c w w′ → judge true n (s .rest) c ≡ w → judge false n (s .rest) c ≡ w′
             → (step apart n r s c ≡ step original n r s c) ⊎ Scans s c

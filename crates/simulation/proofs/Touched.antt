@@ -9,8 +9,8 @@ use lib.Dec.{eqb}
 use borrow.Author.Tests.{ne-eqb}
 use Rattle.basics.proofs.Facts.{by-here}
 use Rattle.simulation.specs.Calls.{Call, place, Label, Scan, Phase, Entry, Rest, Move, written}
-use Rattle.simulation.specs.Machine.{Labelling, Rules, pendingAfter, labelStep, relabelled, jobAt, scanOf, carryOut, State, labelsAfter, outcome, answer}
-use Rattle.simulation.proofs.Judged.{Own, own-place, Verdict, turned, begins, scans, updates, snaps, ends}
+use Rattle.simulation.specs.Machine.{Labelling, Rules, pendingAfter, labelStep, relabelled, scanOf, carryOut, State, labelsAfter, outcome, answer}
+use Rattle.simulation.proofs.Judged.{Own, own-place, Verdict, turned, begins, scans, updates, snaps, ends, service}
 
 -- the process that takes the move
 abbrev pub touched : Move → ℕ → Bool
@@ -19,6 +19,7 @@ touched (Move.begins k job o) i = eqb i k
 touched (Move.updates k) i = eqb i k
 touched (Move.snaps k o) i = eqb i k
 touched (Move.ends k o) i = eqb i k
+touched (Move.setsOut k b) i = eqb i k
 
 -- any other keeps labels, record and result
 pub labels-kept : {A : Type 0} (n : ℕ) (r : Rules A) (l : Labelling A) (w : Move) (i : ℕ) → touched w i ≡ false → (x : Bool)
@@ -38,6 +39,7 @@ labels-kept n r l (Move.snaps k Label) i e x = rw e (go x)
     go true = refl
 labels-kept n r l (Move.snaps k Scan) i e x = refl
 labels-kept n r l (Move.ends k o) i e x = refl
+labels-kept n r l (Move.setsOut k b) i e x = refl
 
 pub rest-kept : (order : Lists.List ℕ) (o : Rest) (w : Move) (i : ℕ) → touched w i ≡ false
     → (carryOut order o w .rest .process i ≡ o .process i) × (carryOut order o w .rest .result i ≡ o .result i)
@@ -50,9 +52,10 @@ rest-kept order o (Move.snaps k Label) i e = rw e (refl, refl)
 rest-kept order o (Move.snaps k Scan) i e = rw e (refl, refl)
 rest-kept order o (Move.ends k Label) i e = rw e (refl, refl)
 rest-kept order o (Move.ends k Scan) i e = rw e (refl, refl)
+rest-kept order o (Move.setsOut k b) i e = rw e (refl, refl)
 
 -- what holds of every result, and of the one that a scan stores, holds of every result afterwards
-pub results-all : (P : Lists.List Entry → Type 0) (order : Lists.List ℕ) (o : Rest) → P (scanOf (jobAt o) order) → ((i : ℕ) → P (o .result i))
+pub results-all : (P : Lists.List Entry → Type 0) (order : Lists.List ℕ) (o : Rest) → P (scanOf (o .process) order) → ((i : ℕ) → P (o .result i))
     → (w : Move) (i : ℕ) → P (carryOut order o w .rest .result i)
 unfolding carryOut
 results-all P order o scan h (Move.refused x) i = h i
@@ -60,24 +63,26 @@ results-all P order o scan h (Move.begins k job Label) i = h i
 results-all P order o scan h (Move.begins k job Scan) i = h i
 results-all P order o scan h (Move.updates k) i = h i
 results-all P order o scan h (Move.snaps k Label) i = h i
-results-all P order o scan h (Move.snaps k Scan) i = by-here (λ b. P (cond b (scanOf (jobAt o) order) (o .result i))) k i (λ _. scan) (λ _. h i)
+results-all P order o scan h (Move.snaps k Scan) i = by-here (λ b. P (cond b (scanOf (o .process) order) (o .result i))) k i (λ _. scan) (λ _. h i)
 results-all P order o scan h (Move.ends k Label) i = h i
 results-all P order o scan h (Move.ends k Scan) i = h i
+results-all P order o scan h (Move.setsOut k b) i = h i
 
 -- and a call is taken by its caller, one of the n processes
-pub apart : {n k : ℕ} {c : Call} {ph : Phase} {w : Move} → Verdict n k c ph w → (i : ℕ) → (i < n → i ≢ place c) → touched w i ≡ false
-apart {n} {k} {c} {ph} v i d = go v
+pub apart : {n k : ℕ} {c : Call} {out : Bool} {ph : Phase} {w : Move} → Verdict n k c out ph w → (i : ℕ) → (i < n → i ≢ place c) → touched w i ≡ false
+apart {n} {k} {c} {out} {ph} v i d = go v
   where
     other : Own n c → eqb i (place c) ≡ false
     other own = ne-eqb i (place c) (λ e. d (rw e (own-place own)) e)
 
-    go : {w : Move} → Verdict n k c ph w → touched w i ≡ false
+    go : {w : Move} → Verdict n k c out ph w → touched w i ≡ false
     go (turned x f) = refl
     go (begins own e) = other own
     go (scans own e) = other own
     go (updates own e) = other own
     go (snaps own o e) = other own
     go (ends own o e r) = other own
+    go (service own b e) = other own
 
 -- a refused move leaves the state and hands out nothing
 pub refused-stays : {A : Type 0} (n : ℕ) (r : Rules A) (s : State A) (c : Call) (w : Move) → let a = outcome n r s w in
@@ -91,3 +96,4 @@ refused-stays n r s c (Move.snaps k Label) d = absurd (d refl)
 refused-stays n r s c (Move.snaps k Scan) d = absurd (d refl)
 refused-stays n r s c (Move.ends k Label) d = absurd (d refl)
 refused-stays n r s c (Move.ends k Scan) d = absurd (d refl)
+refused-stays n r s c (Move.setsOut k b) d = absurd (d refl)

@@ -10,7 +10,7 @@ use mathlib.Core.List.{[], _∷_}
 use lib.ListN.{length, getD}
 use borrow.Author.Tests.{lt-ltb}
 use Rattle.basics.specs.Tests.{tabulate}
-use Rattle.basics.proofs.Facts.{length-tabulate, getD-tabulate, tabulate-same, tabulate-is, two-lists, one-list}
+use Rattle.basics.proofs.Facts.{length-tabulate, getD-tabulate, tabulate-same, tabulate-is, two-lists}
 use Rattle.basics.proofs.Filled.{filled}
 use Rattle.label.specs.Labels as Labels
 use Rattle.label.specs.Rows.{row}
@@ -23,10 +23,10 @@ use Rattle.moves.specs.declared.Operation.{Operation}
 use Rattle.moves.specs.declared.Operation.the-variants.{Label, Scan}
 use Rattle.moves.specs.declared.Phase.{Phase}
 use Rattle.moves.specs.declared.Phase.the-variants.{Idle, Snap, Update, End}
-use Rattle.arrays.specs.Arrays.{Rows, Arrays, arrays, cell, planes, phaseNumber, phaseFor, jobsOf, stateOf, arraysOf}
+use Rattle.arrays.specs.Arrays.{Rows, Arrays, arrays, cell, planes, phaseNumber, phaseFor, outNumber, outFor, jobsOf, controlOf, stateOf, arraysOf}
 use Rattle.arrays.specs.WellFormed.{wellFormed}
 use Rattle.arrays.specs.Sizes.{Sized, Shaped}
-use Rattle.arrays.proofs.States.{phase-back, phase-low, number-back, lent-lawful, written-held}
+use Rattle.arrays.proofs.States.{phase-back, phase-low, number-back, out-back, out-low, out-number, lent-lawful, written-held}
 use Rattle.table.specs.Tables.{declaredOperation, declaredPhase, entry, blank, rowsOf, entriesOf, at, apart, stationOf, together, declared}
 use Rattle.table.specs.declared.Entry.{Entry}
 use Rattle.table.specs.declared.Station.{Station}
@@ -50,14 +50,14 @@ planes-sized f g = record { long = refl; each = each }
     each (suc (suc i)) h = absurd (omega arith)
 
 -- arrays that are made place by place have the lengths of their types
-module _ (n : ℕ) (l : Bool → ℕ → Lists.List ℕ) (j : Bool → ℕ → ℕ) (p : ℕ → ℕ) (r : ℕ → Bool → ℕ → ℕ)
+module _ (n : ℕ) (l : Bool → ℕ → Lists.List ℕ) (j c : Bool → ℕ → ℕ) (r : ℕ → Bool → ℕ → ℕ)
     (wide : (x : Bool) (i : ℕ) → i < 32 → length (l x i) ≡ 31) where
-  made-shaped : Shaped (arrays n (planes l) (planes j) (tabulate 32 0 p ∷ []) (tabulate 32 0 (λ i. planes (r i))))
+  made-shaped : Shaped (arrays n (planes l) (planes j) (planes c) (tabulate 32 0 (λ i. planes (r i))))
   made-shaped = record {
     labels = planes-sized _ _;
     label = each;
     jobs = planes-sized _ _;
-    control = record { long = refl; each = one };
+    control = planes-sized _ _;
     results = record { long = length-tabulate 32 0 _; each = λ i h. ap length (element (λ k. planes (r k)) [] i h) };
     result = λ i h. subst (Sized 2 32) (sym (element (λ k. planes (r k)) [] i h)) (planes-sized _ _);
   }
@@ -69,10 +69,6 @@ module _ (n : ℕ) (l : Bool → ℕ → Lists.List ℕ) (j : Bool → ℕ → �
       each zero h = rows false
       each (suc zero) h = rows true
       each (suc (suc i)) h = absurd (omega arith)
-
-      one : (i : ℕ) → i < 1 → length (getD (tabulate 32 0 p ∷ []) i []) ≡ 32
-      one zero h = length-tabulate 32 0 _
-      one (suc i) h = absurd (omega arith)
 
 -- PHASES
 
@@ -115,7 +111,7 @@ entries-back l e = tabulate-is 32 l blank _ e (λ p u. ap₂ entry (element (λ 
 
 -- ARRAYS, PUT TOGETHER
 
-module _ (a : Arrays) (g : Shaped a) (known : (i : ℕ) → i < 32 → cell (a .control) 0 i 0 ≤ 4) where
+module _ (a : Arrays) (g : Shaped a) (known : (i : ℕ) → i < 32 → (cell (a .control) 0 i 0 ≤ 4) × (cell (a .control) 1 i 0 ≤ 1)) where
   put-at : (i : ℕ) → i < 32 → at (together a) i ≡ stationOf a i
   unfolding together
   put-at i h = element (stationOf a) _ i h
@@ -142,9 +138,11 @@ module _ (a : Arrays) (g : Shaped a) (known : (i : ℕ) → i < 32 → cell (a .
           ∙ two-lists (a .jobs) [] (g .jobs .long)
 
       control : apart (together a) .control ≡ a .control
-      control = ap (λ b. b ∷ []) (plane-back (a .control) 0 0 (λ s. phaseNumber (phaseOf (s .phase))) (g .control .each 0 (omega arith))
-          (λ i l. declared-number (phaseFor (cell (a .control) 0 i 0)) ∙ number-back _ (known i l)))
-          ∙ one-list (a .control) [] (g .control .long)
+      control = ap₂ (λ b c. b ∷ c ∷ [])
+          (plane-back (a .control) 0 0 (λ s. phaseNumber (phaseOf (s .phase))) (g .control .each 0 (omega arith))
+          (λ i l. declared-number (phaseFor (cell (a .control) 0 i 0)) ∙ number-back _ (known i l .0)))
+          (plane-back (a .control) 1 0 (λ s. outNumber (s .«out_of_service»)) (g .control .each 1 (omega arith)) (λ i l. out-number _ (known i l .1)))
+          ∙ two-lists (a .control) [] (g .control .long)
 
       results : apart (together a) .results ≡ a .results
       results = tabulate-is 32 (a .results) [] _ (g .results .long)
@@ -154,12 +152,15 @@ module _ (a : Arrays) (g : Shaped a) (known : (i : ℕ) → i < 32 → cell (a .
 module _ (n : ℕ) (s : State Labels.Label) where
   written-shaped : Shaped (arraysOf n s)
   unfolding arraysOf row
-  written-shaped = made-shaped n (λ x i. row 31 (s .labels x i)) (jobsOf s) _
+  written-shaped = made-shaped n (λ x i. row 31 (s .labels x i)) (jobsOf s) (controlOf s)
       (λ i y q. let e = getD (s .rest .result i) q (Calls.entry 0 0) in cond y (e .job) (e .station)) (λ x i h. length-tabulate 31 0 _)
 
-  written-known : (i : ℕ) → i < 32 → cell (arraysOf n s .control) 0 i 0 ≤ 4
+  written-known : (i : ℕ) → i < 32 → (cell (arraysOf n s .control) 0 i 0 ≤ 4) × (cell (arraysOf n s .control) 1 i 0 ≤ 1)
   unfolding arraysOf
-  written-known i l = rw (element (λ j. phaseNumber (s .rest .process j .phase)) 0 i l) (phase-low (s .rest .process i .phase))
+  written-known i l = (
+    rw (element (λ j. phaseNumber (s .rest .process j .phase)) 0 i l) (phase-low (s .rest .process i .phase)),
+    rw (element (λ j. outNumber (s .rest .process j .out)) 0 i l) (out-low (s .rest .process i .out)),
+  )
 
   pub written-apart : apart (together (arraysOf n s)) ≡ arraysOf n s
   written-apart = apart-together (arraysOf n s) written-shaped written-known
@@ -197,6 +198,7 @@ module _ (t : Table) (w : Whole t) where
     «scan_result» = (ap entriesOf (element (λ k. rowsOf (at t k .«scan_result»)) [] i h) ∙ entries-back (at t i .«scan_result») (w .each i h .result)) y;
     phase = (ap (λ b. declaredPhase (phaseFor b)) (element (λ k. phaseNumber (phaseOf (at t k .phase))) 0 i h)
         ∙ ap declaredPhase (phase-back (phaseOf (at t i .phase)) (declared-kept (at t i .phase))) ∙ declared-back (at t i .phase)) y;
+    «out_of_service» = (ap outFor (element (λ k. outNumber (at t k .«out_of_service»)) 0 i h) ∙ out-back (at t i .«out_of_service»)) y;
   }
 
   pub together-apart : together (apart t) ≡ t
@@ -206,7 +208,8 @@ module _ (t : Table) (w : Whole t) where
 
   pub apart-shaped : Shaped (apart t)
   unfolding apart
-  apart-shaped = made-shaped (t .count) (λ x i. cond x (at t i .«pending_label») (at t i .label)) (λ x i. cond x (at t i .«pending_job») (at t i .job)) _
+  apart-shaped = made-shaped (t .count) (λ x i. cond x (at t i .«pending_label») (at t i .label)) (λ x i. cond x (at t i .«pending_job») (at t i .job))
+      (λ x i. cond x (outNumber (at t i .«out_of_service»)) (phaseNumber (phaseOf (at t i .phase))))
       (λ i y q. let e = getD (at t i .«scan_result») q blank in cond y (e .job) (e .station)) wide
     where
       wide : (x : Bool) (i : ℕ) → i < 32 → length (cond x (at t i .«pending_label») (at t i .label)) ≡ 31

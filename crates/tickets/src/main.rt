@@ -203,7 +203,7 @@ fn run(n: usize)
 {
     let mut labels = [[[0u8; 31]; 32]; 2];
     let mut jobs = [[0u32; 32]; 2];
-    let mut control = [[0u8; 32]; 1];
+    let mut control = [[0u8; 32]; 2];
     let mut results = [[[0u32; 32]; 2]; 32];
     arrays::refresh(n, &mut labels, &mut jobs, &mut control, &mut results);
     let mut order = rows::order::order(&labels[0], n);

@@ -1,22 +1,24 @@
--- States reached from the fresh one: under the invariant, and with results that 13 lets pass.
+-- States reached from the fresh one: under the invariant, with results that 13 lets pass, and with no process that is out of service and busy.
 use Prim.Native.Nat.{ℕ, suc, _-_, _≤_, _<_}
 use native.Mathlib.Omega.{arith}
-use mathlib.Core.Path.{_≡_, refl, ap, fun-ext}
+use mathlib.Core.Path.{_≡_, refl, sym, ap, _∙_, fun-ext}
 use mathlib.Core.Logic.{_≢_}
-use mathlib.Core.Bool.{Bool, true, false}
+use mathlib.Core.Bool.{Bool, true, false, not, cond}
 use mathlib.Core.List as Lists
 use lib.ListN.{length, length-map}
 use lib.Dec.{eqb}
 use borrow.Author.Tests.{eq-eqb, ne-eqb}
 use Rattle.basics.specs.Tests.{newest, ordered, passing, All}
-use Rattle.basics.proofs.Facts.{tf, by-here, all-map, ordered-all}
+use Rattle.basics.proofs.Facts.{tf, is-false, and-both, by-here, all-map, ordered-all}
 use Rattle.basics.proofs.Passing.{passing-all, passing-map, passing-fewer, ordered-once}
 use Rattle.label.specs.Labels as Labels
 use Rattle.label.specs.Rows.{noRing}
 use Rattle.label.proofs.RowLaws.{no-ring-of}
-use Rattle.simulation.specs.Calls.{Call, Entry, entry, judge}
-use Rattle.simulation.specs.Machine.{Labelling, original, digits, stands, jobAt, shows, scanOf, State, fresh, step}
+use Rattle.simulation.specs.Calls.{Call, place, Label, Scan, Phase, Idle, Update, Snap, End, Entry, entry, Process, Rest, Move, judge}
+use Rattle.simulation.specs.Machine.{Labelling, original, digits, stands, inPhase, begun, updated, setOut, changed, hasJob, shows, scanOf, carryOut}
+use Rattle.simulation.specs.Machine.{State, fresh, step}
 use Rattle.simulation.proofs.Sync.{no-ring}
+use Rattle.simulation.proofs.Judged.{Verdict, turned, begins, scans, updates, snaps, ends, service, verdict-in}
 use Rattle.simulation.proofs.Touched.{results-all}
 use Rattle.simulation.proofs.Simulation.{Ready, newest-labels, fresh-ready, ready-step}
 use Rattle.transition.proofs.Written.{Writable, writable-step}
@@ -26,11 +28,16 @@ pub record Sound (n : ℕ) (l : Lists.List Entry) : Type 0 where
   pub each : All (λ e. (1 ≤ e .station) × (e .station ≤ n) × (e .job ≢ 0)) l
   pub once : (i : ℕ) → i < n → length (passing (λ e. eqb (e .station) (suc i)) l) ≤ 1
 
+-- a process that is out of service is idle (02, Card 4)
+abbrev pub Idles : Process → Type 0
+Idles p = p .out ≡ true → p .phase ≡ Idle
+
 pub record Reached (n : ℕ) (s : State Labels.Label) : Type 0 where
   pub N : Labelling ℕ
   pub ready : Ready (n - 1) (s .labels) N
   pub writable : Writable n s
   pub sound : (i : ℕ) → Sound n (s .rest .result i)
+  pub idles : (i : ℕ) → Idles (s .rest .process i)
 
 module _ (n : ℕ) (some : 1 ≤ n) where
   module _ {s : State Labels.Label} (r : Reached n s) where
@@ -58,23 +65,25 @@ module _ (n : ℕ) (some : 1 ≤ n) where
       past = λ i l. record { labels = λ x. refl; process = refl; result = refl };
     };
     sound = λ i. record { each = tt; once = λ j l. unfold passing in omega arith };
+    idles = λ i e. refl;
   }
 
   suc-eqb : (i j : ℕ) → eqb (suc i) (suc j) ≡ eqb i j
   suc-eqb i j = by-here (λ b. eqb (suc i) (suc j) ≡ b) j i (λ e. eq-eqb _ _ (ap suc e)) (λ d. ne-eqb (suc i) (suc j) (λ e. d (omega arith)))
 
   -- what a scan stores
-  scan-sound : (jobs : ℕ → ℕ) (b : ℕ → ℕ → Bool) → Sound n (scanOf jobs (ordered n b))
+  scan-sound : (process : ℕ → Process) (b : ℕ → ℕ → Bool) → Sound n (scanOf process (ordered n b))
   unfolding scanOf
-  scan-sound jobs b = record {
-    each = all-map (λ i. (i < n) × (jobs i ≢ 0)) _ entryFor (λ i h. (omega arith, omega (arith, h .0), h .1)) shown
-        (passing-all _ (λ i. i < n) _ (λ i l e. (l, λ z. tf e (rw z refl))) order (ordered-all (λ i. i < n) b n (λ i l. l)));
+  scan-sound process b = record {
+    each = all-map (λ i. (i < n) × (process i .job ≢ 0)) _ entryFor (λ i h. (omega arith, omega (arith, h .0), h .1)) shown
+        (passing-all _ (λ i. i < n) _ (λ i l e. (l, λ z. tf (and-both (hasJob (process i .job)) (not (process i .out)) e .0) (rw z refl))) order
+        (ordered-all (λ i. i < n) b n (λ i l. l)));
     once = λ i l. omega (
       arith,
       ap length (passing-map (λ (e : Entry). eqb (e .station) (suc i)) entryFor shown),
       length-map (passing (λ j. eqb (suc j) (suc i)) shown) entryFor,
       ap (λ f. length (passing f shown)) (fun-ext (λ j. suc-eqb j i)),
-      passing-fewer (λ j. shows (jobs j)) (λ j. eqb j i) order,
+      passing-fewer (λ j. shows (process j)) (λ j. eqb j i) order,
       ordered-once b i n l,
     );
   }
@@ -83,10 +92,46 @@ module _ (n : ℕ) (some : 1 ≤ n) where
       order = ordered n b
 
       shown : Lists.List ℕ
-      shown = passing (λ i. shows (jobs i)) order
+      shown = passing (λ i. shows (process i)) order
 
       entryFor : ℕ → Entry
-      entryFor i = entry (suc i) (jobs i)
+      entryFor i = entry (suc i) (process i .job)
+
+  -- only idle processes leave service, and only those in service begin
+  idles-step : (order : Lists.List ℕ) (o : Rest) → ((i : ℕ) → Idles (o .process i)) → (c : Call) (i : ℕ)
+      → Idles (carryOut order o (judge false n o c) .rest .process i)
+  unfolding carryOut
+  idles-step order o h c i = go (verdict-in n o c)
+    where
+      idle : Phase → Bool
+      idle Idle = true
+      idle Update = false
+      idle (Snap x) = false
+      idle (End x) = false
+
+      -- the record of the caller, changed
+      at : (f : Process → Process) → (i ≡ place c → Idles (f (o .process i))) → Idles (changed o (place c) f .process i)
+      at f g = by-here (λ b. Idles (cond b (f (o .process i)) (o .process i))) (place c) i g (λ _. h i)
+
+      -- it is not out of service if its call was one of those in service, or if it was busy
+      in-service : (f : Process → Process) → ((p : Process) → f p .out ≡ p .out) → o .process (place c) .out ≡ false
+          → Idles (changed o (place c) f .process i)
+      in-service f same e = at f (λ q t. absurd (tf (sym (same (o .process i)) ∙ t) (ap (λ j. o .process j .out) q ∙ e)))
+
+      busy : (f : Process → Process) → ((p : Process) → f p .out ≡ p .out) → {ph : Phase} → o .process (place c) .phase ≡ ph → idle ph ≡ false
+          → Idles (changed o (place c) f .process i)
+      busy f same e b = in-service f same (is-false (λ t. tf (ap idle (h (place c) t)) (ap idle e ∙ b)))
+
+      go : {k : ℕ} {w : Move} → Verdict n k c (o .process (place c) .out) (o .process (place c) .phase) w → Idles (carryOut order o w .rest .process i)
+      go (turned x d) = h i
+      go (begins own e) = in-service (begun (c .job)) (λ p. refl) e
+      go (scans own e) = in-service (inPhase (End Scan)) (λ p. refl) e
+      go (updates own e) = busy updated (λ p. refl) e refl
+      go (snaps own Label e) = busy (inPhase Update) (λ p. refl) e refl
+      go (snaps own Scan e) = busy (inPhase (End Scan)) (λ p. refl) e refl
+      go (ends own Label e r) = at (inPhase Idle) (λ _ _. refl)
+      go (ends own Scan e r) = at (inPhase Idle) (λ _ _. refl)
+      go (service own b e) = at (setOut b) (λ q _. ap (λ j. o .process j .phase) q ∙ e)
 
   -- a step call leads from one to another
   pub reached-step : n ≤ 32 → (s : State Labels.Label) → Reached n s → (c : Call) → Reached n (step original n (digits n) s c .state)
@@ -95,7 +140,8 @@ module _ (n : ℕ) (some : 1 ≤ n) where
     ready = next .1;
     writable = writable-step n high s (r .writable) c (reached-lead r);
     sound = unfold step in
-        results-all (Sound n) _ (s .rest) (scan-sound (jobAt (s .rest)) (stands (digits n) (s .labels))) (r .sound) (judge false n (s .rest) c);
+        results-all (Sound n) _ (s .rest) (scan-sound (s .rest .process) (stands (digits n) (s .labels))) (r .sound) (judge false n (s .rest) c);
+    idles = unfold step in idles-step _ (s .rest) (r .idles) c;
   }
     where
       next : (N′ : Labelling ℕ) × Ready (n - 1) (step original n (digits n) s c .state .labels) N′

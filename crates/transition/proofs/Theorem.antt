@@ -9,6 +9,7 @@ use mathlib.Core.List as Lists
 use mathlib.Core.List.{[], _∷_, map}
 use lib.ListN.{length, take}
 use Rattle.basics.specs.Tests.{ordered, All}
+use Rattle.basics.proofs.Facts.{tf}
 use Rattle.label.specs.Labels as Labels
 use Rattle.simulation.specs.Calls.{Call, place, Buffer, Entry, reportLines, Bytes, bytesOf, written}
 use Rattle.simulation.specs.Machine as Machine
@@ -128,7 +129,7 @@ module _ (F : Form) (L : Lawful F) (n : ℕ) (low : 2 ≤ n) (high : n ≤ 32) w
 
       not-13 : answer s c .refusal ≢ 13
       unfolding step
-      not-13 e = omega (arith, refusals n c (ordered n (stands (digits n) (s .labels))) (s .rest) .most)
+      not-13 e = tf (refusals n c (ordered n (stands (digits n) (s .labels))) (s .rest) .known) (rw e refl)
 
       run-written : (cs : Lists.List Call) → run F (F .written n s) (c ∷ cs) ≡ answered F n (answer s c) ∷ run F (F .written n (answer s c .state)) cs
       unfolding run

@@ -13,9 +13,9 @@ use Rattle.basics.proofs.Passing.{passing-length}
 use Rattle.label.specs.Labels as Labels
 use Rattle.label.specs.Labels.{newLabel}
 use Rattle.simulation.specs.Calls.{Call, place, Label, Scan, Phase, Idle, Update, Snap, End, Entry, entry, Process, Move, judge}
-use Rattle.simulation.specs.Machine.{original, digits, stands, pendingAfter, labelStep, relabelled, jobAt, shows, scanOf, carryOut, freshRest, State, step}
+use Rattle.simulation.specs.Machine.{original, digits, stands, pendingAfter, labelStep, relabelled, shows, scanOf, carryOut, freshRest, State, step}
 use Rattle.simulation.proofs.Labellings.{by-put}
-use Rattle.simulation.proofs.Judged.{own-place, Verdict, turned, begins, scans, updates, snaps, ends, verdict}
+use Rattle.simulation.proofs.Judged.{own-place, Verdict, turned, begins, scans, updates, snaps, ends, service, verdict-in}
 use Rattle.simulation.proofs.Touched.{labels-kept, rest-kept, results-all, apart}
 use Rattle.simulation.proofs.Simulation.{new-behind}
 
@@ -45,18 +45,18 @@ pub record Writable (n : ℕ) (s : State Labels.Label) : Type 0 where
   pub past : (i : ℕ) → n ≤ i → Unused s i
 
 -- what a scan of n processes stores is such a list
-scan-listed : {n : ℕ} (jobs : ℕ → ℕ) (order : Lists.List ℕ) → length order ≡ n → Listed n (scanOf jobs order)
+scan-listed : {n : ℕ} (process : ℕ → Process) (order : Lists.List ℕ) → length order ≡ n → Listed n (scanOf process order)
 unfolding scanOf
-scan-listed jobs order e = (
-  omega (arith, length-map shown entryFor, passing-length (λ i. shows (jobs i)) order),
+scan-listed process order e = (
+  omega (arith, length-map shown entryFor, passing-length (λ i. shows (process i)) order),
   λ p h. all-at (λ x. 1 ≤ x .station) (map entryFor shown) (entry 0 0) named p (omega arith),
 )
   where
     shown : Lists.List ℕ
-    shown = passing (λ i. shows (jobs i)) order
+    shown = passing (λ i. shows (process i)) order
 
     entryFor : ℕ → Entry
-    entryFor i = entry (suc i) (jobs i)
+    entryFor i = entry (suc i) (process i .job)
 
     named : All (λ x. 1 ≤ x .station) (map entryFor shown)
     named = all-map (λ i. Unit {0}) (λ (x : Entry). 1 ≤ x .station) entryFor (λ i _. omega arith) shown (each-all _ shown 0 (λ p _. tt))
@@ -73,7 +73,7 @@ module _ (n : ℕ) (high : n ≤ 32) (s : State Labels.Label) (w : Writable n s)
       z : ℕ
       z = newest n (stands (digits n) (s .labels))
 
-  labels-behind : {k : ℕ} {ph : Phase} {m : Move} → Verdict n k c ph m → (x : Bool) (i p : ℕ) → 31 ≤ p
+  labels-behind : {k : ℕ} {out : Bool} {ph : Phase} {m : Move} → Verdict n k c out ph m → (x : Bool) (i p : ℕ) → 31 ≤ p
       → relabelled n (digits n) (s .labels) (labelStep m) x i p ≡ 1
   unfolding relabelled
   labels-behind (turned y f) x i p h = w .behind x i p h
@@ -85,9 +85,10 @@ module _ (n : ℕ) (high : n ≤ 32) (s : State Labels.Label) (w : Writable n s)
       (λ _. pending-behind (place c) p (own-place own) h) (w .behind x i p h)
   labels-behind (snaps own Scan e) x i p h = w .behind x i p h
   labels-behind (ends own o e f) x i p h = w .behind x i p h
+  labels-behind (service own b e) x i p h = w .behind x i p h
 
   -- a process gets a phase that a table keeps
-  phases-kept : {k : ℕ} {ph : Phase} {m : Move} → Verdict n k c ph m → (order : Lists.List ℕ) (i : ℕ)
+  phases-kept : {k : ℕ} {out : Bool} {ph : Phase} {m : Move} → Verdict n k c out ph m → (order : Lists.List ℕ) (i : ℕ)
       → Kept (carryOut order (s .rest) m .rest .process i .phase)
   unfolding carryOut
   phases-kept v order i = go v
@@ -96,7 +97,7 @@ module _ (n : ℕ) (high : n ≤ 32) (s : State Labels.Label) (w : Writable n s)
       at true p h = h
       at false p h = w .phase i
 
-      go : {k : ℕ} {ph : Phase} {m : Move} → Verdict n k c ph m → Kept (carryOut order (s .rest) m .rest .process i .phase)
+      go : {k : ℕ} {out : Bool} {ph : Phase} {m : Move} → Verdict n k c out ph m → Kept (carryOut order (s .rest) m .rest .process i .phase)
       go (turned y f) = w .phase i
       go (begins own e) = at (eqb i (place c)) _ tt
       go (scans own e) = at (eqb i (place c)) _ tt
@@ -105,12 +106,13 @@ module _ (n : ℕ) (high : n ≤ 32) (s : State Labels.Label) (w : Writable n s)
       go (snaps own Scan e) = at (eqb i (place c)) _ tt
       go (ends own Label e f) = at (eqb i (place c)) _ tt
       go (ends own Scan e f) = at (eqb i (place c)) _ tt
+      go (service own b e) = at (eqb i (place c)) _ (w .phase i)
 
   pub writable-step : Writable n (step original n (digits n) s c .state)
   unfolding step
   writable-step = record {
     behind = labels-behind v;
-    listed = results-all (Listed n) order (s .rest) (scan-listed (jobAt (s .rest)) order (ordered-length (stands (digits n) (s .labels)) n)) (w .listed) m;
+    listed = results-all (Listed n) order (s .rest) (scan-listed (s .rest .process) order (ordered-length (stands (digits n) (s .labels)) n)) (w .listed) m;
     phase = phases-kept v order;
     past = λ i l.
         let u = w .past i l in
@@ -122,8 +124,8 @@ module _ (n : ℕ) (high : n ≤ 32) (s : State Labels.Label) (w : Writable n s)
       m : Move
       m = judge false n (s .rest) c
 
-      v : Verdict n (length (s .rest .result (place c))) c (s .rest .process (place c) .phase) m
-      v = verdict n (length (s .rest .result (place c))) c (s .rest .process (place c) .phase)
+      v : let k = place c in Verdict n (length (s .rest .result k)) c (s .rest .process k .out) (s .rest .process k .phase) m
+      v = verdict-in n (s .rest) c
 
       order : Lists.List ℕ
       order = ordered n (stands (digits n) (s .labels))

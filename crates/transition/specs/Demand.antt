@@ -23,7 +23,7 @@ module _ (F : Form) where
   snaps t [] = 0
   snaps t (c ∷ cs) = cond (F .wellFormed t) (snapsOf (F .board) (F .count t) (F .state t) c) 0 + snaps (stepOf F t c .table) cs
 
-  -- what is compared after each call: the refusal, the bytes or records written, and the results that all stations hold
+  -- what is compared after each call: the refusal, the bytes or records written, the results that all stations hold, and which are out of service
   abbrev pub seen : TableAnswer (F .Table) → Seen
   seen a = Machine.seen (F .count (a .table)) (record { state = F .state (a .table); refusal = a .refusal; report = a .report })
 

@@ -40,7 +40,7 @@ onto (Bytes l) (Records lent) = Records lent
 onto (Records l) (Bytes lent) = Bytes lent
 
 module _ (F : Form) where
-  -- the fresh table of n stations: labels of 1s, no jobs, empty results, all idle
+  -- the fresh table of n stations: labels of 1s, no jobs, empty results, all idle and in service
   abbrev pub freshTable : ℕ → F .Table
   freshTable n = F .written n (fresh (λ p. 1))
 

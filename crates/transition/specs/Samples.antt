@@ -1,4 +1,4 @@
--- Samples P1 to P12 (01, "Shop samples"): one table, and one statement for all its rows.
+-- Samples P1 to P12 (01, "Shop samples"): one table, and one statement for all its rows; and a table of samples of Card 4 (02).
 use Prim.Native.Nat.{ℕ, suc, _-_}
 use mathlib.Core.Path.{_≡_}
 use mathlib.Core.Bool.{true, false, cond}
@@ -10,7 +10,7 @@ use Rattle.basics.specs.Tests.{ordered, tabulate, All}
 use Rattle.label.specs.Labels as Labels
 use Rattle.label.specs.Labels.{below, labelBelow}
 use Rattle.label.specs.Rows.{digit}
-use Rattle.simulation.specs.Calls.{Call, Buffer}
+use Rattle.simulation.specs.Calls.{Call, Buffer, Entry}
 use Rattle.simulation.specs.Machine.{digits, stands, State}
 use Rattle.transition.specs.Forms.{Form, freshTable, after}
 
@@ -30,16 +30,23 @@ shown n s = tabulate n 0 (λ i. tabulate (n - 1) 0 (s .labels false i))
 unfoldable pub order : ℕ → State Labels.Label → Lists.List ℕ
 order n s = map suc (ordered n (stands (digits n) (s .labels)))
 
--- a row: two digits, or two labels, of which the first is below the second; or n, the calls on the fresh table of n, and the labels and the order they lead to
+-- the stations that the scan result of station k shows
+unfoldable pub shownBy : ℕ → State Labels.Label → Lists.List ℕ
+shownBy k s = map (λ (e : Entry). e .station) (s .rest .result (k - 1))
+
+-- a row: two digits, or two labels, of which the first is below the second; or n, the calls on the fresh table of n, and the labels and the order they lead
+-- to; or n, the calls, a station, and the stations that its scan result then shows
 pub data Sample : Type 0 where
   digitsBelow : ℕ → ℕ → Sample
   labelsBelow : Lists.List ℕ → Lists.List ℕ → Sample
   reaches : ℕ → Lists.List Call → Lists.List (Lists.List ℕ) → Lists.List ℕ → Sample
+  scanShows : ℕ → Lists.List Call → ℕ → Lists.List ℕ → Sample
 
 abbrev pub Holds : Form → Sample → Type 0
 Holds F (digitsBelow d e) = below d e ≡ true
 Holds F (labelsBelow a b) = labelBelow (length a) (digit a) (digit b) ≡ true
 Holds F (reaches n cs l o) = let s = F .state (after F (freshTable F n) cs) in (shown n s ≡ l) × (order n s ≡ o)
+Holds F (scanShows n cs k l) = shownBy k (F .state (after F (freshTable F n) cs)) ≡ l
 
 -- lists of one, two and three
 unfoldable pub one : {A : Type 0} → A → Lists.List A
@@ -74,3 +81,21 @@ samples =
 -- they hold of the tables of a form
 abbrev pub SamplesHold : Form → Type 0
 SamplesHold F = All (Holds F) samples
+
+-- OUT OF SERVICE (02, Card 4). A station takes a label and leaves service, another takes a label, and the first returns: the second has seen its label.
+unfoldable pub absent : Lists.List Call
+absent = labelled (one 1) ++ one (call 1 6) ++ labelled (one 2) ++ one (call 1 7)
+
+-- the label of a station out of service counts as the newest's, and among those that agree with the newest's; a scan leaves the station out, unless it snapped
+-- before the station left
+abbrev pub serviceSamples : Lists.List Sample
+serviceSamples =
+    reaches 2 absent (two (one 2) (one 3)) (two 1 2)
+    ∷ reaches 3 (labelled (two 1 2) ++ one (call 1 6) ++ labelled (one 3)) (three (two 2 1) (two 2 2) (two 3 1)) (three 1 2 3)
+    ∷ scanShows 2 (absent ++ one (call 2 2)) 2 (two 1 2)
+    ∷ scanShows 2 (labelled (two 1 2) ++ two (call 1 6) (call 2 2)) 2 (one 2)
+    ∷ scanShows 2 (labelled (two 1 2) ++ two (call 2 2) (call 1 6)) 2 (two 1 2)
+    ∷ []
+
+abbrev pub ServiceSamplesHold : Form → Type 0
+ServiceSamplesHold F = All (Holds F) serviceSamples

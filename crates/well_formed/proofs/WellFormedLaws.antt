@@ -10,14 +10,14 @@ use mathlib.Core.Bool.{Bool, true, false, not, _&&_, cond}
 use mathlib.Core.List.{List, []}
 use lib.ListN.{length, getD}
 use lib.Dec.{eqb, leb, ltb}
-use borrow.Author.Tests.{eqb-true, eq-eqb, leb-true, le-leb, ltb-true, lt-ltb, le-ltb}
+use borrow.Author.Tests.{eqb-true, eq-eqb, ltb-true, lt-ltb, le-ltb}
 use Rattle.basics.specs.Tests.{within, every, count}
 use Rattle.basics.proofs.Facts.{and-both, both, last, left-no, within-true, within-of, every-all, every-at, every-same, getD-tabulate, getD-any}
 use Rattle.basics.proofs.Loops.{same-test, every-and}
 use Rattle.label.specs.Rows.{digit, rowFits, noRing}
-use Rattle.well_formed.specs.Loops.{tops, fitsAt, halfFits, bothFit, noneFrom}
+use Rattle.well_formed.specs.Loops.{tops, fitsAt, halfFits, bothFit, controlAt, noneFrom}
 use Rattle.arrays.specs.Arrays.{Arrays, Planes, Rows, cell, shownIn, labelRow}
-use Rattle.arrays.specs.WellFormed.{entryFits, resultFits, resultFresh, stationFits, placeFresh, wellFormed}
+use Rattle.arrays.specs.WellFormed.{entryFits, resultFits, resultFresh, controlFits, controlFresh, stationFits, placeFresh, wellFormed}
 
 -- LABELS
 
@@ -100,34 +100,61 @@ pub fresh-result : (rows : Rows) → (noneFrom 0 (getD rows 0 []) && noneFrom 0 
 unfolding resultFresh
 fresh-result rows = sym (every-and 32 _ _) ∙ every-same 32 _ _ (λ p l. rw (zero-add p) refl)
 
+-- CONTROL: the places of n stations, and those past them
+
+control-parts : (n : ℕ) (control : Rows) → n ≤ 32 → every 32 (controlAt n control)
+    ≡ (every n (λ i. controlFits (cell control 0 i 0) (cell control 1 i 0))
+    && every (32 - n) (λ i. controlFresh (cell control 0 (n + i) 0) (cell control 1 (n + i) 0)))
+control-parts n control h = parts (controlAt n control) n n 32 (omega arith) h ∙ ap₂ _&&_
+    (every-same n _ _ (λ i l. rw (lt-ltb i n l) (and-true (controlFits (cell control 0 i 0) (cell control 1 i 0)))))
+    (every-same (32 - n) _ _ (λ i l. rw (le-ltb (n + i) n (omega arith)) (zeros (cell control 0 (n + i) 0) (cell control 1 (n + i) 0))))
+  where
+    and-true : (b : Bool) → (b && true) ≡ b
+    and-true true = refl
+    and-true false = refl
+
+    zeros : (x y : ℕ) → (controlFits x y && controlFresh x y) ≡ controlFresh x y
+    zeros x y = same-test _ _
+        (λ e. and-both (controlFits x y) (controlFresh x y) e .1)
+        (λ e. let q = and-both (eqb x 0) (eqb y 0) e in rw (eqb-true x 0 (q .0), eqb-true y 0 (q .1)) refl)
+
 -- THE WHOLE
 
 module _ (a : Arrays) where
   abbrev n : ℕ
   n = a .count
 
+  abbrev fits : ℕ → Bool
+  fits i = controlFits (cell (a .control) 0 i 0) (cell (a .control) 1 i 0)
+
+  abbrev fresh : ℕ → Bool
+  fresh i = controlFresh (cell (a .control) 0 i 0) (cell (a .control) 1 i 0)
+
   pub wrong-count : within 2 32 n ≡ false → false ≡ wellFormed a
   unfolding wellFormed
   wrong-count e = sym (left-no _ (left-no _ (left-no _ e)))
 
-  -- the stations pass, the places past them do, and what is left is the test for rings
-  pub all-tests : {s p r : Bool} → 2 ≤ n → n ≤ 32 → s ≡ every n (stationFits a) → p ≡ every (32 - n) (λ i. placeFresh a (n + i))
-      → r ≡ noRing (n - 1) (λ i. digit (labelRow a false i)) → (s && p && r) ≡ wellFormed a
+  -- the stations pass, the places past them do, the control bytes of both do, and what is left is the test for rings
+  pub all-tests : (s p : Bool) {c r : Bool} → 2 ≤ n → n ≤ 32 → (s && every n fits) ≡ every n (stationFits a)
+      → (p && every (32 - n) (λ i. fresh (n + i))) ≡ every (32 - n) (λ i. placeFresh a (n + i)) → c ≡ every 32 (controlAt n (a .control))
+      → r ≡ noRing (n - 1) (λ i. digit (labelRow a false i)) → (s && p && c && r) ≡ wellFormed a
   unfolding wellFormed
-  all-tests low high e f g = rw (e, f, g, within-of 2 32 n low high) refl
+  all-tests s p {c} {r} low high e f g h = ap (λ x. s && p && x && r) (g ∙ control-parts n (a .control) high)
+      ∙ swapped s p (every n fits) (every (32 - n) (λ i. fresh (n + i))) r ∙ rw (e, f, h, within-of 2 32 n low high) refl
+    where
+      swapped : (s p x y r : Bool) → (s && p && (x && y) && r) ≡ ((s && x) && (p && y) && r)
+      swapped false p x y r = refl
+      swapped true true x y r = refl
+      swapped true false true y r = refl
+      swapped true false false y r = refl
 
-  module _ (high : n ≤ 32) where
-    pub stations : {l p r : Bool} → l ≡ every n (λ i. bothFit (n - 1) (a .labels) (0 + i)) → p ≡ every n (λ i. leb (cell (a .control) 0 (0 + i) 0) 4)
-        → r ≡ every n (λ i. resultFits n (getD (a .results) i [])) → (l && p && r) ≡ every n (stationFits a)
-    unfolding stationFits
-    stations e f g = rw (e, f, g, ← every-and, ← every-and) (every-same n _ _ (λ i l. rw (zero-add i) refl))
+  pub stations : {l r : Bool} → l ≡ every n (λ i. bothFit (n - 1) (a .labels) (0 + i)) → r ≡ every n (λ i. resultFits n (getD (a .results) i []))
+      → (l && r && every n fits) ≡ every n (stationFits a)
+  unfolding stationFits
+  stations e g = rw (e, g, ← every-and, ← every-and) (every-same n _ _ (λ i l. rw (zero-add i) refl))
 
-    pub places : {l j k p r : Bool} → l ≡ every (32 - n) (λ i. bothFit 0 (a .labels) (n + i)) → j ≡ noneFrom n (getD (a .jobs) 0 [])
-        → k ≡ noneFrom n (getD (a .jobs) 1 []) → p ≡ every (32 - n) (λ i. leb (cell (a .control) 0 (n + i) 0) 0)
-        → r ≡ every (32 - n) (λ i. resultFresh (getD (a .results) (n + i) [])) → (l && j && k && p && r) ≡ every (32 - n) (λ i. placeFresh a (n + i))
-    unfolding placeFresh
-    places e f g h k = rw (e, f, g, h, k, ← every-and, ← every-and, ← every-and, ← every-and)
-        (every-same (32 - n) _ _ (λ i l. rw (none (cell (a .control) 0 (n + i) 0)) refl))
-      where
-        none : (x : ℕ) → leb x 0 ≡ eqb x 0
-        none x = same-test _ _ (λ e. eq-eqb x 0 (omega (arith, leb-true x 0 e))) (λ e. le-leb x 0 (omega (arith, eqb-true x 0 e)))
+  pub places : {l j k r : Bool} → l ≡ every (32 - n) (λ i. bothFit 0 (a .labels) (n + i)) → j ≡ noneFrom n (getD (a .jobs) 0 [])
+      → k ≡ noneFrom n (getD (a .jobs) 1 []) → r ≡ every (32 - n) (λ i. resultFresh (getD (a .results) (n + i) []))
+      → (l && j && k && r && every (32 - n) (λ i. fresh (n + i))) ≡ every (32 - n) (λ i. placeFresh a (n + i))
+  unfolding placeFresh
+  places e f g h = rw (e, f, g, h, ← every-and, ← every-and, ← every-and, ← every-and) refl

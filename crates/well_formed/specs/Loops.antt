@@ -1,12 +1,13 @@
 -- What the loops test.
 use Prim.Native.Nat.{ℕ, _+_, _-_}
-use mathlib.Core.Bool.{Bool, _&&_, cond}
+use mathlib.Core.Bool.{Bool, _&&_, _||_, cond}
 use mathlib.Core.List.{List, []}
 use lib.ListN.{getD}
 use lib.Dec.{eqb, ltb}
 use Rattle.basics.specs.Tests.{within, every, tabulate}
 use Rattle.label.specs.Rows.{rowFits}
-use Rattle.arrays.specs.Arrays.{Planes, cell}
+use Rattle.arrays.specs.Arrays.{Rows, Planes, cell}
+use Rattle.arrays.specs.WellFormed.{controlFits, controlFresh}
 
 -- the greatest digits at 32 places, and 1 at 32 more
 abbrev pub tops : List ℕ
@@ -23,6 +24,10 @@ halfFits m x y h = every 16 (λ p. fitsAt m x (h + p) && fitsAt m y (h + p))
 -- both labels at place i fit
 abbrev pub bothFit : ℕ → Planes → ℕ → Bool
 bothFit m labels i = rowFits 31 m (cell labels 0 i []) && rowFits 31 m (cell labels 1 i [])
+
+-- the control bytes at place i fit, and past n stations they are fresh
+abbrev pub controlAt : ℕ → Rows → ℕ → Bool
+controlAt n control i = let p = cell control 0 i 0 in let o = cell control 1 i 0 in controlFits p o && (ltb i n || controlFresh p o)
 
 -- a row has nothing from place n on
 abbrev pub noneFrom : ℕ → List ℕ → Bool

@@ -8,7 +8,7 @@ ghost use lib.Dec.{eqb, leb};
 ghost use Rattle.basics.specs.Tests.{within, every, count};
 ghost use Rattle.arrays.specs.Arrays.{arrays, cell};
 ghost use Rattle.arrays.specs.WellFormed.{entryFits, resultFits, resultFresh, wellFormed};
-ghost use Rattle.well_formed.specs.Loops.{tops, halfFits, bothFit, noneFrom};
+ghost use Rattle.well_formed.specs.Loops.{tops, halfFits, bothFit, controlAt, noneFrom};
 use arrays::Control;
 use arrays::Jobs;
 use arrays::Labels;
@@ -78,15 +78,21 @@ fn labels_fit(m: usize, labels: &Labels, from: usize, k: usize) -> bool
     halves_fit(m, labels, from, k, &most, 0) & halves_fit(m, labels, from, k, &most, 15)
 }
 
-// Whether k phases, from the one at `from` on, have numbers up to `most`.
-fn phases_fit(control: &Control, from: usize, k: usize, most: u8) -> bool
-    requires { ⌜ from + k ≤ 32 ⌝ }
-    ensures { λ r. ⌜ r ≡ every k (λ i. leb (cell (now (control .entry)) 0 (from + i) 0) most) ⌝ }
+// Whether the control bytes of n stations fit, and those past them are fresh. All 32 places are read, and counted by bytes, as they are compared.
+fn control_fits(n: usize, control: &Control) -> bool
+    requires { ⌜ n ≤ 32 ⌝ }
+    ensures { λ r. ⌜ r ≡ every 32 (controlAt n (now (control .entry))) ⌝ }
 {
+    let end = n as u8;
     let mut r = true;
     let mut i: usize = 0;
-    while i < k {
-        r &= control[0][from + i] <= most;
+    while i < 32 {
+        let phase = control[0][i];
+        let out = control[1][i];
+        r &= (phase <= 4)
+            & (out <= 1)
+            & ((out == 0) | (phase == 0))
+            & (((i as u8) < end) | ((phase == 0) & (out == 0)));
         i += 1;
     }
     r
@@ -210,13 +216,10 @@ pub fn well_formed(
     }
     let n = count as usize;
     arrays::shaped(*labels, *jobs, *control, *results);
-    let stations = labels_fit(n - 1, labels, 0, n)
-        & phases_fit(control, 0, n, 4)
-        & results_fit(n, results);
+    let stations = labels_fit(n - 1, labels, 0, n) & results_fit(n, results);
     let places = labels_fit(0, labels, n, 32 - n)
         & none_from(n, &jobs[0])
         & none_from(n, &jobs[1])
-        & phases_fit(control, n, 32 - n, 0)
         & rest_is_fresh(n, results);
-    stations & places & rows::ring::no_ring(&labels[0], n)
+    stations & places & control_fits(n, control) & rows::ring::no_ring(&labels[0], n)
 }

@@ -1,6 +1,6 @@
 -- Each arm is a move of its own, and Carried has a law for it.
 use Rattle.engine.proofs.Served.{orderly, order-long, order-inside}
-use Rattle.engine.proofs.Carried.{refused, begins-label, snaps-label, snaps-scan, updates, ends-label, ends-scan}
+use Rattle.engine.proofs.Carried.{refused, begins-label, snaps-label, snaps-scan, updates, ends-label, ends-scan, leaves-service, returns-to-service}
 use native.Mathlib.Omega.{arith}
 use mathlib.Core.Path.{refl}
 use borrow.Author.Needs.{needs}
@@ -21,7 +21,7 @@ pending-by-requires c κs =
 
 scan-result-requires : tie.Need-scan-result-requires
 scan-result-requires c κs =
-    let t = c .before .before in
+    let t = c .before .before .before in
     let s = t .before .before .before .before .before .before .before in
     ((s .pre .high, order-long (s .pre) (t .enum-told3 .given .1)), order-inside (s .pre) (t .enum-told3 .given .1))
 
@@ -45,7 +45,7 @@ returns-3 c =
 
 returns-4 : tie.Need-returns-4
 returns-4 c =
-    let t = c .before .before .before .before in
+    let t = c .before .before .before .before .before in
     let s = t .before .before in
     snaps-scan (s .before .before .before .before .before .pre) (s .shaped .ensures _)
     (c .before .scan-result .ensures) _ (t .enum-told3 .given .1) (c .accepted3 .ensures)
@@ -68,16 +68,30 @@ returns-7 c =
     let s = t .before .before in
     ends-scan (s .before .before .before .before .before .pre) (s .shaped .ensures _) (t .enum-told6 .given .1) (c .accepted6 .ensures)
 
+returns-8 : tie.Need-returns-8
+returns-8 c =
+    let t = c .before in
+    let s = t .before .before in
+    leaves-service (s .before .before .before .before .before .pre) (s .shaped .ensures _) _ (t .enum-told7 .given .1) (c .accepted7 .ensures)
+
+returns-9 : tie.Need-returns-9
+returns-9 c =
+    let t = c .before in
+    let s = t .before .before in
+    returns-to-service (s .before .before .before .before .before .pre) (s .shaped .ensures _) _ (t .enum-told8 .given .1) (c .accepted8 .ensures)
+
 pub carry-out-spec : {M : Type 1} → statement M
 carry-out-spec = tie.close (tie.spec (λ c κs. search needs) (λ c. search needs) (λ c. search needs) cast-jobs
     (λ c. search needs) (λ c. search needs) (λ c. search needs) (λ c. search needs) (λ c. search needs)
     (λ c κs. search needs) (λ c. search needs) (λ c. search needs) (λ c. search needs) (λ c. search needs)
     (λ c. search needs) pending-by-requires (λ c. search needs) (λ c. search needs) (λ c. search needs)
     (λ c. search needs) (λ c. search needs) (λ c κs. search needs) (λ c. search needs) (λ c. search needs)
-    (λ c. search needs) (λ c. search needs) scan-result-requires (λ c. search needs) (λ c. search needs)
-    (λ c κs. search needs) (λ c. search needs) (λ c. search needs) (λ c. search needs) (λ c. search needs)
+    (λ c. search needs) (λ c. search needs) (λ c. search needs) scan-result-requires (λ c. search needs)
+    (λ c. search needs) (λ c κs. search needs) (λ c. search needs) (λ c. search needs) (λ c. search needs)
     (λ c. search needs) (λ c. search needs) (λ c. search needs) (λ c. search needs) (λ c. search needs)
     (λ c. search needs) (λ c. search needs) (λ c. search needs) (λ c. search needs) (λ c. search needs)
+    (λ c. search needs) (λ c. search needs) (λ c κs. search needs) (λ c. search needs) (λ c. search needs)
     (λ c. search needs) (λ c κs. search needs) (λ c. search needs) (λ c. search needs) (λ c. search needs)
     (λ c κs. search needs) (λ c. search needs) (λ c. search needs) (λ c. search needs) (λ c κs. search needs)
-    returns returns-2 returns-3 returns-4 returns-5 returns-6 returns-7)
+    (λ c. search needs) (λ c. search needs) (λ c. search needs) (λ c κs. search needs) returns returns-2
+    returns-3 returns-4 returns-5 returns-6 returns-7 returns-8 returns-9)

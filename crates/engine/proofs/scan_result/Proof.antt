@@ -3,17 +3,18 @@ use mathlib.Core.Path.{_≡_, ap, _∙_}
 use mathlib.Core.Logic.{⊎-elim}
 use Prim.Native.Nat.{_-_, _≤_}
 use native.Mathlib.Omega.{arith}
-use Rattle.engine.specs.Scans.{scanRows}
-use Rattle.engine.proofs.Scanned.{Filled, none-yet, shown-next, struck-next}
+use lib.ListN.{getD}
+use Rattle.engine.specs.Scans.{found, scanRows}
+use Rattle.engine.proofs.Scanned.{found-shows, Filled, none-yet, shown-next, struck-next}
 use borrow.Author.Needs.{needs}
 use Rattle.engine.proofs.scan_result.Statement.{statement}
 use Rattle.engine.proofs.scan_result.Tie as tie
 
 abbrev Inv-loop : tie.InvT-loop
-Inv-loop order jobs n rows₀ k₀ p₀ rows k p = (p ≤ n) × (k ≤ p) × Filled order jobs p k rows
+Inv-loop order jobs service n rows₀ k₀ p₀ rows k p = (p ≤ n) × (k ≤ p) × Filled order (found jobs service) p k rows
 
 abbrev μ-loop : tie.MeasureT-loop
-μ-loop order jobs n rows₀ k₀ p₀ rows k p = n - p
+μ-loop order jobs service n rows₀ k₀ p₀ rows k p = n - p
 
 loop-holds : tie.Need-loop-holds Inv-loop μ-loop
 loop-holds c = (search needs, search needs, none-yet _ _)
@@ -24,18 +25,26 @@ mul-job c = omega (arith, c .before .before .before .before .pre .1 (c .before .
 element-copy-out-job : tie.Need-element-copy-out-job Inv-loop μ-loop
 element-copy-out-job c = c .before .before .before .before .pre .1 (c .before .before .loop .p) (omega arith)
 
+element-copy-out-if1 : tie.Need-element-copy-out-if1 Inv-loop μ-loop
+element-copy-out-if1 c = c .before .before .before .before .before .pre .1 (c .before .before .before .loop .p) (omega arith)
+
 add-rows : tie.Need-add-rows Inv-loop μ-loop
-add-rows c = let l = c .before .before .before .before in omega (arith, l .before .before .pre .1 (l .loop .p) (omega arith))
+add-rows c = let l = c .before .before .before .before .before in omega (arith, l .before .before .pre .1 (l .loop .p) (omega arith))
 
 cast-rows : tie.Need-cast-rows Inv-loop μ-loop
-cast-rows c = let l = c .before .before .before .before in omega (arith, l .before .before .pre .1 (l .loop .p) (omega arith))
+cast-rows c = let l = c .before .before .before .before .before in omega (arith, l .before .before .pre .1 (l .loop .p) (omega arith))
 
 loop-again : tie.Need-loop-again Inv-loop μ-loop
 loop-again c =
-    let f = c .before .before .before .before .loop .inv .2 in
+    let l = c .before .before .before .before .before in
+    let f = l .loop .inv .2 in
+    let a = l .before .before .args in
+    let j = a .jobs .now in
+    let v = a .service .now in
+    let i = getD (a .order .now) (l .loop .p) 0 in
     ⊎-elim
-    (λ x. (search needs, omega (arith, x .2), shown-next _ _ _ _ f (omega arith) (omega arith) (x .0 .taken) (x .1) (x .2)))
-    (λ x. (search needs, omega (arith, x .2), struck-next _ _ _ _ f (omega arith) (x .0 .left) (x .1) (x .2)))
+    (λ x. (search needs, omega (arith, x .2), shown-next _ _ _ _ f (omega arith) (omega arith) (found-shows j v i (x .0 .taken)) (x .1) (x .2)))
+    (λ x. (search needs, omega (arith, x .2), struck-next _ _ _ _ f (omega arith) (found-shows j v i (x .0 .left)) (x .1) (x .2)))
     (c .if1 .came)
 
 returns : tie.Need-returns Inv-loop μ-loop
@@ -43,9 +52,9 @@ returns c =
     let l = c .before .loop in
     let a = c .before .before .before .args in
     let e : l .p ≡ a .n = omega arith in
-    l .inv .2 .held ∙ ap (λ p. scanRows p (a .order .now) (a .jobs .now)) e
+    l .inv .2 .held ∙ ap (λ p. scanRows p (a .order .now) (found (a .jobs .now) (a .service .now))) e
 
 pub scan-result-spec : {M : Type 1} → statement M
 scan-result-spec = tie.close (tie.spec Inv-loop μ-loop loop-holds (λ c. search needs) (λ c. search needs) mul-job element-copy-out-job
-    add-rows cast-rows (λ c. search needs) (λ c. search needs) (λ c. search needs) (λ c. search needs) (λ c. search needs)
+    element-copy-out-if1 add-rows cast-rows (λ c. search needs) (λ c. search needs) (λ c. search needs) (λ c. search needs) (λ c. search needs)
     (λ c. search needs) (λ c. search needs) (λ c. search needs) (λ c. search needs) loop-again returns)

@@ -8,16 +8,19 @@ use borrow.Author.Needs.{needs}
 use Rattle.file.proofs.serve_line.Statement.{statement}
 use Rattle.file.proofs.serve_line.Tie as tie
 
+abbrev start : tie.After-judge → tie.Start
+start x = x .before .before .before .before .before
+
 carry-out-requires : tie.Need-carry-out-requires
 carry-out-requires c κs =
     let x = c .before .before .before .before .before in
-    line-ready (x .before .before .before .before .before .pre .0) (x .judge .ensures)
+    line-ready (start x .pre .0) (x .judge .ensures)
 
 refresh-order-requires : tie.Need-refresh-order-requires
 refresh-order-requires c κs =
     let y = c .before .before in
     let x = y .before .before .before .before .before .before in
-    let f = x .before .before .before .before .before .pre .0 in
+    let f = start x .pre .0 in
     let j = x .judge .ensures in
     let g = y .carry-out .ensures in
     (line-orderly f j g, (line-place f j, (line-before f j g, line-kept f j g)))
@@ -26,13 +29,13 @@ refresh-order-requires c κs =
 place-here : (y : tie.After-carry-out) → y .before .before .before .before .before .before .judge .result .place < 32
 place-here y =
     let x = y .before .before .before .before .before .before in
-    let f = x .before .before .before .before .before .pre .0 in
+    let f = start x .pre .0 in
     omega (arith, line-place f (x .judge .ensures), f .high)
 
 room-here : (y : tie.After-carry-out) → (y .carry-out .result .entries ≤ 32) × (y .carry-out .result .entries * 29 ≤ 928)
 room-here y =
     let x = y .before .before .before .before .before .before in
-    line-fits (x .before .before .before .before .before .pre .0) (x .judge .ensures) (y .carry-out .ensures)
+    line-fits (start x .pre .0) (x .judge .ensures) (y .carry-out .ensures)
 
 mul-write-result : tie.Need-mul-write-result
 mul-write-result c = omega (arith, place-here (c .before .before .before))
@@ -43,7 +46,7 @@ index-1-write-result c = place-here (c .before .before .before)
 write-result-requires : tie.Need-write-result-requires
 write-result-requires c κs =
     let y = c .before .before .before .before .before in
-    let s = y .before .before .before .before .before .before .before .before .before .before .before in
+    let s = start (y .before .before .before .before .before .before) in
     let fits = room-here y in
     (fits .0, (y .carry-out .ensures .2, omega (arith, fits .1, s .pre .1)))
 
@@ -52,14 +55,14 @@ add-result c =
     let y = c .before .before .before .before .before .before .before .before .before .before .before .before in
     let told = c .before .before .print-refusal .ensures .0 in
     let wrote = c .before .before .before .before .before .before .write-result .ensures .0 in
-    let s = y .before .before .before .before .before .before .before .before .before .before .before in
+    let s = start (y .before .before .before .before .before .before) in
     omega (arith, told, wrote, room-here y .1, printed-refusal (s .args .request .line) (refusalNumber (y .carry-out .result .refusal)))
 
 returns : tie.Need-returns
 returns c =
     let y = c .before .before .before .before .before .before .before .before .before .before .before .before in
     let x = y .before .before .before .before .before .before in
-    let f = x .before .before .before .before .before .pre .0 in
+    let f = start x .pre .0 in
     let j = x .judge .ensures in
     let g = y .carry-out .ensures in
     let wrote = c .before .before .before .before .before .before .write-result .ensures in

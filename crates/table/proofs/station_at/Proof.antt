@@ -9,18 +9,21 @@ use Rattle.table.proofs.station_at.Tie as tie
 
 returns : tie.Need-returns
 returns c =
-    let a = c .before .before .before .before .before .before .before .before .args in
+    let p = c .before .before in
+    let a = p .before .before .before .before .before .before .before .before .args in
     λ n y. record {
       label = cell (a .labels .now) 0 (a .place) [];
       job = cell (a .jobs .now) 0 (a .place) 0;
       «pending_label» = cell (a .labels .now) 1 (a .place) [];
       «pending_job» = cell (a .jobs .now) 1 (a .place) 0;
-      «scan_result» = c .before .before .before .before .entries-of .ensures y;
-      phase = (sym (declared-back (c .phase-of .result)) ∙ ap declaredPhase (c .phase-of .ensures)) y;
+      «scan_result» = p .before .before .before .before .entries-of .ensures y;
+      phase = (sym (declared-back (p .phase-of .result)) ∙ ap declaredPhase (p .phase-of .ensures)) y;
+      «out_of_service» = c .is-out .ensures y;
     }
 
 pub station-at-spec : {M : Type 1} → statement M
-station-at-spec = tie.close (tie.spec (λ c. search needs) (λ c. search needs) (λ c. search needs) (λ c. search needs)
-    (λ c. search needs) (λ c. search needs) (λ c. search needs) (λ c. search needs) (λ c κs. search needs)
+station-at-spec = tie.close (tie.spec (λ c. search needs) (λ c. search needs) (λ c. search needs)
     (λ c. search needs) (λ c. search needs) (λ c. search needs) (λ c. search needs) (λ c. search needs)
-    (λ c. search needs) (λ c. search needs) (λ c. search needs) (λ c κs. search needs) returns)
+    (λ c κs. search needs) (λ c. search needs) (λ c. search needs) (λ c. search needs) (λ c. search needs)
+    (λ c. search needs) (λ c. search needs) (λ c. search needs) (λ c. search needs) (λ c κs. search needs)
+    (λ c. search needs) (λ c. search needs) (λ c κs. search needs) returns)
