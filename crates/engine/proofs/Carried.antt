@@ -55,7 +55,7 @@ at-own o k f = rw (here-yes k) refl
 at-other : (o : Rest) (k : ℕ) (f : Process → Process) (i : ℕ) → i ≢ k → changed o k f .process i ≡ o .process i
 at-other o k f i d = rw (ne-eqb i k d) refl
 
--- what a change of one record leaves-service of all of them
+-- what a change of one record leaves of all of them
 at-all : {A : Type 0} (v : Process → A) (o : Rest) (k : ℕ) (f : Process → Process) → ((p : Process) → v (f p) ≡ v p)
     → (i : ℕ) → v (o .process i) ≡ v (changed o k f .process i)
 at-all v o k f e i = by-here (λ b. v (o .process i) ≡ v (cond b (f (o .process i)) (o .process i))) k i (λ _. sym (e (o .process i))) (λ _. refl)
@@ -115,7 +115,7 @@ module _ {a : Arrays} {x : Task} {order : Lists.List ℕ} (s : Prepared a x orde
   -- JOBS, after a change of the record of k
 
   abbrev jobsIn : (Process → Process) → Bool → ℕ → ℕ
-  jobsIn f y i = let p = changed (restOf a) k f .process i in cond y (p .pendingJob) (p .job)
+  jobsIn f = jobsOf (record { labels = labels; rest = changed (restOf a) k f })
 
   jobs-stay : (f : Process → Process) → ((p : Process) → f p .job ≡ p .job) → ((p : Process) → f p .pendingJob ≡ p .pendingJob)
       → a .jobs ≡ planes (jobsIn f)
@@ -140,7 +140,7 @@ module _ {a : Arrays} {x : Task} {order : Lists.List ℕ} (s : Prepared a x orde
   -- CONTROL, after a change of the record of k
 
   abbrev controlIn : (Process → Process) → Bool → ℕ → ℕ
-  controlIn f y i = let p = changed (restOf a) k f .process i in cond y (outNumber (p .out)) (phaseNumber (p .phase))
+  controlIn f = controlOf (record { labels = labels; rest = changed (restOf a) k f })
 
   -- one that leads to the phase with this number
   phase-put : (f : Process → Process) (v : ℕ) → ((p : Process) → f p .out ≡ p .out) → v ≡ phaseNumber (f (restOf a .process k) .phase)
@@ -177,7 +177,7 @@ module _ {a : Arrays} {x : Task} {order : Lists.List ℕ} (s : Prepared a x orde
 
   -- ALL OF IT
 
-  -- the arrays after a change of the record of k that leaves-service the results
+  -- the arrays after a change of the record of k that leaves the results
   record-changed : (w : LabelStep) {b : Planes} {j c : Rows} (f : Process → Process) → b ≡ labelsFor w → j ≡ planes (jobsIn f) → c ≡ planes (controlIn f)
       → arrays n b j c (a .results) ≡ arraysOf n (record { labels = relabelled n (digits n) labels w; rest = changed (restOf a) k f })
   unfolding arraysOf

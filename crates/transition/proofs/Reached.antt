@@ -113,7 +113,7 @@ module _ (n : ℕ) (some : 1 ≤ n) where
       at : (f : Process → Process) → (i ≡ place c → Idles (f (o .process i))) → Idles (changed o (place c) f .process i)
       at f g = by-here (λ b. Idles (cond b (f (o .process i)) (o .process i))) (place c) i g (λ _. h i)
 
-      -- it is not out of service if its call was one of those in service, or if it was busy
+      -- it is in service if its step needs that, or if it was busy
       in-service : (f : Process → Process) → ((p : Process) → f p .out ≡ p .out) → o .process (place c) .out ≡ false
           → Idles (changed o (place c) f .process i)
       in-service f same e = at f (λ q t. absurd (tf (sym (same (o .process i)) ∙ t) (ap (λ j. o .process j .out) q ∙ e)))
