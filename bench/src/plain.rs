@@ -1,4 +1,4 @@
-//! The schedule program in plain Rust, written from documents 01 and 02 (Cards 1, 2 and 4) and not from the Rattle code.
+//! The schedule program in plain Rust, written from documents 01 and 02 (Cards 1, 2, 4 and 5) and not from the Rattle code.
 
 use std::cmp::Ordering;
 use std::io::{self, Read, Write};
@@ -288,6 +288,15 @@ impl Table {
         }
         Ok(0)
     }
+}
+
+/// How many stations have the newest's label, in service or not: the refusal (0 if the table is well-formed) and their number.
+pub fn top_holders(t: &Table) -> (u64, usize) {
+    if !t.is_well_formed() {
+        return (refusal::ILL_FORMED, 0);
+    }
+    let top = &t.stations[t.newest()].label;
+    (0, t.stations[..t.n].iter().filter(|s| s.label == *top).count())
 }
 
 /// The direct step call: the refusal (0 if accepted) and the number of report bytes.

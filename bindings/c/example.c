@@ -1,7 +1,7 @@
 /* Document 01's listing as direct calls with a report buffer, as direct calls with a panel, and as a schedule file. Of a refused call with a report
    buffer this prints the line that the schedule program would print; a direct call's lines bear the number 0. The second call of station 2 is refused by
-   4 in all three: a scan has no snap of its own. Its scan shows station 1 alone, which has a job. After the calls with a panel station 1 is out of service
-   for a while: a scan does not show it. From the root:
+   4 in all three: a scan has no snap of its own. Its scan shows station 1 alone, which has a job. Before the calls with a panel both stations have the
+   newest's label, and after them station 1 alone. Then that one is out of service for a while: a scan does not show it. From the root:
    rt staticlib exports && cc -Wall -Wextra -O2 bindings/c/example.c target/staticlib/libexports.a -o /tmp/example && /tmp/example */
 #include <inttypes.h>
 #include <stdio.h>
@@ -41,6 +41,12 @@ static void print_shown(struct tickets_board *board) {
         printf("scan refused by %" PRIu64 "\n", answer.refusal);
 }
 
+/* Prints how many stations have the newest's label. */
+static void print_holders(const struct tickets_board *board) {
+    struct tickets_holders told = tickets_board_top_holders(board);
+    printf("stations with the newest's label: %" PRIu64 "\n", told.stations);
+}
+
 int main(void) {
     static struct tickets_board board;
     uint8_t report[TICKETS_MAX_STATIONS * TICKETS_REPORT_LINE] = {0};
@@ -56,6 +62,7 @@ int main(void) {
     static struct tickets_record panel[TICKETS_MAX_STATIONS];
     if (tickets_board_fresh(&board, 2) != 0)
         return 1;
+    print_holders(&board);
     for (size_t i = 0; i < sizeof calls / sizeof calls[0]; i++) {
         struct tickets_answer answer = tickets_board_step_panel(&board, calls[i].code, calls[i].station, calls[i].job, panel, TICKETS_MAX_STATIONS);
         if (answer.refusal != 0)
@@ -63,6 +70,7 @@ int main(void) {
         for (uint64_t at = 0; at < answer.written; at++)
             printf("panel: place %" PRIu32 ", station %" PRIu32 ", job %" PRIu32 "\n", panel[at].place, panel[at].station, panel[at].job);
     }
+    print_holders(&board);
     for (int times = 0; times < 2; times++)
         printf("station 1 leaves service: %" PRIu64 "\n", tickets_board_leave_service(&board, 1));
     print_shown(&board);

@@ -90,6 +90,14 @@ struct tickets_answer {
 
 static_assert(sizeof(struct tickets_answer) == 16, "two words");
 
+/* 0, or the refusal; and how many stations have the newest's label. */
+struct tickets_holders {
+    uint64_t refusal;
+    uint64_t stations;
+};
+
+static_assert(sizeof(struct tickets_holders) == 16, "two words");
+
 /* The exported functions, on the arrays. */
 uint64_t tickets_fresh(uint64_t count, uint8_t (*labels)[TICKETS_MAX_STATIONS][TICKETS_MAX_DIGITS], uint32_t (*jobs)[TICKETS_MAX_STATIONS],
     uint8_t (*control)[TICKETS_MAX_STATIONS], uint32_t (*results)[2][TICKETS_MAX_STATIONS]);
@@ -99,6 +107,8 @@ struct tickets_answer tickets_step(uint64_t count, uint8_t (*labels)[TICKETS_MAX
 struct tickets_answer tickets_step_panel(uint64_t count, uint8_t (*labels)[TICKETS_MAX_STATIONS][TICKETS_MAX_DIGITS], uint32_t (*jobs)[TICKETS_MAX_STATIONS],
     uint8_t (*control)[TICKETS_MAX_STATIONS], uint32_t (*results)[2][TICKETS_MAX_STATIONS], uint64_t code, uint64_t station, uint64_t job,
     struct tickets_record *panel, size_t panel_len);
+struct tickets_holders tickets_top_holders(uint64_t count, const uint8_t (*labels)[TICKETS_MAX_STATIONS][TICKETS_MAX_DIGITS],
+    const uint32_t (*jobs)[TICKETS_MAX_STATIONS], const uint8_t (*control)[TICKETS_MAX_STATIONS], const uint32_t (*results)[2][TICKETS_MAX_STATIONS]);
 
 /* Writes the report of a whole schedule file to the front of the buffer; what stands past it stays. The refusal is the one that ended the file: 8, 9, 10,
    1 or 11 of its header, 8, 9 or 12 of a step line; the report's last line shows it. It is 0 if the file was read to its end. TICKETS_SHORT_REPORT is
@@ -142,6 +152,12 @@ static inline uint64_t tickets_board_leave_service(struct tickets_board *board, 
 static inline uint64_t tickets_board_return_to_service(struct tickets_board *board, uint64_t station) {
     uint8_t none = 0;
     return tickets_board_step(board, TICKETS_RETURN_TO_SERVICE, station, 0, &none, 0).refusal;
+}
+
+/* How many stations have the newest's label, itself among them and those out of service too: 1 to count. It is no step, and changes nothing. Stations
+   that snap before any of them updates can come to share it; those of a fresh table all do. TICKETS_BAD_BOARD is the one refusal, and counts none. */
+static inline struct tickets_holders tickets_board_top_holders(const struct tickets_board *board) {
+    return tickets_top_holders(board->count, board->labels, board->jobs, board->control, board->results);
 }
 
 #endif

@@ -39,6 +39,7 @@ fn budget() -> Result<Budget, String> {
 
 fn all() -> Result<String, String> {
     let Budget { mut files, mut calls, seed, program } = budget()?;
+    let mut questions = 0;
     if files > 0 {
         for (of, counts) in run::files(seed, files, program.as_deref())? {
             counts.show(of)?;
@@ -47,12 +48,13 @@ fn all() -> Result<String, String> {
     }
     if calls > 0 {
         let counts = run::calls(seed, calls)?;
-        calls = counts.iter().map(|(_, counts)| counts.total()).sum();
-        for (of, counts) in counts {
-            counts.show(of)?;
-        }
+        calls = counts.report.total() + counts.panel.total();
+        questions = counts.questions.total();
+        counts.report.show("direct calls")?;
+        counts.panel.show("direct calls with a panel")?;
+        counts.questions.show("questions")?;
     }
-    Ok(format!("files {files}, calls {calls}: all agree"))
+    Ok(format!("files {files}, calls {calls}, questions {questions}: all agree"))
 }
 
 fn main() -> ExitCode {

@@ -11,7 +11,7 @@ use std::process::{Command, Stdio};
 use ticket_bench::generate::{schedule, Ending, Random};
 use ticket_bench::plain::{self, refusal, Record, Table, MAX_STEPS};
 use ticket_bench::reports::{final_refusal, numbers};
-use tickets::{Answer, Board};
+use tickets::{Answer, Board, Holders};
 
 /// How often each refusal number was the plain program's answer, 0 for a call or a report line that is not refused.
 pub struct Counts {
@@ -158,6 +158,16 @@ fn answer_panel(board: &mut Board, step: Step, panel: &mut [Record], len: usize)
     answer
 }
 
+/// How many stations have the newest's label, asked of both sides: the answer, and the board.
+fn check_question(board: &Board, counts: &mut Counts) -> Result<(), String> {
+    let before = board.clone();
+    let (refusal, stations) = boards::table(&before).map_or((refusal::ILL_FORMED, 0), |table| plain::top_holders(&table));
+    counts.add(refusal);
+    same("answer", &board.told(), &Holders { refusal, stations: stations as u64 })
+        .and_then(|()| same("board", board, &before))
+        .map_err(|what| format!("tickets_top_holders on {before:?}\n{what}"))
+}
+
 /// One call on the board by both sides: the answer, what is lent with what stands behind it, and the board.
 fn check_call(board: &mut Board, call: &Call, counts: &mut CallCounts) -> Result<(), String> {
     let before = board.clone();
@@ -212,29 +222,32 @@ fn check_board(seed: u64, index: u64, counts: &mut CallCounts) -> Result<(), Str
     for _ in 0..session.calls {
         if let Some(mut damaged) = session.damaged() {
             let call = session.call();
+            check_question(&damaged, &mut counts.questions)?;
             check_call(&mut damaged, &call, counts)?;
         }
         let call = session.call();
+        check_question(&session.board, &mut counts.questions)?;
         check_call(&mut session.board, &call, counts)?;
     }
     Ok(())
 }
 
-/// Calls with a report area or with none, and calls with a panel.
-struct CallCounts {
-    report: Counts,
-    panel: Counts,
+/// Calls with a report area or with none, calls with a panel, and a question before each.
+pub struct CallCounts {
+    pub report: Counts,
+    pub panel: Counts,
+    pub questions: Counts,
 }
 
 /// Boards one after another, until there were so many calls.
-pub fn calls(seed: u64, calls: u64) -> Result<Vec<(&'static str, Counts)>, String> {
+pub fn calls(seed: u64, calls: u64) -> Result<CallCounts, String> {
     let report = Counts::new(&[0, 1, 2, 3, 4, 5, 6, 7, 10, 11, 13, 14, 15]);
     let panel = Counts::new(&[0, 2, 3, 4, 5, 6, 7, 10, 11, 13, 14, 15]);
-    let mut counts = CallCounts { report, panel };
+    let mut counts = CallCounts { report, panel, questions: Counts::new(&[0, 13]) };
     let mut index = 0;
     while counts.report.total() + counts.panel.total() < calls {
         check_board(seed, index, &mut counts).map_err(|what| format!("seed {seed}, board {index}: {what}"))?;
         index += 1;
     }
-    Ok(vec![("direct calls", counts.report), ("direct calls with a panel", counts.panel)])
+    Ok(counts)
 }

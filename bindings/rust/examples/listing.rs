@@ -1,7 +1,7 @@
 //! Document 01's listing as direct calls with a report buffer, as direct calls with a panel, and as a schedule file. Of a refused call with a report
 //! buffer this prints the line that the schedule program would print; a direct call's lines bear the number 0. The second call of station 2 is refused by
-//! 4 in all three: a scan has no snap of its own. Its scan shows station 1 alone, which has a job. After the calls with a panel station 1 is out of service
-//! for a while: a scan does not show it.
+//! 4 in all three: a scan has no snap of its own. Its scan shows station 1 alone, which has a job. Before the calls with a panel both stations have the
+//! newest's label, and after them station 1 alone. Then that one is out of service for a while: a scan does not show it.
 
 use std::io::{self, Write};
 use tickets::{code, Board, Record, MAX_STATIONS, REPORT_LINE};
@@ -46,6 +46,7 @@ fn main() -> io::Result<()> {
     }
     let mut board = Board::fresh(2).expect("2 stations");
     let mut panel = [Record::default(); MAX_STATIONS];
+    writeln!(out, "stations with the newest's label: {}", board.top_holders().unwrap_or(0))?;
     for (station, code, job) in CALLS {
         match board.step_panel(code, station, job, &mut panel) {
             Ok(written) => {
@@ -56,6 +57,7 @@ fn main() -> io::Result<()> {
             Err(refusal) => writeln!(out, "panel: refused by {refusal}")?,
         }
     }
+    writeln!(out, "stations with the newest's label: {}", board.top_holders().unwrap_or(0))?;
     for _ in 0..2 {
         writeln!(out, "station 1 leaves service: {}", board.leave_service(1).err().unwrap_or(0))?;
     }

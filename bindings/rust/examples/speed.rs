@@ -1,8 +1,9 @@
 //! speed [ROUNDS [CALLS]]: the direct step call, with its test of refusal 13, against the same call in plain Rust (`bench/src/plain.rs`): with a report
-//! buffer, and with a panel; and the test alone.
+//! buffer, and with a panel; the test alone; and the question how many stations have the newest's label, with its test.
 //!
 //! For each n all four run the same calls, all of them valid, from a fresh table, in turn and round after round; the least time of each is taken. The test
-//! alone is timed by calls with an unknown code, on tables reached by those calls and on one whose labels have all digits of a ring at late positions.
+//! alone is timed by calls with an unknown code, on tables reached by those calls and on one whose labels have all digits of a ring at late positions. The
+//! question is put to the tables that are reached.
 
 use std::hint::black_box;
 use std::time::Instant;
@@ -78,12 +79,26 @@ fn judged(rounds: u64, (tables, boards): &mut (Vec<Table>, Vec<Board>)) -> [f64;
     best
 }
 
+/// Nanoseconds for each question how many stations have the newest's label, in plain Rust and direct.
+fn asked(rounds: u64, (tables, boards): &(Vec<Table>, Vec<Board>)) -> [f64; 2] {
+    let questions = [(0, 0, 0); 20];
+    let mut best = [f64::MAX; 2];
+    for _ in 0..rounds {
+        let plain = tables.iter().map(|table| time(&questions, |_, _, _| assert_eq!(black_box(plain::top_holders(black_box(table))).0, 0)));
+        best[0] = best[0].min(plain.sum::<f64>() / tables.len() as f64);
+        let direct = boards.iter().map(|board| time(&questions, |_, _, _| assert!(black_box(black_box(board).top_holders()).is_ok())));
+        best[1] = best[1].min(direct.sum::<f64>() / boards.len() as f64);
+    }
+    best
+}
+
 fn main() {
     let mut arguments = std::env::args().skip(1).map(|a| a.parse().expect("a number"));
     let rounds = arguments.next().unwrap_or(200);
     let lines = arguments.next().unwrap_or(5000);
-    println!("                        report                         panel           13 alone, reached            13 alone, late digits");
-    println!(" n   plain ns  direct ns  ratio   plain ns  direct ns  ratio   plain ns  direct ns  ratio   plain ns  direct ns  ratio");
+    let kinds = ["report", "panel", "13 alone, reached", "13 alone, late digits", "question, reached"];
+    println!("  {}", kinds.map(|kind| format!("{kind:>29}")).concat());
+    println!(" n{}", "   plain ns  direct ns  ratio".repeat(kinds.len()));
     for n in [2, 4, 8, 16, 32] {
         let calls = calls(n, lines);
         let mut best = [f64::MAX; 4];
@@ -118,7 +133,9 @@ fn main() {
             }));
         }
         let columns = |plain: f64, direct: f64| format!("{plain:9.0}  {direct:9.0}  {:5.2}", direct / plain);
-        let [a, b] = [reached(n as usize, &calls), late_digits(n as usize)].map(|mut some| judged(rounds, &mut some));
-        println!("{n:2}  {}  {}  {}  {}", columns(best[0], best[1]), columns(best[2], best[3]), columns(a[0], a[1]), columns(b[0], b[1]));
+        let mut reached = reached(n as usize, &calls);
+        let (a, b, c) = (judged(rounds, &mut reached), judged(rounds, &mut late_digits(n as usize)), asked(rounds, &reached));
+        let pairs = [[best[0], best[1]], [best[2], best[3]], a, b, c];
+        println!("{n:2}{}", pairs.map(|[plain, direct]| format!("  {}", columns(plain, direct))).concat());
     }
 }

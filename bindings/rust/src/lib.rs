@@ -111,6 +111,14 @@ impl Answer {
     }
 }
 
+/// What is told of a board: the number of the refusal, 0 for none, and how many stations have the newest's label.
+#[repr(C)]
+#[derive(Clone, Copy, PartialEq, Eq, Debug)]
+pub struct Holders {
+    pub refusal: Refusal,
+    pub stations: u64,
+}
+
 // No padding, so every byte is a number's; the C header has the same layout.
 const _: () = {
     assert!(offset_of!(Board, jobs) == 8);
@@ -119,6 +127,7 @@ const _: () = {
     assert!(offset_of!(Board, control) == 10_440);
     assert!(size_of::<Board>() == 10_504 && align_of::<Board>() == 8);
     assert!(size_of::<Answer>() == 16 && align_of::<Answer>() == 8);
+    assert!(size_of::<Holders>() == 16 && align_of::<Holders>() == 8);
     assert!(size_of::<Record>() == 12 && align_of::<Record>() == 4);
 };
 
@@ -148,6 +157,7 @@ extern "C" {
         panel: *mut Record,
         panel_len: usize,
     ) -> Answer;
+    fn tickets_top_holders(count: u64, labels: &Labels, jobs: &Jobs, control: &Control, results: &Results) -> Holders;
     fn tickets_report(schedule: *const u8, schedule_len: usize, report: *mut u8, report_len: usize) -> Answer;
 }
 
@@ -226,6 +236,21 @@ impl Board {
     /// A station that is out of service returns.
     pub fn return_to_service(&mut self, station: u64) -> Result<(), Refusal> {
         self.step(code::RETURN_TO_SERVICE, station, 0, &mut []).map(drop)
+    }
+
+    /// How many stations have the newest's label, itself among them and those out of service too: 1 to n, or the refusal, 13. It is no step, and changes
+    /// nothing. Stations that snap before any of them updates can come to share it; those of a fresh table all do.
+    pub fn top_holders(&self) -> Result<usize, Refusal> {
+        match self.told() {
+            Holders { refusal: 0, stations } => Ok(stations as usize),
+            Holders { refusal, .. } => Err(refusal),
+        }
+    }
+
+    /// `top_holders` with the answer as it stands.
+    pub fn told(&self) -> Holders {
+        // SAFETY: the function is declared as the library exports it; it takes any number and any content of the arrays, and writes nothing.
+        unsafe { tickets_top_holders(self.count, &self.labels, &self.jobs, &self.control, &self.results) }
     }
 
     /// `step` with the answer as it stands.

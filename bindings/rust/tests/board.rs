@@ -1,10 +1,12 @@
-//! The compiled library against the plain Rust table of `bench`, which was written from documents 01 and 02 (Cards 1, 2 and 4) alone.
+//! The compiled library against the plain Rust table of `bench`, which was written from documents 01 and 02 (Cards 1, 2, 4 and 5) alone.
 
 use std::array::from_fn;
 use ticket_bench::generate::Random;
 use ticket_bench::plain::{self, Operation, Phase, Station, Table};
 use ticket_bench::FOLLOWS;
-use tickets::{code, refusal, Answer, Board, Record, CURRENT, JOBS, MAX_DIGITS, MAX_STATIONS, PENDING, PHASES, REPORT_LINE, SERVICE, STATIONS};
+use tickets::{
+    code, refusal, Answer, Board, Holders, Record, CURRENT, JOBS, MAX_DIGITS, MAX_STATIONS, PENDING, PHASES, REPORT_LINE, SERVICE, STATIONS,
+};
 
 /// The phases, in the order of their numbers.
 const NAMED: [Phase; 5] = [Phase::Idle, Phase::Snap, Phase::Update, Phase::End(Operation::Label), Phase::End(Operation::Scan)];
@@ -91,8 +93,18 @@ impl Guarded {
         Guarded { before: [0xa5; GUARD], board, after: [0x5a; GUARD], buffer: Vec::new(), panel: Vec::new() }
     }
 
-    /// Makes the call, and holds answer, board, report buffer or panel, and guards to what the plain step says. The refusal is returned.
+    /// Asks how many stations have the newest's label, and holds the answer, board and guards to what plain Rust says. The answer is returned.
+    fn ask(&self) -> Result<usize, u64> {
+        let before = self.board.clone();
+        let (refusal, stations) = table(&before).map_or((refusal::BOARD, 0), |table| plain::top_holders(&table));
+        assert_eq!(self.board.told(), Holders { refusal, stations: stations as u64 }, "{before:?}");
+        assert!(self.board == before && self.before == [0xa5; GUARD] && self.after == [0x5a; GUARD]);
+        self.board.top_holders()
+    }
+
+    /// Puts the question, makes the call, and holds answer, board, report buffer or panel, and guards to what the plain step says. The refusal is returned.
     fn call(&mut self, call: Call) -> u64 {
+        let asked = self.ask();
         let Call { code, station, job, lent } = call;
         let mut expected = self.board.clone();
         let mut table = table(&expected);
@@ -122,6 +134,7 @@ impl Guarded {
             expected = board(table);
         }
         let (refusal, written) = expected_answer;
+        assert_eq!(asked.is_err(), refusal == refusal::BOARD, "{call:?}");
         assert_eq!(answer, Answer { refusal, written: written as u64 }, "{call:?}");
         assert!(self.board == expected, "{call:?}");
         assert!(self.before == [0xa5; GUARD] && self.after == [0x5a; GUARD]);
@@ -778,6 +791,55 @@ fn labels_that_agree_before_each_position() {
                     assert!(refusal == 0 || may_close && refusal == refusal::BOARD, "{n} {q} {d} {e} {call:?}");
                 }
             }
+        }
+    }
+}
+
+/// How many stations have the newest's label: all of a fresh board; those that snapped together on it, one more with each update, in whatever order they
+/// update, in service or out of it; and one alone after the next ticket.
+#[test]
+fn who_shares_the_top() {
+    let mut random = Random(7);
+    for n in 2..=MAX_STATIONS as u64 {
+        let mut guarded = Guarded::new(Board::fresh(n).unwrap());
+        assert_eq!(guarded.ask(), Ok(n as usize));
+        guarded.board.leave_service(n).unwrap();
+        assert_eq!(guarded.ask(), Ok(n as usize));
+        // The newest, n, does not take part. The others snap together, and update in any order.
+        let mut others: Vec<u64> = (1..n).collect();
+        for code in [code::BEGIN_LABEL, code::SNAP] {
+            others.iter().for_each(|&station| answered(&mut guarded, code, station, 0));
+        }
+        assert_eq!(guarded.ask(), Ok(n as usize));
+        let mut updated = Vec::new();
+        while !others.is_empty() {
+            let station = others.swap_remove(random.below(others.len() as u64) as usize);
+            answered(&mut guarded, code::UPDATE, station, 0);
+            answered(&mut guarded, code::END, station, 0);
+            updated.push(station);
+            assert_eq!(guarded.ask(), Ok(updated.len()), "{n} {updated:?}");
+        }
+        updated.iter().for_each(|&station| answered(&mut guarded, code::LEAVE_SERVICE, station, 0));
+        assert_eq!(guarded.ask(), Ok(updated.len()));
+        guarded.board.return_to_service(n).unwrap();
+        take(&mut guarded.board, n);
+        assert_eq!(guarded.ask(), Ok(1));
+    }
+    for n in [0, 1, 33, u64::MAX] {
+        let mut board = Board::fresh(2).unwrap();
+        board.count = n;
+        assert_eq!(Guarded::new(board).ask(), Err(refusal::BOARD));
+    }
+}
+
+/// Labels that differ at one position alone are different ones, whichever it is and whatever their digits.
+#[test]
+fn labels_shared_but_for_one_digit() {
+    for n in 2..=MAX_STATIONS {
+        for (p, digit, k) in (0..n - 1).flat_map(|p| (2..=5).flat_map(move |digit| [1, n - 1].map(|k| (p, digit, k)))) {
+            let mut board = Board::fresh(n as u64).unwrap();
+            board.labels[CURRENT][..k].iter_mut().for_each(|label| label[p] = digit);
+            assert_eq!(Guarded::new(board).ask(), Ok(k), "{n} {p} {digit}");
         }
     }
 }

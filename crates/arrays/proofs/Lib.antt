@@ -4,3 +4,4 @@ pub mod States
 pub mod Fresh
 pub mod Samples
 pub mod PaperRule
+pub mod Questions

@@ -1,20 +1,23 @@
--- Samples P1 to P12, and those of Card 4, hold of the tables of every lawful form: computed on arrays without the test for 13, which no table on the way fails.
+-- Samples P1 to P12, and those of Cards 4 and 5, hold of the tables of every lawful form: computed on arrays without the test for 13, which no table on the way fails.
 use Prim.Native.Nat.{ℕ, _≤_}
 use native.Mathlib.Omega.{arith}
 use mathlib.Core.Path.{_≡_, refl, sym, ap, subst, _∙_}
 use mathlib.Core.List as Lists
 use mathlib.Core.List.{[], _∷_, _++_}
-use Rattle.basics.specs.Tests.{every, count, firstFrom, lastOf, newest, inserted, ordered, passing, tabulate}
+use Rattle.basics.specs.Tests.{every, count, firstFrom, lastOf, newest, inserted, ordered, passing, tabulate, All}
+use Rattle.basics.proofs.Facts.{all-append}
 use Rattle.label.specs.Labels as Labels
-use Rattle.label.specs.Labels.{below, next, agrees, firstDifference, labelBelow, labelBefore, nextLabel, others, level, newLabel}
+use Rattle.label.specs.Labels.{below, next, agrees, firstDifference, labelBelow, labelBefore, nextLabel, others, level, newLabel, holders}
 use Rattle.label.specs.Rows.{row}
 use Rattle.simulation.specs.Calls.{Call, unless, judgeIn}
 use Rattle.simulation.specs.Machine.{original, digits, pendingAfter, relabelled, scanOf, carryOut, State, fresh, step}
 use Rattle.transition.specs.Forms.{Form, freshTable, after}
-use Rattle.transition.specs.Samples.{call, labelled, shown, order, shownBy, reaches, scanShows, Holds, one, two, three, stalled, SamplesHold}
-use Rattle.transition.specs.Samples.{absent, ServiceSamplesHold}
+use Rattle.transition.specs.Questions.{topHolders, Tells}
+use Rattle.transition.specs.Samples.{call, labelled, shown, order, shownBy, reaches, scanShows, topHeld, Holds, one, two, three, together}
+use Rattle.transition.specs.Samples.{stalled, samples, absent, serviceSamples, topSamples, SamplesHold}
 use Rattle.transition.proofs.Reached.{Reached, reached-fresh}
-use Rattle.transition.proofs.Theorem.{Lawful, reached-held, reached-written, reached-next, same-after}
+use Rattle.transition.proofs.Theorem.{Lawful, reached-held, reached-written, reached-next, same-after, table-fresh, table-after}
+use Rattle.transition.proofs.Questions.{reached-tells}
 use Rattle.arrays.specs.Arrays.{Arrays, stateOf, arraysOf}
 use Rattle.arrays.specs.Form.{lent}
 use Rattle.arrays.proofs.States.{lent-lawful}
@@ -51,9 +54,16 @@ module _ (F : Form) (L : Lawful F) where
   scan-of-two : (cs : Lists.List Call) (k : ℕ) (l : Lists.List ℕ) → shownBy k (stateOf (carried 2 (freshTable lent 2) cs)) ≡ l → Holds F (scanShows 2 cs k l)
   scan-of-two cs k l = leads 2 (omega arith) (omega arith) F L (λ s. shownBy k s ≡ l) cs
 
-  pub samples-hold : SamplesHold F
-  unfolding shown order carried one two three stalled
-  samples-hold = (
+  held-by : (cs : Lists.List Call) {k : ℕ} → topHolders 3 (stateOf (carried 3 (freshTable lent 3) cs) .labels) ≡ k → Holds F (topHeld 3 cs k)
+  held-by cs {k} e =
+      let low : 2 ≤ 3 = omega arith in
+      let high : 3 ≤ 32 = omega arith in
+      subst (Tells F (after F (freshTable F 3) cs) 0) (leads 3 low high F L (λ s. topHolders 3 (s .labels) ≡ k) cs e)
+      (reached-tells F L 3 low high _ (table-after F L 3 low high cs (freshTable F 3) (table-fresh F L 3 low high)))
+
+  scope : All (Holds F) samples
+  unfolding shown order carried one two three together stalled
+  scope = (
     refl,
     (
       refl,
@@ -85,9 +95,9 @@ module _ (F : Form) (L : Lawful F) where
     ),
   )
 
-  pub service-samples-hold : ServiceSamplesHold F
+  service : All (Holds F) serviceSamples
   unfolding shown order shownBy carried one two three absent lastOf
-  service-samples-hold = (
+  service = (
     two-stations _ (refl, refl),
     (
       three-stations _ (refl, refl),
@@ -100,3 +110,10 @@ module _ (F : Form) (L : Lawful F) where
       ),
     ),
   )
+
+  shared : All (Holds F) topSamples
+  unfolding topHolders holders carried one two three together
+  shared = (held-by _ refl, (held-by _ refl, (held-by _ refl, (held-by _ refl, (held-by _ refl, tt)))))
+
+  pub samples-hold : SamplesHold F
+  samples-hold = all-append (Holds F) samples (serviceSamples ++ topSamples) scope (all-append (Holds F) serviceSamples topSamples service shared)

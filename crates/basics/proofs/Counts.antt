@@ -32,6 +32,11 @@ unfolding count
 count-none zero f e = refl
 count-none (suc n) f e = rw (e n (omega arith), count-none n f (λ j l. e j (omega arith))) refl
 
+pub count-all : (n : ℕ) (f : ℕ → Bool) → ((j : ℕ) → j < n → f j ≡ true) → count n f ≡ n
+unfolding count
+count-all zero f e = refl
+count-all (suc n) f e = rw (e n (omega arith), count-all n f (λ j l. e j (omega arith))) (omega arith)
+
 -- a test that passes where one of two others does, which never pass together
 pub count-sum : (n : ℕ) (f g h : ℕ → Bool) → ((j : ℕ) → j < n → cond (f j) 1 0 + cond (g j) 1 0 ≡ cond (h j) 1 0) → count n f + count n g ≡ count n h
 unfolding count

@@ -11,7 +11,7 @@ use lib.ListN.{length, getD}
 use lib.Dec.{eqb}
 use borrow.Author.Tests.{eq-eqb, ne-eqb}
 use Rattle.basics.specs.Tests.{count, inserted, ordered, passing, All}
-use Rattle.basics.proofs.Facts.{tf, below-suc}
+use Rattle.basics.proofs.Facts.{tf, below-suc, all-weaken}
 use Rattle.basics.proofs.Counts.{count-none, count-front}
 
 module _ {A : Type 0} (f : A → Bool) where
@@ -60,6 +60,11 @@ module _ {A : Type 0} (f : A → Bool) where
       go r true e = (h x (a .0) e, r)
       go r false e = r
 
+  pub passing-every : (l : Lists.List A) → All (λ x. f x ≡ true) l → passing f l ≡ l
+  unfolding passing
+  passing-every [] a = refl
+  passing-every (x ∷ l) a = passing-yes x l (a .0) ∙ ap (λ r. x ∷ r) (passing-every l (a .1))
+
   -- those that pass have their places
   pub places-passing : (d : A) → f d ≡ false → (l : Lists.List A) (n : ℕ) → count n (λ p. f (getD l p d)) ≤ length (passing f l)
   unfolding passing
@@ -107,9 +112,8 @@ unfolding without
 without-all P Q k f l a = passing-all _ P Q (λ j h e. f j h (λ q. tf e (rw (eq-eqb j k q) refl))) l a
 
 pub without-none : (k : ℕ) (l : Lists.List ℕ) → All (λ j. j ≢ k) l → without k l ≡ l
-unfolding without passing
-without-none k [] a = refl
-without-none k (j ∷ l) a = without-other k j l (a .0) ∙ ap (λ r. j ∷ r) (without-none k l (a .1))
+unfolding without
+without-none k l a = passing-every _ l (all-weaken {Q = λ j. not (eqb j k) ≡ true} (λ j d. ap not (ne-eqb j k d)) l a)
 
 pub without-own : (b : ℕ → ℕ → Bool) (k : ℕ) (l : Lists.List ℕ) → without k (inserted b k l) ≡ without k l
 unfolding inserted without passing
@@ -120,34 +124,38 @@ without-own b k (j ∷ l) = go (without-own b k l) (b k j)
     go r true = without-it k k (j ∷ l) refl
     go r false = ap (λ t. cond (not (eqb j k)) (j ∷ t) t) r
 
+-- THE ORDER OF n PROCESSES: as many pass there as of the numbers below n
+
+passing-inserted : (f : ℕ → Bool) (b : ℕ → ℕ → Bool) (j : ℕ) (l : Lists.List ℕ) → length (passing f (inserted b j l)) ≡ cond (f j) 1 0 + length (passing f l)
+unfolding inserted
+passing-inserted f b j [] = passing-cons f j []
+passing-inserted f b j (k ∷ l) = go (passing-inserted f b j l) (b j k)
+  where
+    go : length (passing f (inserted b j l)) ≡ cond (f j) 1 0 + length (passing f l)
+        → (x : Bool) → length (passing f (elim x [ true ↦ j ∷ k ∷ l | false ↦ k ∷ inserted b j l ])) ≡ cond (f j) 1 0 + length (passing f (k ∷ l))
+    go r true = passing-cons f j (k ∷ l)
+    go r false = passing-cons f k (inserted b j l) ∙ omega (arith, r, passing-cons f k l)
+
+pub passing-ordered : (f : ℕ → Bool) (b : ℕ → ℕ → Bool) (k : ℕ) → length (passing f (ordered k b)) ≡ count k f
+unfolding ordered passing count
+passing-ordered f b zero = refl
+passing-ordered f b (suc k) = passing-inserted f b k (ordered k b) ∙ ap (λ c. cond (f k) 1 0 + c) (passing-ordered f b k)
+
 -- HOW OFTEN A NUMBER STANDS IN A LIST: in the order of n processes once, for each of them
 
 -- i in the list l
 abbrev pub occurs : ℕ → Lists.List ℕ → ℕ
 occurs i l = length (passing (λ j. eqb j i) l)
 
-occurs-cons : (i x : ℕ) (l : Lists.List ℕ) → occurs i (x ∷ l) ≡ cond (eqb x i) 1 0 + occurs i l
-occurs-cons i x l = passing-cons (λ j. eqb j i) x l
-
-occurs-inserted : (b : ℕ → ℕ → Bool) (i j : ℕ) (l : Lists.List ℕ) → occurs i (inserted b j l) ≡ cond (eqb j i) 1 0 + occurs i l
-unfolding inserted
-occurs-inserted b i j [] = occurs-cons i j []
-occurs-inserted b i j (k ∷ l) = go (occurs-inserted b i j l) (b j k)
-  where
-    go : occurs i (inserted b j l) ≡ cond (eqb j i) 1 0 + occurs i l
-        → (x : Bool) → occurs i (elim x [ true ↦ j ∷ k ∷ l | false ↦ k ∷ inserted b j l ]) ≡ cond (eqb j i) 1 0 + occurs i (k ∷ l)
-    go r true = occurs-cons i j (k ∷ l)
-    go r false = occurs-cons i k (inserted b j l) ∙ omega (arith, r, occurs-cons i k l)
-
 occurs-none : (b : ℕ → ℕ → Bool) (i k : ℕ) → k ≤ i → occurs i (ordered k b) ≡ 0
 unfolding ordered passing
 occurs-none b i zero h = refl
-occurs-none b i (suc k) h = occurs-inserted b i k (ordered k b) ∙ rw (occurs-none b i k (omega arith), ne-eqb k i (λ e. omega arith)) refl
+occurs-none b i (suc k) h = passing-inserted (λ j. eqb j i) b k (ordered k b) ∙ rw (occurs-none b i k (omega arith), ne-eqb k i (λ e. omega arith)) refl
 
 pub ordered-once : (b : ℕ → ℕ → Bool) (i k : ℕ) → i < k → occurs i (ordered k b) ≡ 1
 unfolding ordered
 ordered-once b i zero h = absurd (not-suc-le-zero h)
-ordered-once b i (suc k) h = occurs-inserted b i k (ordered k b) ∙ go (ordered-once b i k) (below-suc h)
+ordered-once b i (suc k) h = passing-inserted (λ j. eqb j i) b k (ordered k b) ∙ go (ordered-once b i k) (below-suc h)
   where
     go : (i < k → occurs i (ordered k b) ≡ 1) → (i ≡ k) ⊎ (i < k) → cond (eqb k i) 1 0 + occurs i (ordered k b) ≡ 1
     go r (inl e) = rw (occurs-none b i k (omega arith), eq-eqb k i (sym e)) refl

@@ -33,7 +33,7 @@ fn fits(n: Command) -> bool {
         b'j' | b'w' => below(n, 32, 1, 1, 4294967296),
         b'u' => below(n, 32, 1, 2, 1),
         b'c' => below(n, 32, 32, 1, 1),
-        b't' => below(n, 1, 1, 1, 1),
+        b'a' | b't' => below(n, 1, 1, 1, 1),
         b'x' => below(n, 4294967296, 1, 1, 1),
         _ => false,
     }

@@ -1,7 +1,7 @@
-// Direct calls of the steps, as the command file on standard input asks for them. The file is run twice: step calls get their tables by value, and then
-// from an owner that lends them. Calls by name and sessions get them by value both times, and calls with a panel from an owner both times. A call shows the
+// Direct calls of the steps, as the command file on standard input asks for them. The file is run twice: step calls and questions get their tables by value, and
+// then from an owner that lends them. Calls by name and sessions get them by value both times, and calls with a panel from an owner both times. A call shows the
 // buffer or the panel, its refusal number and its count, of bytes or of records. The file `stdout` beside this folder has what document 01 asks with Cards 1,
-// 2 and 4.
+// 2, 4 and 5.
 //
 // A line that starts with # or is empty is shown as it is. Any other is a command: a letter and four columns of 12 bytes, with 0 in those that it
 // does not use; or one of `o` and `v`, which end with a line of a schedule file. Places and positions count from 0. A bad line ends the run.
@@ -10,6 +10,7 @@
 //     s code station job room    makes a step call that lends so many bytes, each a dot
 //     n code station job room    makes the call that has the step's name; only a begin takes the job, and only an end the room
 //     r code station job records makes a step call that lends so many of a panel's 32 records, and shows all of these, each a dot if it stayed
+//     a                          asks how many stations have the newest's label, and shows the refusal number and the count
 //     l place                    shows the first two digits of the label
 //     d place position digit     changes a digit of the label
 //     p place position digit     changes a digit of the pending label
@@ -28,6 +29,7 @@ mod panels;
 mod sessions;
 
 use commands::Command;
+use engine::Holders;
 use engine::Reply;
 use libc::STDIN_FILENO;
 use libc::STDOUT_FILENO;
@@ -87,6 +89,23 @@ fn call(t: Table, form: u64, c: Command) -> Table {
     shown(t, form, c, &mut buffer[..n])
 }
 
+// Puts the question to a table in one of its forms.
+fn told(t: Table, form: u64) -> Holders {
+    match form {
+        LENT => lent_table::top_holders_owned(t),
+        _ => step::top_holders(t),
+    }
+}
+
+// Asks how many stations have the newest's label, and shows the answer.
+fn ask(t: Table, form: u64) -> Table {
+    let h = told(t, form);
+    let refusal = h.refusal;
+    number(b' ', refusal.number());
+    number(b':', h.stations as u64);
+    t
+}
+
 // Obeys a command on the table.
 fn obey(t: Table, form: u64, c: Command) -> Table {
     let letter = c.letter;
@@ -96,6 +115,7 @@ fn obey(t: Table, form: u64, c: Command) -> Table {
         b's' => call(t, form, c),
         b'n' => call(t, c.a, c),
         b'r' => panels::call(t, c),
+        b'a' => ask(t, form),
         _ => edits::edited(t, c),
     }
 }
@@ -106,7 +126,7 @@ fn bad() {
 
 // Obeys the lines of a file, up to a bad one.
 fn run(form: u64, file: &[u8])
-    requires { ⌜ length (now file) ≤ 131072 ⌝ }
+    requires { ⌜ length (now file) ≤ 262144 ⌝ }
 {
     let mut t = Table::fresh(2);
     let mut s = session::open(&file[..0]);
@@ -127,7 +147,7 @@ fn run(form: u64, file: &[u8])
 }
 
 fn main() {
-    let mut buffer = [0; 131072];
+    let mut buffer = [0; 262144];
     let n = io::read_full(STDIN_FILENO, &mut buffer);
     run(0, &buffer[..n]);
     run(LENT, &buffer[..n]);

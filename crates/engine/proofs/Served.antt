@@ -10,7 +10,8 @@ use lib.Dec.{eqb}
 use borrow.Author.Tests.{leb-true, le-leb}
 use Rattle.basics.specs.Tests.{within, newest, ordered, tabulate}
 use Rattle.basics.proofs.Facts.{last, ordered-length, length-tabulate}
-use Rattle.rows.specs.Held.{standsIn, Orderly}
+use Rattle.label.specs.Labels.{holders}
+use Rattle.rows.specs.Held.{held, standsIn, Orderly}
 use Rattle.rows.proofs.OrderLaws.{listed-below, order-front}
 use Rattle.simulation.specs.Calls as Calls
 use Rattle.simulation.specs.Calls.{Room, Call, place, Entry, holds, judgeIn, judge, PanelRecord, reportLines, panelRecords, Report, size, written}
@@ -18,6 +19,7 @@ use Rattle.simulation.specs.Machine.{digits, labelsAfter, answer, step}
 use Rattle.simulation.proofs.Judged.{Verdict, turned, begins, scans, updates, snaps, ends, service, judge-unknown-station, scan-ends, verdict}
 use Rattle.simulation.proofs.Reports.{records-length}
 use Rattle.transition.specs.Forms.{Form, TableAnswer, over, onto, answered, stepOf}
+use Rattle.transition.specs.Questions.{topHolders, Tells}
 use Rattle.transition.specs.Sequences.{Steps}
 use Rattle.transition.proofs.Theorem.{step-written, step-ill-formed}
 use Rattle.moves.specs.Moves.{refusalNumber, moveOf, called}
@@ -260,3 +262,12 @@ order-inside {a} {order = order} s e p h = omega (
   s .high,
   listed-below _ _ _ (order-front 32 (standsIn (a .count) (getD (a .labels) 0 [])) (a .count) order (s .isOrder e)) p h,
 )
+
+-- WHO SHARES THE TOP (02, Card 5): what is told of a table that is not well-formed, and of one that is, by its newest station and those that have its label
+pub tells-ill-formed : (a : Arrays) → wellFormed a ≡ false → Tells lent a 13 0
+tells-ill-formed a e = record { number = rw e refl; count = rw e refl }
+
+pub tells-well-formed : (a : Arrays) → wellFormed a ≡ true → let n = a .count in let rows = getD (a .labels) 0 [] in
+    (z k : ℕ) → z ≡ newest n (standsIn n rows) → k ≡ holders n (n - 1) (held rows) z → Tells lent a 0 k
+unfolding topHolders
+tells-well-formed a e z k p q = record { number = rw e refl; count = rw e (q ∙ ap (holders (a .count) (a .count - 1) (held (getD (a .labels) 0 []))) p) }

@@ -1,4 +1,4 @@
-// The one engine: step calls on a table in four arrays, which are lent and changed in place.
+// The one engine: step calls on a table in four arrays, which are lent and changed in place, and a question to it, which changes nothing.
 ghost use mathlib.Core.Path.{_≡_};
 ghost use mathlib.Core.Logic.{_≢_};
 ghost use mathlib.Core.Bool.{true};
@@ -9,6 +9,7 @@ ghost use Rattle.basics.specs.Tests.{newest};
 ghost use Rattle.rows.specs.Held.{standsIn, Orderly};
 ghost use Rattle.simulation.specs.Calls.{Buffer, Panel, reportLines, panelRecords, Bytes, Records};
 ghost use Rattle.transition.specs.Forms.{over};
+ghost use Rattle.transition.specs.Questions.{Tells};
 ghost use Rattle.transition.specs.Sequences.{Steps};
 ghost use Rattle.moves.specs.Moves.{roomOf, refusalNumber};
 ghost use Rattle.moves.specs.declared.Move.the-variants.{SnapLabel, SnapScan};
@@ -290,7 +291,10 @@ fn newest_for(m: Move, rows: &[[u8; 31]; 32], n: usize) -> usize
     ensures { λ r. ⌜ (m ≢ SnapLabel → r ≡ 0) ⌝ }
 {
     match m {
-        Move::SnapLabel => rows::order::newest(rows, n),
+        Move::SnapLabel => {
+            let top = rows::order::newest(rows, n);
+            top.station
+        }
         _ => 0,
     }
 }
@@ -406,5 +410,35 @@ pub fn step_shown(
     Reply {
         refusal,
         written: shown,
+    }
+}
+
+// What is told of a table: the refusal, and how many stations have the newest's label; none if it is refused.
+pub struct Holders {
+    pub refusal: Refusal,
+    pub stations: usize,
+}
+
+// How many stations of a table of unknown content have the newest's label. 13 is judged first, on all that is lent.
+pub fn top_holders(
+    count: u64,
+    labels: &Labels,
+    jobs: &Jobs,
+    control: &Control,
+    results: &Results,
+) -> Holders
+    ensures { λ r. ⌜ Tells lent (arrays count (now (labels .entry)) (now (jobs .entry)) (now (control .entry)) (now (results .entry)))
+        (refusalNumber (r .refusal)) (r .stations) ⌝ }
+{
+    if well_formed::well_formed(count, labels, jobs, control, results) {
+        let top = rows::order::newest(&labels[CURRENT], count as usize);
+        return Holders {
+            refusal: Refusal::Accepted,
+            stations: top.holders,
+        };
+    }
+    Holders {
+        refusal: Refusal::IllFormedTable,
+        stations: 0,
     }
 }

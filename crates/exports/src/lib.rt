@@ -1,9 +1,10 @@
-// The functions exported to programs in C and Rust: step calls on a table in four arrays, which its owner lends, and whole schedule files.
+// The functions exported to programs in C and Rust: step calls on a table in four arrays, which its owner lends, a question to it, and whole schedule files.
 ghost use mathlib.Core.Path.{_≡_};
 ghost use mathlib.Core.Logic.{_≢_};
 ghost use mathlib.Core.List.{map};
 ghost use lib.ListN.{length};
 ghost use Rattle.simulation.specs.Calls.{Buffer, Panel, Bytes, Records};
+ghost use Rattle.transition.specs.Questions.{Tells};
 ghost use Rattle.transition.specs.Sequences.{Steps};
 ghost use Rattle.moves.specs.Moves.{called};
 ghost use Rattle.arrays.specs.Arrays.{arrays};
@@ -102,6 +103,35 @@ pub extern "C" fn tickets_step_panel(
     Answer {
         refusal: refusal.number(),
         written: shown.written as u64,
+    }
+}
+
+// What is told of a table: the documents' number, 0 if it is well-formed, and how many stations have the newest's label.
+#[repr(C)]
+pub struct Holders {
+    pub refusal: u64,
+    pub stations: u64,
+}
+
+// How many stations have the newest's label: a question, which changes nothing. 13 is judged on all that is lent, and counts none.
+#[no_mangle]
+pub extern "C" fn tickets_top_holders(
+    count: u64,
+    labels: &Labels,
+    jobs: &Jobs,
+    control: &Control,
+    results: &Results,
+) -> Holders
+    ensures { λ r. ⌜ Tells lent (arrays count (now (labels .entry)) (now (jobs .entry)) (now (control .entry)) (now (results .entry)))
+        (r .refusal) (r .stations) ⌝ }
+    ensures { λ _. ⌜ arrays count (now (labels .exit)) (now (jobs .exit)) (now (control .exit)) (now (results .exit))
+        ≡ arrays count (now (labels .entry)) (now (jobs .entry)) (now (control .entry)) (now (results .entry)) ⌝ }
+{
+    let told = engine::top_holders(count, labels, jobs, control, results);
+    let refusal = told.refusal;
+    Holders {
+        refusal: refusal.number(),
+        stations: told.stations as u64,
     }
 }
 

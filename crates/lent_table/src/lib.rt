@@ -1,10 +1,13 @@
-// The step calls on a table that its owner lends. Each calls the step by value of the same name.
+// The step calls on a table that its owner lends, and a question to it. Each calls the function on a table by value that has its name.
+ghost use mathlib.Core.Path.{_≡_};
 ghost use mathlib.Core.List.{[]};
 ghost use lib.ListN.{length};
 ghost use Rattle.simulation.specs.Calls.{Buffer, Bytes};
+ghost use Rattle.transition.specs.Questions.{Tells};
 ghost use Rattle.transition.specs.Sequences.{Steps};
 ghost use Rattle.moves.specs.Moves.{refusalNumber, called};
 ghost use Rattle.table.specs.Tables.{declared};
+use engine::Holders;
 use engine::Reply;
 use step::Outcome;
 use table::Table;
@@ -89,6 +92,13 @@ pub fn return_to_service(t: &mut Table, station: u64) -> Reply
     next.reply
 }
 
+// How many stations have the newest's label: a question, for which the table is lent and not changed.
+pub fn top_holders(t: &Table) -> Holders
+    ensures { λ r. ⌜ Tells declared (now (t .entry)) (refusalNumber (r .refusal)) (r .stations) × (now (t .exit) ≡ now (t .entry)) ⌝ }
+{
+    step::top_holders(*t)
+}
+
 // The owner of a table lends it for a step call, and hands it back: whoever calls this has no reference to a table.
 pub fn step_owned(t: Table, code: u64, station: u64, job: u64, report: &mut [u8]) -> Outcome
     ensures { λ r. ⌜ Steps declared t (called 0 code station job (Buffer (length (now (report .entry))))) (Bytes (now (report .entry)))
@@ -97,4 +107,12 @@ pub fn step_owned(t: Table, code: u64, station: u64, job: u64, report: &mut [u8]
     let mut own = t;
     let reply = step(&mut own, code, station, job, report);
     Outcome { table: own, reply }
+}
+
+// The owner of a table lends it for the question how many stations have the newest's label.
+pub fn top_holders_owned(t: Table) -> Holders
+    ensures { λ r. ⌜ Tells declared t (refusalNumber (r .refusal)) (r .stations) ⌝ }
+{
+    let own = t;
+    top_holders(&own)
 }

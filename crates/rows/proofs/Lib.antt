@@ -1,3 +1,4 @@
 pub mod OrderLaws
+pub mod NewestLaws
 pub mod ChoiceLaws
 pub mod Rings

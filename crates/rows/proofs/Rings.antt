@@ -13,7 +13,7 @@ use Rattle.basics.specs.Tests.{every}
 use Rattle.label.specs.Labels.{Label, agrees}
 use Rattle.label.specs.Rows.{noRing}
 use Rattle.rows.specs.Held.{held, some, hasDigit, hasAll, partsWith, noRingAt}
-use Rattle.basics.proofs.Facts.{tf, is-false, is-true, and-both, both, every-all, every-at, every-no, every-same}
+use Rattle.basics.proofs.Facts.{tf, is-false, is-true, same-test, and-both, both, every-all, every-at, every-no, every-same}
 use Rattle.label.proofs.Order.{Agree, agrees-true, agree-agrees}
 use Rattle.label.proofs.RowLaws.{ring, ring-true, ring-of}
 
@@ -53,12 +53,6 @@ module _ (rows : List (List ℕ)) (j p d : ℕ) (h : 1 < d) where
   pub reads-not : getD (getD rows j []) p 0 ≢ d → eqb (held rows j p) d ≡ false
   reads-not n = ne-eqb _ d (λ e. n (read-else (getD rows j []) p 1 0 d h (omega arith) e))
 
--- two tests that pass alike are one
-alike : (a b : Bool) → (a ≡ true → b ≡ true) → (b ≡ true → a ≡ true) → a ≡ b
-alike true b p q = sym (p refl)
-alike false true p q = q refl
-alike false false p q = refl
-
 module _ (n : ℕ) (t : ℕ → Label) (p i : ℕ) where
   abbrev parting : ℕ → ℕ → Bool
   parting d j = eqb (t j p) d && agrees p (t i) (t j)
@@ -87,7 +81,7 @@ module _ (n : ℕ) (t : ℕ → Label) (p i : ℕ) where
 
   -- whether some ring has its 3 there
   ring-there : noRingAt n t p i ≡ every n (λ j. every n (λ k. not (ring t i p j k)))
-  ring-there = alike _ _
+  ring-there = same-test _ _
       (λ e. every-all n _ (λ j lj. every-all n _ (λ k lk. ap not (is-false (λ h. tf e (ring-parts j k lj lk h))))))
       (λ e. is-true (λ h. let r = parts-ring h in tf (r .4) (not-true _ (every-at n _ (every-at n _ e (r .0) (r .2)) (r .1) (r .3)))))
 

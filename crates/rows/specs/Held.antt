@@ -2,12 +2,12 @@
 use Prim.Native.Nat.{ℕ, _-_, _≤_, _<_}
 use mathlib.Core.Path.{_≡_}
 use mathlib.Core.Logic.{_≢_}
-use mathlib.Core.Bool.{Bool, true, not, _&&_, cond}
+use mathlib.Core.Bool.{Bool, true, false, not, _&&_, cond}
 use mathlib.Core.List.{List, [], _++_}
 use lib.ListN.{getD, replicate}
 use lib.Dec.{eqb}
 use Rattle.basics.specs.Tests.{every, newest, ordered}
-use Rattle.label.specs.Labels.{Label, agrees, labelBefore, newLabel}
+use Rattle.label.specs.Labels.{Label, agrees, labelBefore, newLabel, holders}
 use Rattle.label.specs.Rows.{digit, row, noRing}
 use Rattle.label.specs.Valid.{Valid}
 
@@ -31,6 +31,12 @@ pub record OrderedBefore (n : ℕ) (rows : List (List ℕ)) (k : ℕ) (order : L
   pub orderly : Orderly n old
   pub others : (i : ℕ) → i < n → i ≢ k → held old i ≡ held rows i
   pub listed : order ≡ ordered n (standsIn n old) ++ replicate (32 - n) 0
+
+-- of the first k of n stations z is the newest, and c of them have its label
+pub record Leads (n : ℕ) (rows : List (List ℕ)) (k z c : ℕ) : Type 0 where
+  pub inside : z < k
+  pub last : (i : ℕ) → i < k → standsIn n rows z i ≡ false
+  pub counted : c ≡ holders k (n - 1) (held rows) z
 
 -- the pending label that a snap for a label leaves at place k, where `own` stands: the newest station keeps its own
 unfoldable pub pendingIn : ℕ → List (List ℕ) → ℕ → List ℕ → List ℕ

@@ -7,22 +7,60 @@ ghost use Prim.Native.Nat.{ℕ, _+_, _-_, _≤_, _<_};
 ghost use lib.ListN.{length, getD, take, drop, replicate};
 ghost use lib.Dec.{eqb};
 ghost use Rattle.basics.specs.Tests.{firstFrom, newest, ordered};
-ghost use Rattle.rows.specs.Held.{standsIn, Orderly, OrderedBefore};
+ghost use Rattle.label.specs.Labels.{holders};
+ghost use Rattle.rows.specs.Held.{held, standsIn, Orderly, OrderedBefore, Leads};
 
-// The newest of n stations: the one that all others stand before.
-pub fn newest(rows: &[[u8; 31]; 32], n: usize) -> usize
-    requires { ⌜ Orderly n (now rows) ⌝ }
-    ensures { λ r. ⌜ r ≡ newest n (standsIn n (now (rows .entry))) ⌝ }
+// The newest station, and how many stations have its label, the newest itself among them.
+pub struct Top {
+    pub station: usize,
+    pub holders: usize,
+}
+
+// The newest so far, where no other so far has its label.
+fn alone(station: usize) -> Top
+    ensures { λ r. ⌜ r ≡ record { station = station; holders = 1 } ⌝ }
 {
-    let mut z: usize = 0;
+    Top {
+        station,
+        holders: 1,
+    }
+}
+
+// The newest of the first j stations, and how many of them have its label, are known: the same of these and station j.
+fn with_next(rows: &[[u8; 31]; 32], n: usize, top: Top, j: usize) -> Top
+    requires { ⌜ Orderly n (now rows) ⌝ }
+    requires { ⌜ j < n ⌝ }
+    requires { ⌜ Leads n (now rows) j (top .station) (top .holders) ⌝ }
+    ensures { λ r. ⌜ Leads n (now (rows .entry)) (j + 1) (r .station) (r .holders) ⌝ }
+{
+    let m = n - 1;
+    let z = top.station;
+    let p = label::first_difference(rows[z], rows[j], m);
+    if p < m {
+        if label::below_at(rows[z], rows[j], p) {
+            return alone(j);
+        }
+        return top;
+    }
+    Top {
+        station: j,
+        holders: top.holders + 1,
+    }
+}
+
+// The newest of n stations, the one that all others stand before, and how many of them have its label: in one pass.
+pub fn newest(rows: &[[u8; 31]; 32], n: usize) -> Top
+    requires { ⌜ Orderly n (now rows) ⌝ }
+    ensures { λ r. ⌜ r .station ≡ newest n (standsIn n (now (rows .entry))) ⌝ }
+    ensures { λ r. ⌜ r .holders ≡ holders n (n - 1) (held (now (rows .entry))) (r .station) ⌝ }
+{
+    let mut top = alone(0);
     let mut j: usize = 1;
     while j < n {
-        if label::label_before(rows[z], z, rows[j], j, n - 1) {
-            z = j;
-        }
+        top = with_next(rows, n, top, j);
         j += 1;
     }
-    z
+    top
 }
 
 // How many of the stations in the first m places of `order`, which stand there oldest first, stand before station k: by binary search.

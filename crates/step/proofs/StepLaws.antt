@@ -12,6 +12,7 @@ use Rattle.basics.proofs.Facts.{tabulate-same}
 use Rattle.simulation.specs.Calls as Calls
 use Rattle.simulation.specs.Calls.{Call, Panel, PanelRecord, panelRecords, Report, Bytes, Records, size}
 use Rattle.transition.specs.Forms.{TableAnswer, over, onto, stepOf}
+use Rattle.transition.specs.Questions.{Tells}
 use Rattle.transition.specs.Sequences.{Steps}
 use Rattle.transition.proofs.Theorem.{step-written, step-ill-formed, step-kept}
 use Rattle.moves.specs.Moves.{refusalNumber, called}
@@ -81,6 +82,12 @@ pub empty-buffer : {t t′ : Table} {c : Call} {number written : ℕ} (buffer : 
     → length buffer ≡ 0 → Steps declared t c (Bytes []) t′ number written (Bytes [])
 empty-buffer [] s e = s
 empty-buffer (x ∷ l) s e = absurd (omega arith)
+
+-- what is told of the arrays of a table is told of the table (02, Card 5)
+pub tells-declared : (t : Table) {a : Arrays} {number stations : ℕ} → a ≡ apart t → Tells lent a number stations → Tells declared t number stations
+unfolding apart
+tells-declared t {a} {number} {stations} e s =
+    let r = subst (λ (u : Arrays). Tells lent u number stations) e s in record { number = r .number; count = r .count }
 
 -- A CALL WITH A PANEL
 

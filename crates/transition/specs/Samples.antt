@@ -1,4 +1,4 @@
--- Samples P1 to P12 (01, "Shop samples"): one table, and one statement for all its rows; and a table of samples of Card 4 (02).
+-- Samples P1 to P12 (01, "Shop samples"), and samples of Cards 4 and 5 (02): one statement for all rows.
 use Prim.Native.Nat.{ℕ, suc, _-_}
 use mathlib.Core.Path.{_≡_}
 use mathlib.Core.Bool.{true, false, cond}
@@ -13,6 +13,7 @@ use Rattle.label.specs.Rows.{digit}
 use Rattle.simulation.specs.Calls.{Call, Buffer, Entry}
 use Rattle.simulation.specs.Machine.{digits, stands, State}
 use Rattle.transition.specs.Forms.{Form, freshTable, after}
+use Rattle.transition.specs.Questions.{Tells}
 
 -- a direct call of station s; a label operation begins with the job 7
 unfoldable pub call : ℕ → ℕ → Call
@@ -35,18 +36,20 @@ unfoldable pub shownBy : ℕ → State Labels.Label → Lists.List ℕ
 shownBy k s = map (λ (e : Entry). e .station) (s .rest .result (k - 1))
 
 -- a row: two digits, or two labels, of which the first is below the second; or n, the calls on the fresh table of n, and the labels and the order they lead
--- to; or n, the calls, a station, and the stations that its scan result then shows
+-- to; or n, the calls, a station, and the stations that its scan result then shows; or n, the calls, and how many stations then hold the top label
 pub data Sample : Type 0 where
   digitsBelow : ℕ → ℕ → Sample
   labelsBelow : Lists.List ℕ → Lists.List ℕ → Sample
   reaches : ℕ → Lists.List Call → Lists.List (Lists.List ℕ) → Lists.List ℕ → Sample
   scanShows : ℕ → Lists.List Call → ℕ → Lists.List ℕ → Sample
+  topHeld : ℕ → Lists.List Call → ℕ → Sample
 
 abbrev pub Holds : Form → Sample → Type 0
 Holds F (digitsBelow d e) = below d e ≡ true
 Holds F (labelsBelow a b) = labelBelow (length a) (digit a) (digit b) ≡ true
 Holds F (reaches n cs l o) = let s = F .state (after F (freshTable F n) cs) in (shown n s ≡ l) × (order n s ≡ o)
 Holds F (scanShows n cs k l) = shownBy k (F .state (after F (freshTable F n) cs)) ≡ l
+Holds F (topHeld n cs k) = Tells F (after F (freshTable F n) cs) 0 k
 
 -- lists of one, two and three
 unfoldable pub one : {A : Type 0} → A → Lists.List A
@@ -57,6 +60,10 @@ two a b = a ∷ b ∷ []
 
 unfoldable pub three : {A : Type 0} → A → A → A → Lists.List A
 three a b c = a ∷ b ∷ c ∷ []
+
+-- 1 and 2 snap, then both update
+unfoldable pub together : Lists.List Call
+together = call 1 1 ∷ call 2 1 ∷ call 1 3 ∷ call 2 3 ∷ call 1 4 ∷ call 2 4 ∷ []
 
 -- 1 and 2 snap, 1 updates and ends, then 3, 1, 3, 1 take labels
 unfoldable pub stalled : Lists.List Call
@@ -72,15 +79,11 @@ samples =
     ∷ reaches 3 (labelled (three 1 2 3)) (three (two 2 1) (two 2 2) (two 3 1)) (three 1 2 3)
     ∷ reaches 3 (labelled (three 1 2 3 ++ three 1 2 3)) (three (two 3 2) (two 4 1) (two 4 2)) (three 1 2 3)
     ∷ reaches 3 (labelled (three 1 2 3 ++ three 1 2 3 ++ three 1 2 3)) (three (two 5 1) (two 5 2) (two 3 1)) (three 1 2 3)
-    ∷ reaches 3 (call 1 1 ∷ call 2 1 ∷ call 1 3 ∷ call 2 3 ∷ call 1 4 ∷ call 2 4 ∷ []) (three (two 2 1) (two 2 1) (two 1 1)) (three 3 1 2)
+    ∷ reaches 3 together (three (two 2 1) (two 2 1) (two 1 1)) (three 3 1 2)
     ∷ reaches 3 stalled (three (two 2 5) (two 1 1) (two 2 4)) (three 2 3 1)
     ∷ reaches 3 (stalled ++ one (call 2 4)) (three (two 2 5) (two 2 1) (two 2 4)) (three 2 3 1)
     ∷ reaches 3 (stalled ++ two (call 2 4) (call 2 5) ++ labelled (one 2)) (three (two 2 5) (two 3 1) (two 2 4)) (three 3 1 2)
     ∷ []
-
--- they hold of the tables of a form
-abbrev pub SamplesHold : Form → Type 0
-SamplesHold F = All (Holds F) samples
 
 -- OUT OF SERVICE (02, Card 4). A station takes a label and leaves service, another takes a label, and the first returns: the second has seen its label.
 unfoldable pub absent : Lists.List Call
@@ -97,5 +100,17 @@ serviceSamples =
     ∷ scanShows 2 (labelled (two 1 2) ++ two (call 2 2) (call 1 6)) 2 (two 1 2)
     ∷ []
 
-abbrev pub ServiceSamplesHold : Form → Type 0
-ServiceSamplesHold F = All (Holds F) serviceSamples
+-- WHO SHARES THE TOP (02, Card 5): all stations of a fresh table; the two of P9, also when one of them, the newest or the other, is out of service; and one
+-- alone
+abbrev pub topSamples : Lists.List Sample
+topSamples =
+    topHeld 3 [] 3
+    ∷ topHeld 3 together 2
+    ∷ topHeld 3 (together ++ two (call 1 5) (call 1 6)) 2
+    ∷ topHeld 3 (together ++ two (call 2 5) (call 2 6)) 2
+    ∷ topHeld 3 (labelled (three 1 2 3)) 1
+    ∷ []
+
+-- they all hold of the tables of a form
+abbrev pub SamplesHold : Form → Type 0
+SamplesHold F = All (Holds F) (samples ++ serviceSamples ++ topSamples)

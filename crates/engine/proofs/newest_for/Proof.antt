@@ -7,7 +7,7 @@ use Rattle.engine.proofs.newest_for.Statement.{statement}
 use Rattle.engine.proofs.newest_for.Tie as tie
 
 returns : tie.Need-returns
-returns c = (λ e. c .newest .ensures, λ d. absurd (d (c .before .enum-told .given .1)))
+returns c = (λ e. c .newest .ensures .0, λ d. absurd (d (c .before .enum-told .given .1)))
 
 returns-2 : tie.Need-returns-2
 returns-2 c = (λ e. absurd (not-among (0 ∷ 1 ∷ 3 ∷ 4 ∷ 5 ∷ 6 ∷ 7 ∷ 8 ∷ []) SnapLabel tt (c .before .args .m) (c .match .keys2) e), λ d. refl)

@@ -1,44 +1,28 @@
-use Prim.Native.Nat.{ℕ, _-_, _≤_, _<_}
-use mathlib.Core.Path.{_≡_}
-use mathlib.Core.Logic.{⊎-elim}
-use mathlib.Core.Bool.{false}
+use Prim.Native.Nat.{_-_, _≤_}
 use native.Mathlib.Omega.{arith}
-use Rattle.rows.specs.Held.{standsIn}
-use Rattle.rows.proofs.OrderLaws.{orderly-total}
-use Rattle.label.proofs.Total.{newest-one, newest-kept, newest-next, newest-only}
+use Rattle.rows.specs.Held.{Leads}
+use Rattle.rows.proofs.NewestLaws.{leads-one, leads-all}
 use borrow.Author.Needs.{needs}
 use Rattle.rows.proofs.order.newest.Statement.{statement}
 use Rattle.rows.proofs.order.newest.Tie as tie
 
 abbrev Inv-loop : tie.InvT-loop
-Inv-loop rows n z₀ j₀ z j = (1 ≤ j) × (j ≤ n) × (z < j) × ((i : ℕ) → i < j → standsIn n rows z i ≡ false)
+Inv-loop rows n top₀ j₀ top j = (1 ≤ j) × (j ≤ n) × Leads n rows j (top .station) (top .holders)
 
 abbrev μ-loop : tie.MeasureT-loop
-μ-loop rows n z₀ j₀ z j = n - j
+μ-loop rows n top₀ j₀ top j = n - j
 
 loop-holds : tie.Need-loop-holds Inv-loop μ-loop
-loop-holds c = (search needs, search needs, search needs, λ i h. newest-one (orderly-total _ _ (c .pre)) i h (omega arith))
+loop-holds c = (search needs, omega (arith, c .before .pre .low), rw (c .alone .ensures) (leads-one (c .before .pre)))
 
-label-before-requires : tie.Need-label-before-requires Inv-loop μ-loop
-label-before-requires c κs =
-    let valid = c .before .before .before .before .pre .valid in
-    (search needs, (valid _ (omega arith), valid _ (omega arith)))
+with-next-requires : tie.Need-with-next-requires Inv-loop μ-loop
+with-next-requires c κs = (c .before .before .before .pre, (search needs, c .before .loop .inv .2))
 
 loop-again : tie.Need-loop-again Inv-loop μ-loop
-loop-again c =
-    let at = c .before .before .before .before .before .loop in
-    let o = orderly-total _ _ (c .before .before .before .before .before .before .pre) in
-    let e = c .before .label-before .ensures in
-    ⊎-elim (λ w. (search needs, search needs, search needs, rw (w .1) (newest-next o (at .z) (at .j) (at .inv .3) e (w .0 .taken) (omega arith) (omega arith))))
-    (λ w. (search needs, search needs, search needs, rw (w .1) (newest-kept o (at .z) (at .j) (at .inv .3) e (w .0 .left))))
-    (c .if1 .came)
+loop-again c = (search needs, search needs, c .with-next .ensures)
 
 returns : tie.Need-returns Inv-loop μ-loop
-returns c =
-    let e : c .before .loop .j ≡ c .before .before .args .n = omega arith in
-    newest-only _ _ (orderly-total _ _ (c .before .before .pre)) _ (omega arith) (λ i h. c .before .loop .inv .3 i (omega arith))
+returns c = leads-all (c .before .before .before .pre) (omega arith) (c .before .loop .inv .2)
 
 pub newest-spec : {M : Type 1} → statement M
-newest-spec = tie.close (tie.spec Inv-loop μ-loop loop-holds (λ c. search needs) (λ c. search needs)
-    (λ c. search needs) (λ c. search needs) (λ c. search needs) label-before-requires (λ c. search needs)
-    (λ c. search needs) loop-again returns)
+newest-spec = tie.close (tie.spec Inv-loop μ-loop (λ c κs. search needs) loop-holds with-next-requires (λ c. search needs) (λ c. search needs) loop-again returns)
