@@ -69,6 +69,7 @@ together = call 1 1 ∷ call 2 1 ∷ call 1 3 ∷ call 2 3 ∷ call 1 4 ∷ call
 unfoldable pub stalled : Lists.List Call
 stalled = call 1 1 ∷ call 2 1 ∷ call 1 3 ∷ call 2 3 ∷ call 1 4 ∷ call 1 5 ∷ labelled (3 ∷ 1 ∷ 3 ∷ 1 ∷ [])
 
+-- P1 to P12
 abbrev pub samples : Lists.List Sample
 samples =
     digitsBelow 5 3
