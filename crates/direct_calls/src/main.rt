@@ -1,7 +1,7 @@
-// Direct calls of the steps, as the command file on standard input asks for them. The file is run twice: step calls and questions get their tables by value, and
-// then from an owner that lends them. Calls by name and sessions get them by value both times, and calls with a panel from an owner both times. A call shows the
-// buffer or the panel, its refusal number and its count, of bytes or of records. The file `stdout` beside this folder has what document 01 asks with Cards 1,
-// 2, 4 and 5.
+// Direct calls of the steps, and questions, as the command file on standard input asks for them. The file is run twice: step calls and questions get their
+// tables by value, and then from an owner that lends them. Calls by name and sessions get them by value both times, and calls with a panel from an owner both
+// times. A call shows the buffer or the panel, its refusal number and its count, of bytes or of records. The file `stdout` beside this folder has what
+// document 01 asks with Cards 1, 2, 4 and 5.
 //
 // A line that starts with # or is empty is shown as it is. Any other is a command: a letter and four columns of 12 bytes, with 0 in those that it
 // does not use; or one of `o` and `v`, which end with a line of a schedule file. Places and positions count from 0. A bad line ends the run.

@@ -1,4 +1,4 @@
-// The step calls on a table that its owner lends, and a question to it. Each calls the function on a table by value that has its name.
+// The step calls on a table that its owner lends, and a question to it. Each calls the function on a table by value that has its name; two owners come last.
 ghost use mathlib.Core.Path.{_≡_};
 ghost use mathlib.Core.List.{[]};
 ghost use lib.ListN.{length};
