@@ -1,6 +1,6 @@
-//! Schedules by a seed. The generator keeps of each station its phase and whether it is in service, and no labels.
+//! Schedules by a seed. The generator keeps of each station its phase and whether it is in service, and no labels but for schedules that are crowded.
 
-use crate::plain::{put, Operation, Phase, LINE};
+use crate::plain::{put, shared, step, Operation, Phase, Table, LINE};
 
 /// SplitMix64.
 pub struct Random(pub u64);
@@ -75,9 +75,9 @@ fn job(random: &mut Random) -> u64 {
     (random.word() >> (64 - bits)).max(1)
 }
 
-/// How long a station stalls or is out of service: mostly some rounds of the others, now and then for hundreds of them.
-fn stall(random: &mut Random, n: u64) -> u64 {
-    let rounds = if random.one_in(64) { 400 } else { 20 };
+/// How long a station stalls or is out of service: mostly up to so many rounds of the others, now and then for hundreds of them.
+fn stall(random: &mut Random, n: u64, rounds: u64) -> u64 {
+    let rounds = if random.one_in(64) { 400 } else { rounds };
     1 + random.below(rounds * n)
 }
 
@@ -119,6 +119,16 @@ fn refused(random: &mut Random, n: u64, players: &[Player]) -> [u8; LINE] {
 
 /// A schedule of n stations with so many step lines, and the line of its ending.
 pub fn schedule(n: u64, lines: u64, seed: u64, ending: Ending) -> Vec<u8> {
+    mixed(n, lines, seed, ending, 16, 20)
+}
+
+/// A schedule in which stalls are shorter, but one snap for a label in two is followed by one: so most labels are given with others pending.
+pub fn stalled(n: u64, lines: u64, seed: u64) -> Vec<u8> {
+    mixed(n, lines, seed, Ending::Plain, 2, 2)
+}
+
+/// One snap for a label in `stall_in` is followed by a stall, mostly of up to so many rounds.
+fn mixed(n: u64, lines: u64, seed: u64, ending: Ending, stall_in: u64, rounds: u64) -> Vec<u8> {
     assert!((2..=32).contains(&n), "2 to 32 stations");
     let mut random = Random(seed ^ n << 32);
     let mut players: Vec<Player> = (0..n).map(|_| Player { phase: Phase::Idle, out: false, until: 0 }).collect();
@@ -149,11 +159,11 @@ pub fn schedule(n: u64, lines: u64, seed: u64, ending: Ending) -> Vec<u8> {
             _ if code == 6 => true,
             // After the begin of either operation.
             Phase::Snap | Phase::End(Operation::Scan) => random.one_in(32),
-            Phase::Update => random.one_in(16),
+            Phase::Update => random.one_in(stall_in),
             _ => false,
         };
         if stalls {
-            player.until = now + stall(&mut random, n);
+            player.until = now + stall(&mut random, n, rounds);
         }
         player.phase = next;
         player.out = code == 6;
@@ -165,5 +175,41 @@ pub fn schedule(n: u64, lines: u64, seed: u64, ending: Ending) -> Vec<u8> {
         Ending::Column => bytes.extend(b" 01  1          1\n"),
         Ending::OneMore => bytes.extend(line(1, 1, 1)),
     }
+    bytes
+}
+
+/// A schedule that makes much work for whoever numbers its snaps: no line is refused, all operations are LABELs, and no snap is by the newest station. One
+/// station after another snaps and stalls for good, each with a label that none of those still at work will pass, until two are left. So each snap of
+/// these is given a number below those of all that stall.
+pub fn crowded(n: u64, lines: u64, seed: u64) -> Vec<u8> {
+    assert!((2..=32).contains(&n), "2 to 32 stations");
+    let mut random = Random(seed ^ n << 32);
+    let mut table = Table::fresh(n as usize);
+    let digits = n as usize - 1;
+    // Those at work; the first of them is the next to stall.
+    let mut at_work: Vec<usize> = (0..n as usize).collect();
+    let mut bytes = line(n, 0, 0).to_vec();
+    while bytes.len() <= lines as usize * LINE {
+        let newest = table.newest();
+        let kept = |i: usize| shared(&table.next_label(i, newest), &table.stations[newest].label, digits);
+        // It may stall once its new label keeps fewer digits of the top label than those of all others.
+        let stalled = table.n - at_work.len();
+        let next = at_work[0];
+        let ready = at_work.len() > 2 && next != newest && kept(next) == stalled && at_work[1..].iter().all(|&i| i == newest || kept(i) > stalled);
+        let (i, codes) = if ready {
+            (at_work.remove(0), &[1, 3][..])
+        } else {
+            let order = table.order();
+            let others = if at_work.len() > 2 { &at_work[1..] } else { &at_work[..] };
+            let oldest = order.iter().map(|&i| usize::from(i)).find(|i| others.contains(i)).unwrap_or(0);
+            (oldest, &[1, 3, 4, 5][..])
+        };
+        for &code in codes {
+            let (station, job) = (i as u64 + 1, if code == 1 { job(&mut random) } else { 0 });
+            step(&mut table, code, station, job, &mut []);
+            bytes.extend(line(station, code, job));
+        }
+    }
+    bytes.truncate((lines as usize + 1) * LINE);
     bytes
 }

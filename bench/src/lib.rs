@@ -1,9 +1,13 @@
-//! The yardsticks of `tickets`: the same program in plain Rust, twice, and schedules to run them on. README.md says how.
+//! The yardsticks of `tickets` and `numbers`: the same programs in plain Rust, the first of them twice, and schedules to run them on; and a check of
+//! numbers. README.md says how.
 
 pub mod expert;
 pub mod generate;
+pub mod numbers;
 pub mod plain;
 pub mod reports;
+pub mod timing;
+pub mod unbounded;
 
 /// For tests: the steps that a station has taken on a fresh table, and what each of the steps 1 to 7 meets next, 0 if it is accepted.
 pub const FOLLOWS: [(&[u64], [u64; 7]); 9] = [

@@ -1,4 +1,5 @@
-//! The schedule program in plain Rust, written from documents 01 and 02 (Cards 1, 2, 4 and 5) and not from the Rattle code.
+//! The schedule program in plain Rust, written from documents 01 and 02 (Cards 1, 2, 4 and 5) and not from the Rattle code. `numbers` and `unbounded`
+//! have their lines and steps from here.
 
 use std::cmp::Ordering;
 use std::io::{self, Read, Write};
@@ -27,6 +28,8 @@ pub mod refusal {
     pub const ILL_FORMED: u64 = 13;
     pub const OUT_OF_SERVICE: u64 = 14;
     pub const IN_SERVICE: u64 = 15;
+    pub const TOO_MANY_STEPS: u64 = 16;
+    pub const SHORT_LIST: u64 = 17;
 }
 
 /// Digits 1 to 5; positions past n - 1 hold 1.
@@ -127,11 +130,11 @@ pub struct Record {
 }
 
 /// How many digits two labels share before they first differ, at most `digits`.
-fn shared(a: &Label, b: &Label, digits: usize) -> usize {
+pub(crate) fn shared(a: &Label, b: &Label, digits: usize) -> usize {
     a.iter().zip(b).take(digits).take_while(|(x, y)| x == y).count()
 }
 
-fn is_below(a: u8, b: u8) -> bool {
+pub(crate) fn is_below(a: u8, b: u8) -> bool {
     BELOW[usize::from(a) - 1][usize::from(b) - 1]
 }
 
@@ -223,17 +226,19 @@ impl Table {
         seen.count_ones() as usize == self.n
     }
 
-    fn snap_label(&mut self, station: usize) {
+    /// Sets the pending label of a station that snaps; hands back the newest.
+    pub(crate) fn snap_label(&mut self, station: usize) -> usize {
         let newest = self.newest();
         if newest != station {
             self.stations[station].pending_label = self.next_label(station, newest);
         }
         self.stations[station].phase = Phase::Update;
+        newest
     }
 
-    fn scan(&mut self, station: usize) {
+    fn scan(&mut self, station: usize, order: impl FnOnce(&Table) -> [u8; MAX_STATIONS]) {
         let (mut result, mut result_jobs) = ([0; MAX_STATIONS], [0; MAX_STATIONS]);
-        let order = self.order();
+        let order = order(self);
         let shown = order[..self.n].iter().map(|&i| (i + 1, &self.stations[usize::from(i)])).filter(|(_, s)| s.job != 0 && !s.out);
         for (place, (number, s)) in shown.enumerate() {
             (result[place], result_jobs[place]) = (number, s.job);
@@ -244,6 +249,22 @@ impl Table {
 
     /// The step on a well-formed table: how much was written, or the refusal. An ended scan is written by `write`, from the station with the result.
     fn serve(&mut self, code: u64, station: u64, job: u64, write: impl FnOnce(&Station) -> Result<usize, u64>) -> Result<usize, u64> {
+        let snap = |t: &mut Table, i| {
+            t.snap_label(i);
+        };
+        self.serve_by(code, station, job, Table::order, snap, write)
+    }
+
+    /// The step with the stations in any order, and with what a snap for a label does of its own, given the station, from 0.
+    pub(crate) fn serve_by(
+        &mut self,
+        code: u64,
+        station: u64,
+        job: u64,
+        order: impl FnOnce(&Table) -> [u8; MAX_STATIONS],
+        snap: impl FnOnce(&mut Table, usize),
+        write: impl FnOnce(&Station) -> Result<usize, u64>,
+    ) -> Result<usize, u64> {
         if !(1..=7).contains(&code) {
             return Err(refusal::CODE);
         }
@@ -266,8 +287,8 @@ impl Table {
                 s.pending_job = job as u32;
                 s.phase = Phase::Snap;
             }
-            (2, Phase::Idle) => self.scan(i),
-            (3, Phase::Snap) => self.snap_label(i),
+            (2, Phase::Idle) => self.scan(i, order),
+            (3, Phase::Snap) => snap(self, i),
             (4, Phase::Update) => {
                 s.label = s.pending_label;
                 s.job = s.pending_job;
@@ -357,7 +378,7 @@ pub(crate) fn report_line(line: u32, refused: u64) -> [u8; REPORT_LINE] {
 }
 
 /// Writes a scan result as report lines, if there is room for all.
-fn write_result(line: u32, s: &Station, report: &mut [u8]) -> Result<usize, u64> {
+pub(crate) fn write_result(line: u32, s: &Station, report: &mut [u8]) -> Result<usize, u64> {
     let report = report.get_mut(..s.shown() * REPORT_LINE).ok_or(refusal::SHORT_REPORT)?;
     let blank = report_line(line, 0);
     for (place, bytes) in report.chunks_exact_mut(REPORT_LINE).enumerate() {

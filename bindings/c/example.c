@@ -1,7 +1,8 @@
 /* Document 01's listing as direct calls with a report buffer, as direct calls with a panel, and as a schedule file. Of a refused call with a report
    buffer this prints the line that the schedule program would print; a direct call's lines bear the number 0. The second call of station 2 is refused by
    4 in all three: a scan has no snap of its own. Its scan shows station 1 alone, which has a job. Before the calls with a panel both stations have the
-   newest's label, and after them station 1 alone. Then that one is out of service for a while: a scan does not show it. From the root:
+   newest's label, and after them station 1 alone. Then that one is out of service for a while: a scan does not show it. Last come the numbers of another
+   file: station 2 snaps after station 1, for a label below that one's, and gets the lower number. From the root:
    rt staticlib exports && cc -Wall -Wextra -O2 bindings/c/example.c target/staticlib/libexports.a -o /tmp/example && /tmp/example */
 #include <inttypes.h>
 #include <stdio.h>
@@ -28,6 +29,24 @@ static const char file[] =
     "  2  3          0\n"
     "  2  5          0\n"
     "  3  3          0\n";
+
+/* Stations 2 and 3 take labels. Then 1 and 2 snap before either updates. */
+static const char crossing[] =
+    "  3  0          0\n"
+    "  2  1         70\n"
+    "  2  3          0\n"
+    "  2  4          0\n"
+    "  2  5          0\n"
+    "  3  1         71\n"
+    "  3  3          0\n"
+    "  3  4          0\n"
+    "  3  5          0\n"
+    "  1  1         72\n"
+    "  1  3          0\n"
+    "  2  1         73\n"
+    "  2  3          0\n"
+    "  1  4          0\n"
+    "  2  4          0\n";
 
 /* Prints how many stations a scan of station 2 shows, or what one of its steps is refused by. */
 static void print_shown(struct tickets_board *board) {
@@ -82,5 +101,12 @@ int main(void) {
     if (answer.refusal != 0)
         return 1;
     fwrite(whole, 1, answer.written, stdout);
+    uint32_t numbers[TICKETS_MAX_STEPS] = {0};
+    answer = tickets_numbers((const uint8_t *)crossing, sizeof crossing - 1, numbers, TICKETS_MAX_STEPS);
+    if (answer.refusal != 0)
+        return 1;
+    for (uint64_t at = 0; at < answer.written; at++)
+        printf("number: %" PRIu32 "\n", numbers[at]);
+    printf("numbers in a list of 3: refused by %" PRIu64 "\n", tickets_numbers((const uint8_t *)crossing, sizeof crossing - 1, numbers, 3).refusal);
     return 0;
 }

@@ -1,11 +1,12 @@
 /* The ticket table and the schedule program for C programs: the functions of the proved library libexports.a (`rt staticlib exports` at the root writes
    it to target/staticlib). A board holds a table of 2 to 32 stations as plain numbers; its owner lends it to each call.
 
-   What is proved holds for every content of the board, every report buffer, every panel and all numbers; there is nothing to check before a call. A
-   caller owes:
-   - the board, the buffers and the panels are memory of the caller's that has been written, with whatever bytes (`= {0}` will do for a new board);
-   - a pointer to each that is not null, also to a buffer or a panel of length 0, and a report buffer or a panel that overlaps neither the board nor the
-     schedule;
+   What is proved holds for every content of the board, every report buffer, every panel, every list and all numbers; there is nothing to check before a
+   call. A caller owes:
+   - the board, the buffers, the panels and the lists are memory of the caller's that has been written, with whatever bytes (`= {0}` will do for a new
+     board);
+   - a pointer to each that is not null, also to a buffer, a panel or a list of length 0, and a report buffer, a panel or a list that overlaps neither the
+     board nor the schedule;
    - until a call returns, no other thread touches them.
    That this header declares what the library exports is not proved; the assertions below hold its layout. */
 #ifndef TICKETS_H
@@ -16,6 +17,8 @@
 #include <stdint.h>
 
 enum { TICKETS_MAX_STATIONS = 32, TICKETS_MAX_DIGITS = 31, TICKETS_LINE = 18, TICKETS_REPORT_LINE = 29 };
+/* The most step lines of a schedule whose snaps are numbered; a list of so many entries is long enough for any. */
+enum { TICKETS_MAX_STEPS = 4096 };
 
 /* The steps of a call. A label operation is begin, snap, update, end. A scan is two: TICKETS_SCAN begins it and snaps, TICKETS_END ends it.
    By TICKETS_LEAVE_SERVICE an idle station leaves service, by TICKETS_RETURN_TO_SERVICE it returns. */
@@ -46,7 +49,9 @@ enum {
     TICKETS_TOO_MANY_LINES = 12, /* a line after the 1000000th step line; it ends a file */
     TICKETS_BAD_BOARD = 13,      /* a board that is no well-formed table */
     TICKETS_OUT_OF_SERVICE = 14, /* a begin or a leave, and the station is out of service */
-    TICKETS_IN_SERVICE = 15      /* a return, and the station is in service */
+    TICKETS_IN_SERVICE = 15,     /* a return, and the station is in service */
+    TICKETS_TOO_MANY_STEPS = 16, /* more than TICKETS_MAX_STEPS step lines to number */
+    TICKETS_SHORT_LIST = 17      /* fewer entries than step lines with the code of a snap */
 };
 
 /* The planes of labels and jobs: what a station has, and what its next update will make of it. */
@@ -82,7 +87,7 @@ struct tickets_record {
 
 static_assert(sizeof(struct tickets_record) == 12, "no padding");
 
-/* 0, or the refusal; and how many bytes of report or records were written. */
+/* 0, or the refusal; and how many bytes of report, records or numbers were written. */
 struct tickets_answer {
     uint64_t refusal;
     uint64_t written;
@@ -116,6 +121,13 @@ struct tickets_holders tickets_top_holders(uint64_t count, const uint8_t (*label
    any file of that length. */
 #define TICKETS_REPORT_ROOM(schedule_len) (((schedule_len) / TICKETS_LINE + 1) * TICKETS_MAX_STATIONS * TICKETS_REPORT_LINE)
 struct tickets_answer tickets_report(const uint8_t *schedule, size_t schedule_len, uint8_t *report, size_t report_len);
+
+/* Numbers the snaps of a whole schedule file: for each accepted snap for a label, in their order, writes a number to the front of the list, and answers
+   their count; what stands past them stays. The number is 0 where the station was the newest already, else the pending number that this snap sets in the
+   unbounded table. That table, taken through the file with these numbers, gives all its scans; and the numbers other than 0 are 1, 2 and so on,
+   equal ones allowed. Refused, before any step is run, is a file that a refusal ends, by the first that does: 8, 9, 10, 1 or 11 of its header, 8, 9 or 12
+   of a step line; then by TICKETS_TOO_MANY_STEPS; then by TICKETS_SHORT_LIST, for which refused lines count too. A refusal writes nothing. */
+struct tickets_answer tickets_numbers(const uint8_t *schedule, size_t schedule_len, uint32_t *numbers, size_t numbers_len);
 
 /* Makes the board a fresh table of `count` stations, which are in service and have no job and whose scan results are empty; TICKETS_BAD_COUNT leaves it
    as it is. */

@@ -130,15 +130,24 @@ fn noise(random: &mut Random) -> Vec<u8> {
 
 /// The file with this index. All numbers of stations come in turn.
 pub fn file(seed: u64, index: u64) -> Vec<u8> {
-    let mut random = source(seed, 1, index);
+    any(source(seed, 1, index), index, 32, 512)
+}
+
+/// A file whose snaps are numbered: more of these are long, and some have too many lines.
+pub fn numbered(seed: u64, index: u64) -> Vec<u8> {
+    any(source(seed, 6, index), index, 8, 128)
+}
+
+/// One file in so many is long, or very long.
+fn any(mut random: Random, index: u64, long_in: u64, very_long_in: u64) -> Vec<u8> {
     let random = &mut random;
     let n = 2 + index % 31;
     if random.one_in(64) {
         return noise(random);
     }
-    let lines = if random.one_in(512) {
+    let lines = if random.one_in(very_long_in) {
         random.below(6000)
-    } else if random.one_in(32) {
+    } else if random.one_in(long_in) {
         random.below(600)
     } else {
         random.below(61)

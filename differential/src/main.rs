@@ -1,4 +1,4 @@
-//! The static library against the plain program, byte for byte. README.md says what is covered.
+//! The static library against the plain programs, byte for byte. README.md says what is covered.
 
 mod boards;
 mod calls;
@@ -8,26 +8,33 @@ mod run;
 
 use std::process::ExitCode;
 
-const USAGE: &str = "ticket-differential [--files N] [--calls N] [--seed S] [--program TICKETS]";
+const USAGE: &str = "ticket-differential [--files N] [--calls N] [--numbers N] [--seed S] [--program TICKETS] [--numbers-program NUMBERS]";
 
 struct Budget {
     files: u64,
     calls: u64,
+    numbers: u64,
     seed: u64,
-    /// Run on the files in the library's place.
+    /// Run on the files in the library's place, and on those whose snaps are numbered.
     program: Option<String>,
+    numbers_program: Option<String>,
 }
 
 fn budget() -> Result<Budget, String> {
-    let mut budget = Budget { files: 2000, calls: 20_000, seed: 1, program: None };
+    let mut budget = Budget { files: 2000, calls: 20_000, numbers: 2000, seed: 1, program: None, numbers_program: None };
     let mut arguments = std::env::args().skip(1);
     while let Some(name) = arguments.next() {
         let to = match name.as_str() {
             "--files" => &mut budget.files,
             "--calls" => &mut budget.calls,
+            "--numbers" => &mut budget.numbers,
             "--seed" => &mut budget.seed,
             "--program" => {
                 budget.program = Some(arguments.next().ok_or(USAGE)?);
+                continue;
+            }
+            "--numbers-program" => {
+                budget.numbers_program = Some(arguments.next().ok_or(USAGE)?);
                 continue;
             }
             _ => return Err(USAGE.into()),
@@ -38,7 +45,7 @@ fn budget() -> Result<Budget, String> {
 }
 
 fn all() -> Result<String, String> {
-    let Budget { mut files, mut calls, seed, program } = budget()?;
+    let Budget { mut files, mut calls, mut numbers, seed, program, numbers_program } = budget()?;
     let mut questions = 0;
     if files > 0 {
         for (of, counts) in run::files(seed, files, program.as_deref())? {
@@ -54,7 +61,13 @@ fn all() -> Result<String, String> {
         counts.panel.show("direct calls with a panel")?;
         counts.questions.show("questions")?;
     }
-    Ok(format!("files {files}, calls {calls}, questions {questions}: all agree"))
+    if numbers > 0 {
+        let (counts, most) = run::numbers(seed, numbers, numbers_program.as_deref())?;
+        counts.show(if numbers_program.is_some() { "numbered files" } else { "answers for numbered files" })?;
+        println!("numbers up to {most}");
+        numbers += run::LIMITS.len() as u64;
+    }
+    Ok(format!("files {files}, calls {calls}, questions {questions}, numbered files {numbers}: all agree"))
 }
 
 fn main() -> ExitCode {

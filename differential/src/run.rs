@@ -3,26 +3,27 @@
 use crate::boards;
 use crate::calls::{noise, Call, Lent, Session};
 use crate::draw::{source, Step};
-use crate::files::file;
+use crate::files::{file, numbered};
 use std::fmt::Debug;
 use std::fs::{self, File};
 use std::io;
 use std::process::{Command, Stdio};
-use ticket_bench::generate::{schedule, Ending, Random};
-use ticket_bench::plain::{self, refusal, Record, Table, MAX_STEPS};
-use ticket_bench::reports::{final_refusal, numbers};
+use ticket_bench::generate::{crowded, schedule, stalled, Ending, Random};
+use ticket_bench::plain::{self, refusal, Record, Table, LINE, MAX_STEPS};
+use ticket_bench::reports::{self, final_refusal};
+use ticket_bench::{numbers, unbounded};
 use tickets::{Answer, Board, Holders};
 
 /// How often each refusal number was the plain program's answer, 0 for a call or a report line that is not refused.
 pub struct Counts {
-    seen: [u64; 16],
+    seen: [u64; 18],
     /// The numbers that can occur.
     owed: &'static [u64],
 }
 
 impl Counts {
     fn new(owed: &'static [u64]) -> Counts {
-        Counts { seen: [0; 16], owed }
+        Counts { seen: [0; 18], owed }
     }
 
     fn add(&mut self, number: u64) {
@@ -44,7 +45,7 @@ impl Counts {
     }
 }
 
-/// Bytes or records behind a lent area that are not lent.
+/// Bytes, records or numbers behind a lent area that are not lent.
 const BEHIND: usize = 64;
 
 /// The library's report in a buffer of that length. The library's answer is counted.
@@ -74,17 +75,17 @@ fn check_library(schedule: &[u8], expected: &[u8], mut random: Random, counts: &
     lens.into_iter().try_for_each(|len| check_buffer(schedule, expected, len, random.word() as u8, counts))
 }
 
-/// The program's report. The schedule goes through a file, so neither side waits for the other.
+/// What the program prints. The schedule goes through a file, so neither side waits for the other.
 fn check_program(program: &str, schedule: &[u8], expected: &[u8]) -> Result<(), String> {
-    let report = || -> io::Result<Vec<u8>> {
+    let printed = || -> io::Result<Vec<u8>> {
         let path = std::env::temp_dir().join(format!("ticket-differential-{}", std::process::id()));
         fs::write(&path, schedule)?;
         let output = Command::new(program).stdin(File::open(&path)?).stderr(Stdio::inherit()).output()?;
         fs::remove_file(&path)?;
         output.status.success().then_some(output.stdout).ok_or_else(|| io::Error::other(output.status.to_string()))
     };
-    let report = report().map_err(|error| format!("{program}: {error}"))?;
-    same_bytes("report", &report, expected)
+    let printed = printed().map_err(|error| format!("{program}: {error}"))?;
+    same_bytes("what is printed", &printed, expected)
 }
 
 /// Both sides of a comparison, if they differ.
@@ -106,11 +107,18 @@ fn same_bytes(what: &str, library: &[u8], plain: &[u8]) -> Result<(), String> {
     Err(format!("{what} differs from byte {at} on\nlibrary: {}\nplain:   {}", rest(library), rest(plain)))
 }
 
+/// Where two lists of numbers first differ, and what stands there and next to it.
+fn same_list(library: &[u32], plain: &[u32]) -> Result<(), String> {
+    let at = library.iter().zip(plain).take_while(|(a, b)| a == b).count();
+    let some = |list: &[u32]| list[at..].iter().copied().take(20).collect::<Vec<u32>>();
+    same(&format!("list from place {at} on"), &some(library), &some(plain))
+}
+
 /// A file by both sides. The lines of its report are counted.
 fn check_file(program: Option<&str>, schedule: &[u8], random: Random, lines: &mut Counts, answers: &mut Counts) -> Result<(), String> {
     let mut expected = Vec::new();
     plain::run(&mut &schedule[..], &mut expected).map_err(|error| error.to_string())?;
-    expected.as_chunks().0.iter().for_each(|line| lines.add(numbers(line).1));
+    expected.as_chunks().0.iter().for_each(|line| lines.add(reports::numbers(line).1));
     match program {
         None => check_library(schedule, &expected, random, answers),
         Some(program) => check_program(program, schedule, &expected),
@@ -139,6 +147,93 @@ pub fn files(seed: u64, files: u64, program: Option<&str>) -> Result<Vec<(&'stat
         counts.push(("answers for files", answers));
     }
     Ok(counts)
+}
+
+/// Numbers by both sides in a list of that length: the answer, and the list with what stands behind it. The numbers are handed back, if there are any.
+fn check_list(schedule: &[u8], len: usize, old: u64, counts: &mut Counts) -> Result<Option<Vec<u32>>, String> {
+    let mut random = Random(old);
+    let mut list: Vec<u32> = (0..len + BEHIND).map(|_| random.word() as u32 >> random.below(32)).collect();
+    let mut plain_list = list.clone();
+    let (number, count) = numbers::numbers(schedule, &mut plain_list[..len]);
+    counts.add(number);
+    let answer = tickets::numbers(schedule, &mut list[..len]);
+    same("answer", &answer, &Answer { refusal: number, written: count as u64 })
+        .and_then(|()| same_list(&list, &plain_list))
+        .map_err(|what| format!("in a list of {len} with old contents {old}: {what}"))?;
+    list.truncate(count);
+    Ok((number == 0).then_some(list))
+}
+
+/// The library's numbers in lists just as long as they must be, longer, as long as any must be, shorter by one, much shorter, and empty.
+fn check_lists(schedule: &[u8], mut random: Random, counts: &mut Counts) -> Result<Option<Vec<u32>>, String> {
+    let exact = schedule.chunks_exact(LINE).skip(1).filter(|line| &line[3..6] == b"  3").count();
+    let mut lens = vec![exact + 1 + random.below(64) as usize, exact.max(numbers::MAX_STEPS)];
+    if exact > 0 {
+        lens.extend([exact - 1, random.below(exact as u64) as usize, 0]);
+    }
+    lens.into_iter().try_for_each(|len| check_list(schedule, len, random.word(), counts).map(drop))?;
+    check_list(schedule, exact, random.word(), counts)
+}
+
+/// A file by both sides. Its numbers, if it has any, must be what Card 6 asks for, whichever numbering that is; the highest is handed back.
+fn check_numbers(program: Option<&str>, schedule: &[u8], random: Random, counts: &mut Counts) -> Result<u32, String> {
+    let found = match program {
+        None => check_lists(schedule, random, counts)?,
+        Some(program) => {
+            let mut list = [0; numbers::MAX_STEPS];
+            let (number, count) = numbers::numbers(schedule, &mut list);
+            counts.add(number);
+            check_program(program, schedule, &numbers::print(number, &list[..count]))?;
+            (number == 0).then(|| list[..count].to_vec())
+        }
+    };
+    let found = found.as_deref().map_or(Ok(&[][..]), |found| unbounded::check(schedule, found).map(|()| found));
+    Ok(found?.iter().copied().max().unwrap_or(0))
+}
+
+/// Files at the limits of what is numbered: what they are, and their step lines.
+pub const LIMITS: [(Kind, u64); 10] = [
+    (Kind::Mixed(Ending::Plain), 4095),
+    (Kind::Mixed(Ending::Plain), 4096),
+    (Kind::Mixed(Ending::OneMore), 4096),
+    (Kind::Mixed(Ending::Column), 4096),
+    (Kind::Stalled, 4096),
+    (Kind::Stalled, 4097),
+    (Kind::Crowded, 4096),
+    (Kind::Crowded, 4097),
+    (Kind::Mixed(Ending::Plain), MAX_STEPS as u64),
+    (Kind::Mixed(Ending::OneMore), MAX_STEPS as u64),
+];
+
+#[derive(Clone, Copy, Debug)]
+pub enum Kind {
+    Mixed(Ending),
+    Stalled,
+    Crowded,
+}
+
+/// The files at the limits, and so many others. What was counted, by the plain program's answers, and the highest number.
+pub fn numbers(seed: u64, files: u64, program: Option<&str>) -> Result<(Counts, u32), String> {
+    let mut counts = Counts::new(if program.is_none() { &[0, 1, 8, 9, 10, 11, 12, 16, 17] } else { &[0, 1, 8, 9, 10, 11, 12, 16] });
+    let mut most = 0;
+    for (index, (kind, lines)) in (0..).zip(LIMITS) {
+        let n = 2 + (seed + 7 * index) % 31;
+        let bytes = match kind {
+            Kind::Mixed(ending) => schedule(n, lines, seed, ending),
+            Kind::Stalled => stalled(n, lines, seed),
+            Kind::Crowded => crowded(n, lines, seed),
+        };
+        let highest = check_numbers(program, &bytes, source(seed, 7, index), &mut counts)
+            .map_err(|what| format!("seed {seed}, numbers of a file of {n} stations and {lines} lines, {kind:?}: {what}"))?;
+        most = most.max(highest);
+    }
+    for index in 0..files {
+        let bytes = numbered(seed, index);
+        let highest = check_numbers(program, &bytes, source(seed, 8, index), &mut counts)
+            .map_err(|what| format!("seed {seed}, numbered file {index}, {} bytes:\n{}\n{what}", bytes.len(), bytes.escape_ascii()))?;
+        most = most.max(highest);
+    }
+    Ok((counts, most))
 }
 
 /// What a panel holds before a call: numbers of any length.

@@ -1,10 +1,11 @@
 //! Document 01's listing as direct calls with a report buffer, as direct calls with a panel, and as a schedule file. Of a refused call with a report
 //! buffer this prints the line that the schedule program would print; a direct call's lines bear the number 0. The second call of station 2 is refused by
 //! 4 in all three: a scan has no snap of its own. Its scan shows station 1 alone, which has a job. Before the calls with a panel both stations have the
-//! newest's label, and after them station 1 alone. Then that one is out of service for a while: a scan does not show it.
+//! newest's label, and after them station 1 alone. Then that one is out of service for a while: a scan does not show it. Last come the numbers of another
+//! file: station 2 snaps after station 1, for a label below that one's, and gets the lower number.
 
 use std::io::{self, Write};
-use tickets::{code, Board, Record, MAX_STATIONS, REPORT_LINE};
+use tickets::{code, Board, Record, MAX_STATIONS, MAX_STEPS, REPORT_LINE};
 
 const CALLS: [(u64, u64, u64); 8] = [
     (1, code::BEGIN_LABEL, 70),
@@ -26,6 +27,24 @@ const FILE: &[u8] = b"  2  0          0
   2  3          0
   2  5          0
   3  3          0
+";
+
+/// Stations 2 and 3 take labels. Then 1 and 2 snap before either updates.
+const CROSSING: &[u8] = b"  3  0          0
+  2  1         70
+  2  3          0
+  2  4          0
+  2  5          0
+  3  1         71
+  3  3          0
+  3  4          0
+  3  5          0
+  1  1         72
+  1  3          0
+  2  1         73
+  2  3          0
+  1  4          0
+  2  4          0
 ";
 
 /// How many stations a scan of station 2 shows.
@@ -68,5 +87,11 @@ fn main() -> io::Result<()> {
     writeln!(out, "stations shown: {}", shown(&mut board))?;
     let (report, refusal) = tickets::report(FILE);
     assert_eq!(refusal, 0, "nothing ends this file before its last line");
-    out.write_all(&report)
+    out.write_all(&report)?;
+    let mut list = [0; MAX_STEPS];
+    let count = tickets::numbers(CROSSING, &mut list).written().expect("this file is numbered");
+    for number in &list[..count] {
+        writeln!(out, "number: {number}")?;
+    }
+    writeln!(out, "numbers in a list of 3: refused by {}", tickets::numbers(CROSSING, &mut list[..3]).refusal)
 }

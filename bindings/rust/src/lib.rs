@@ -1,5 +1,5 @@
-//! The ticket table and the schedule program for Rust programs: a safe wrapper of the proved library `libexports.a`, whose functions ask nothing of
-//! their caller.
+//! The ticket table, the schedule program and the numbers of a schedule for Rust programs: a safe wrapper of the proved library `libexports.a`, whose
+//! functions ask nothing of their caller.
 //!
 //! That the declarations here are those of the library is not proved; the assertions below hold the layout, and `tests/` runs the library.
 
@@ -10,6 +10,8 @@ pub const MAX_DIGITS: usize = MAX_STATIONS - 1;
 /// Bytes of a schedule line and of a report line.
 pub const LINE: usize = 18;
 pub const REPORT_LINE: usize = 29;
+/// The most step lines of a schedule whose snaps are numbered; a list of so many entries is long enough for any.
+pub const MAX_STEPS: usize = 4096;
 
 /// The steps of a call. A label operation is begin, snap, update, end. A scan is two: `SCAN` begins it and snaps, `END` ends it. By `LEAVE_SERVICE` an idle
 /// station leaves service, by `RETURN_TO_SERVICE` it returns.
@@ -54,6 +56,10 @@ pub mod refusal {
     pub const OUT_OF_SERVICE: u64 = 14;
     /// A return, and the station is in service.
     pub const IN_SERVICE: u64 = 15;
+    /// More than 4,096 step lines to number.
+    pub const TOO_MANY_STEPS: u64 = 16;
+    /// A list for numbers with fewer entries than there are step lines with the code of a snap.
+    pub const SHORT_LIST: u64 = 17;
 }
 
 /// The planes of `Board::labels` and `Board::jobs`: what a station has, and what its next update will make of it.
@@ -159,6 +165,7 @@ extern "C" {
     ) -> Answer;
     fn tickets_top_holders(count: u64, labels: &Labels, jobs: &Jobs, control: &Control, results: &Results) -> Holders;
     fn tickets_report(schedule: *const u8, schedule_len: usize, report: *mut u8, report_len: usize) -> Answer;
+    fn tickets_numbers(schedule: *const u8, schedule_len: usize, numbers: *mut u32, numbers_len: usize) -> Answer;
 }
 
 /// Writes the report of a whole schedule file to the front of a buffer; what stands past it stays.
@@ -185,6 +192,21 @@ pub fn report(schedule: &[u8]) -> (Vec<u8>, Refusal) {
     assert!(answer.refusal != refusal::SHORT_REPORT, "there is room for every report");
     report.truncate(answer.written as usize);
     (report, answer.refusal)
+}
+
+/// Numbers the snaps of a whole schedule file: for each accepted snap for a label, in their order, writes a number to the front of the list; what stands
+/// past them stays. `written` is their count.
+///
+/// A number is 0 where the station was the newest already, else the pending number that this snap sets in the unbounded table. That table, taken
+/// through the file with these numbers, gives all its scans; and the numbers other than 0 are 1, 2 and so on, equal ones allowed.
+///
+/// Refused, before any step is run, is a file that a refusal ends, by the first that does: 8, 9, 10, 1 or 11 of its header, 8, 9 or 12 of a step line;
+/// then one of more than 4,096 step lines, by 16; then a list with fewer entries than the file has step lines with the code of a snap, refused ones too,
+/// by 17. A refusal writes nothing.
+pub fn numbers(schedule: &[u8], list: &mut [u32]) -> Answer {
+    // SAFETY: the function is declared as the library exports it; it takes any bytes, and writes at most `list.len()` numbers to the list, which does not
+    // overlap the schedule.
+    unsafe { tickets_numbers(schedule.as_ptr(), schedule.len(), list.as_mut_ptr(), list.len()) }
 }
 
 impl Board {

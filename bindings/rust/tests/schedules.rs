@@ -1,5 +1,5 @@
-//! Whole schedules: those of tests/ and examples/ and one at its limit, in buffers of all lengths. What ended a file is read off the report that it must
-//! give.
+//! Whole schedules: those of tests/ and examples/ that have a report, and one at its limit, in buffers of all lengths. What ended a file is read off the
+//! report that it must give.
 
 use std::fs;
 use std::path::Path;
@@ -40,13 +40,11 @@ fn check(schedule: &[u8], report: &[u8]) -> Refusal {
     ended
 }
 
-/// Runs the vectors of a folder and of those in it, and counts them by what ended them.
+/// Runs the vectors of a folder, and counts them by what ended them.
 fn run(folder: &Path, counts: &mut [usize; 14]) {
     for entry in fs::read_dir(folder).expect("the folder of vectors") {
         let path = entry.expect("an entry").path();
-        if path.is_dir() {
-            run(&path, counts);
-        } else if path.extension().is_some_and(|e| e == "in") {
+        if path.extension().is_some_and(|e| e == "in") {
             println!("{}", path.display());
             let schedule = fs::read(&path).expect("a schedule");
             let report = fs::read(path.with_extension("out")).expect("its report");
@@ -59,8 +57,7 @@ fn run(folder: &Path, counts: &mut [usize; 14]) {
 fn vectors() {
     let root = Path::new(env!("CARGO_MANIFEST_DIR")).join("../..");
     let mut counts = [0; 14];
-    run(&root.join("tests"), &mut counts);
-    run(&root.join("examples"), &mut counts);
+    ["tests/outside", "tests/own", "examples"].iter().for_each(|folder| run(&root.join(folder), &mut counts));
     assert!(counts.iter().sum::<usize>() >= 270, "{counts:?}");
     assert!([0, 1, 8, 9, 10, 11].iter().all(|&number| counts[number] > 0), "{counts:?}");
 }

@@ -1,23 +1,29 @@
--- Samples P1 to P12, and those of Cards 4 and 5, hold of the tables of every lawful form: computed on arrays without the test for 13, which no table on the way fails.
-use Prim.Native.Nat.{ℕ, _≤_}
+-- Samples P1 to P12, and those of Cards 4 to 6, hold of the tables of every lawful form: computed without the test for 13, which no table on the way
+-- fails.
+use Prim.Native.Nat.{ℕ, zero, suc, _≤_, _<_}
 use native.Mathlib.Omega.{arith}
 use mathlib.Core.Path.{_≡_, refl, sym, ap, subst, _∙_}
+use mathlib.Core.Bool.{false, true≢false}
 use mathlib.Core.List as Lists
-use mathlib.Core.List.{[], _∷_, _++_}
+use mathlib.Core.List.{[], _∷_, _++_, List·Memᴰ, List·Memᴰ·head, List·Memᴰ·tail}
 use Rattle.basics.specs.Tests.{every, count, firstFrom, lastOf, newest, inserted, ordered, passing, tabulate, All}
 use Rattle.basics.proofs.Facts.{all-append}
 use Rattle.label.specs.Labels as Labels
 use Rattle.label.specs.Labels.{below, next, agrees, firstDifference, labelBelow, labelBefore, nextLabel, others, level, newLabel, holders}
 use Rattle.label.specs.Rows.{row}
 use Rattle.simulation.specs.Calls.{Call, unless, judgeIn}
-use Rattle.simulation.specs.Machine.{original, digits, pendingAfter, relabelled, scanOf, carryOut, State, fresh, step}
+use Rattle.simulation.specs.Machine.{original, digits, pendingAfter, relabelled, scanOf, carryOut, State, fresh, step, snapsOf, run, snaps, numberBefore}
+use Rattle.simulation.specs.Numbered.{met, labelSnaps, Fit, newestSnap, newestSnaps}
+use Rattle.simulation.specs.Numbering.{bump, highest, slotOf, renumber, renumbered}
 use Rattle.transition.specs.Forms.{Form, freshTable, after}
 use Rattle.transition.specs.Questions.{topHolders, Tells}
 use Rattle.transition.specs.Samples.{call, labelled, shown, order, shownBy, reaches, scanShows, topHeld, Holds, one, two, three, together}
-use Rattle.transition.specs.Samples.{stalled, samples, absent, serviceSamples, topSamples, SamplesHold}
+use Rattle.transition.specs.Samples.{stalled, samples, absent, serviceSamples, topSamples, overtaken, numberSamples, SamplesHold}
+use Rattle.simulation.proofs.Follow as Follow
 use Rattle.transition.proofs.Reached.{Reached, reached-fresh}
 use Rattle.transition.proofs.Theorem.{Lawful, reached-held, reached-written, reached-next, same-after, table-fresh, table-after}
 use Rattle.transition.proofs.Questions.{reached-tells}
+use Rattle.transition.proofs.Numbers.{numbers-do, numbers}
 use Rattle.arrays.specs.Arrays.{Arrays, stateOf, arraysOf}
 use Rattle.arrays.specs.Form.{lent}
 use Rattle.arrays.proofs.States.{lent-lawful}
@@ -115,5 +121,37 @@ module _ (F : Form) (L : Lawful F) where
   unfolding topHolders holders carried one two three together
   shared = (held-by _ refl, (held-by _ refl, (held-by _ refl, (held-by _ refl, (held-by _ refl, tt)))))
 
+  -- another list for 1 and 2, which have equal labels: a number for each
+  apart : Follow.Numbers original 3 (digits 3) (λ p. 1) (together ++ one (call 3 2)) (two 1 2)
+  unfolding run snaps labelSnaps met newestSnap newestSnaps numberBefore snapsOf unless judgeIn pendingAfter relabelled scanOf carryOut step below next agrees
+      firstDifference labelBelow labelBefore nextLabel others level newLabel every count firstFrom newest inserted ordered passing tabulate call one two
+      together
+  apart = record {
+    each = refl;
+    fits = record { one = refl; each = (above (omega arith) (omega arith), (above (omega arith) (omega arith), tt)) };
+    same = refl;
+    newest = refl;
+    gapless = record { most = 2; upto = (omega arith, (omega arith, tt)); each = member };
+  }
+    where
+      above : {v : ℕ} → 0 < v → v ≤ 2 → Fit 2 (record { byNewest = false; top = 0; number = v })
+      above l u = record { newest = λ e. absurd (true≢false (sym e)); other = λ _. (l, u) }
+
+      member : (v : ℕ) → 1 ≤ v → v ≤ 2 → List·Memᴰ v (two 1 2)
+      member zero l u = absurd (omega arith)
+      member (suc zero) l u = List·Memᴰ·head refl
+      member (suc (suc zero)) l u = List·Memᴰ·tail (List·Memᴰ·head refl)
+      member (suc (suc (suc v))) l u = absurd (omega arith)
+
+  numbered : All (Holds F) numberSamples
+  unfolding renumbered renumber highest slotOf bump snapsOf unless judgeIn pendingAfter relabelled scanOf carryOut step below next agrees firstDifference
+      labelBelow labelBefore nextLabel others level newLabel every count firstFrom newest inserted ordered passing tabulate call labelled one two three
+      together overtaken
+  numbered = (
+    refl,
+    (refl, (refl, (numbers F L 3 (omega arith) (omega arith) _, (numbers-do F L 3 (omega arith) (omega arith) apart, tt)))),
+  )
+
   pub samples-hold : SamplesHold F
-  samples-hold = all-append (Holds F) samples (serviceSamples ++ topSamples) scope (all-append (Holds F) serviceSamples topSamples service shared)
+  samples-hold = all-append (Holds F) samples (serviceSamples ++ topSamples ++ numberSamples) scope
+      (all-append (Holds F) serviceSamples (topSamples ++ numberSamples) service (all-append (Holds F) topSamples numberSamples shared numbered))

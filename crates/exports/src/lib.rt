@@ -1,4 +1,5 @@
-// The functions exported to programs in C and Rust: step calls on a table in four arrays, which its owner lends, a question to it, and whole schedule files.
+// The functions exported to programs in C and Rust: step calls on a table in four arrays, which its owner lends, a question to it, and whole schedule files,
+// their reports and their numbers.
 ghost use mathlib.Core.Path.{_≡_};
 ghost use mathlib.Core.Logic.{_≢_};
 ghost use mathlib.Core.List.{map};
@@ -11,13 +12,14 @@ ghost use Rattle.arrays.specs.Arrays.{arrays};
 ghost use Rattle.arrays.specs.Form.{lent};
 ghost use Rattle.engine.specs.Contracts.{recordOf};
 ghost use Rattle.file.specs.Contracts.{ReportsFile};
+ghost use Rattle.numbering.specs.Files.{NumbersFile};
 ghost use Rattle.exports.specs.Contracts.{Starts};
 use arrays::Control;
 use arrays::Jobs;
 use arrays::Labels;
 use arrays::Results;
 
-// What a caller is told: the documents' number, 0 if the call is served, and how many bytes or records of report were written.
+// What a caller is told: the documents' number, 0 if the call is served, and how many bytes or records of report, or numbers, were written.
 #[repr(C)]
 pub struct Answer {
     pub refusal: u64,
@@ -145,5 +147,19 @@ pub extern "C" fn tickets_report(schedule: &[u8], report: &mut [u8]) -> Answer
     Answer {
         refusal: refusal.number(),
         written: whole.written as u64,
+    }
+}
+
+// Writes the numbers of a whole schedule file to the front of a list, one for each accepted snap for a label; `written` counts them. A refusal is answered
+// before any step is run, and the list is whole then.
+#[no_mangle]
+pub extern "C" fn tickets_numbers(schedule: &[u8], numbers: &mut [u32]) -> Answer
+    ensures { λ r. ⌜ NumbersFile (now (schedule .entry)) (now (numbers .entry)) (r .refusal) (r .written) (now (numbers .exit)) ⌝ }
+{
+    let found = numbering::numbers(schedule, numbers);
+    let refusal = found.refusal;
+    Answer {
+        refusal: refusal.number(),
+        written: found.written as u64,
     }
 }

@@ -7,7 +7,7 @@ use mathlib.Core.List.{[], _∷_, _++_}
 use Prim.Native.Nat.{ℕ, _+_, _-_, _*_, _/_, _≤_, _<_, min}
 use native.Mathlib.Decide.{decLt}
 use native.Mathlib.Omega.{arith}
-use lib.ListN.{length, take, drop, length-append, length-take, length-drop, drop-of-length-le}
+use lib.ListN.{length, take, drop, length-append, length-drop, drop-of-length-le}
 use lib.Seq.{take-at, length-take-le}
 use borrow.Rule.Slice.PartMut.{midOf, putMid}
 use Rattle.simulation.specs.Calls.{Buffer, Call}
@@ -24,6 +24,7 @@ use Rattle.schedule.specs.Files.{cut, pieces, printed, behind, runLines}
 use Rattle.schedule.proofs.SessionLaws.{next-refused, next-within}
 use Rattle.schedule.proofs.Runs.{shownOf, run-refused, run-step, put-over, length-over, over-short, printed-refusal}
 use Rattle.schedule.proofs.Cuts.{run-append, cut-add}
+use Rattle.schedule.proofs.Places.{line-length}
 use Rattle.schedule.specs.declared.Line.the-variants.{Step, Refused}
 use Rattle.file.specs.Contracts.{Prints, readLines, Reports}
 use Rattle.file.specs.declared.Progress.{Progress}
@@ -45,18 +46,12 @@ Starts chunk at = at ≡ min (18 * readLines at) (length chunk)
 
 -- the line that starts there
 module _ (chunk : Lists.List ℕ) {at : ℕ} (h : at < length chunk) {l : Lists.List ℕ} (p : l ≡ take 18 (drop at chunk)) where
-  line-long : length l ≡ min 18 (length chunk - at)
-  line-long = ap length p ∙ length-take 18 (drop at chunk) ∙ ap (min 18) (length-drop at chunk)
-
-  pub line-within : (at + length l ≤ length chunk) × (0 < length l)
-  line-within = (omega (arith, line-long), omega (arith, line-long))
-
   module _ (w : Starts chunk at) where
     line-next : readLines (at + length l) ≡ readLines at + 1
-    line-next = omega (arith, line-long, w)
+    line-next = omega (arith, line-length chunk h p, w)
 
     line-starts : Starts chunk (at + length l)
-    line-starts = omega (arith, line-long, w)
+    line-starts = omega (arith, line-length chunk h p, w)
 
     line-cut : cut (readLines (at + length l)) chunk ≡ cut (readLines at) chunk ++ (l ∷ [])
     unfolding cut

@@ -14,8 +14,8 @@ use borrow.Author.Tests.{le-leb, lt-leb, ne-eqb}
 use Rattle.columns.proofs.ColumnLaws.{length-report-line}
 use Rattle.transition.specs.Forms.{over, freshTable}
 use Rattle.moves.specs.Moves.{refusalNumber}
+use Rattle.moves.proofs.MoveLaws.{accepted}
 use Rattle.moves.specs.declared.Refusal.{Refusal}
-use Rattle.moves.specs.declared.Refusal.the-variants as Refusals
 use Rattle.moves.specs.declared.Refusal.the-variants.{Accepted}
 use Rattle.arrays.specs.Arrays.{Arrays}
 use Rattle.arrays.specs.Form.{lent}
@@ -30,25 +30,6 @@ use Rattle.schedule.specs.declared.Header.the-variants.{Stations}
 use Rattle.file.specs.Contracts.{Reports, Follows, ReportsAll, Sizes, ReportsFile}
 use Rattle.file.proofs.ChunkLaws.{reports-within, reports-shown, reports-left, reports-rest, reports-on}
 use Rattle.file.specs.declared.Progress.{Progress}
-
--- 0 is the number of no refusal
-accepted : (r : Refusal) → refusalNumber r ≡ 0 → r ≡ Accepted
-accepted Accepted e = refl
-accepted Refusals.StationCount e = absurd (omega arith)
-accepted Refusals.UnknownStation e = absurd (omega arith)
-accepted Refusals.Busy e = absurd (omega arith)
-accepted Refusals.NoSnapDue e = absurd (omega arith)
-accepted Refusals.NoUpdateDue e = absurd (omega arith)
-accepted Refusals.NothingToEnd e = absurd (omega arith)
-accepted Refusals.NoRoom e = absurd (omega arith)
-accepted Refusals.IncompleteLine e = absurd (omega arith)
-accepted Refusals.MalformedColumn e = absurd (omega arith)
-accepted Refusals.UnknownStep e = absurd (omega arith)
-accepted Refusals.JobOutOfRange e = absurd (omega arith)
-accepted Refusals.TooManyLines e = absurd (omega arith)
-accepted Refusals.IllFormedTable e = absurd (omega arith)
-accepted Refusals.OutOfService e = absurd (omega arith)
-accepted Refusals.InService e = absurd (omega arith)
 
 -- BYTES
 

@@ -15,12 +15,12 @@ use Rattle.label.specs.Labels as Labels
 use Rattle.label.specs.Labels.{labelBefore}
 use Rattle.rows.specs.Held.{standsIn, Orderly, OrderedBefore}
 use Rattle.rows.proofs.OrderLaws.{order-front, orderly-total, last-newest}
-use Rattle.simulation.specs.Calls.{Buffer, Call, reportLines, bytesOf}
-use Rattle.simulation.specs.Machine.{original, digits, Labelling, labelStep, relabelled, State, Answer, step}
-use Rattle.simulation.proofs.Touched.{touched, labels-kept, refused-stays}
-use Rattle.transition.specs.Forms.{Form, over, freshTable, stepOf, after}
-use Rattle.transition.proofs.Reached.{Reached}
-use Rattle.transition.proofs.Theorem.{reached-held, reached-next, ReachedTable, table-fresh, table-count, table-passes, table-step, table-after}
+use Rattle.simulation.specs.Calls.{Buffer, Call, reportLines, bytesOf, written}
+use Rattle.simulation.specs.Machine.{original, digits, Labelling, labelStep, relabelled, State, step}
+use Rattle.simulation.proofs.Touched.{touched, labels-kept}
+use Rattle.transition.specs.Forms.{Form, TableAnswer, over, freshTable, stepOf, after}
+use Rattle.transition.proofs.Theorem.{step-kept, reached-held, reached-written, reached-next}
+use Rattle.transition.proofs.Theorem.{ReachedTable, table-fresh, table-count, table-passes, table-step, table-after}
 use Rattle.moves.specs.Moves.{refusalNumber, moveOf}
 use Rattle.moves.proofs.MoveLaws.{by-move}
 use Rattle.moves.specs.declared.Move.{Move}
@@ -30,7 +30,7 @@ use Rattle.arrays.specs.WellFormed.{wellFormed}
 use Rattle.arrays.specs.Form.{lent}
 use Rattle.arrays.proofs.States.{lent-lawful}
 use Rattle.engine.specs.Scans.{orderOf}
-use Rattle.engine.specs.Contracts.{callOf, actionOf, Prepared, stateAfter, Carries, Judges, Hands}
+use Rattle.engine.specs.Contracts.{callOf, actionOf, Prepared, Carries, Judges, Hands}
 use Rattle.engine.proofs.Reports.{result-length}
 use Rattle.engine.proofs.Served as Served
 use Rattle.engine.proofs.Served.{orderly, ready, judged, served, bytes-fit}
@@ -39,7 +39,8 @@ use Rattle.engine.specs.declared.Request.{Request}
 use Rattle.engine.specs.declared.Task.{Task}
 use Rattle.schedule.specs.Files.{printed}
 use Rattle.schedule.proofs.Runs.{printed-accepted}
-use Rattle.file.specs.Contracts.{Runnable, Prints}
+use Rattle.file.specs.Contracts.{Runnable, Turns, Prints}
+use Rattle.file.specs.declared.Turn.{Turn}
 
 -- one call more
 after-more : (F : Form) (cs : Lists.List Call) (c : Call) (t : F .Table) → after F t (cs ++ (c ∷ [])) ≡ stepOf F (after F t cs) c .table
@@ -71,9 +72,17 @@ module _ {a : Arrays} {order : Lists.List ℕ} (f : Runnable a order) where
   pub run-passes : wellFormed a ≡ true
   run-passes = table-passes lent lent-lawful n (f .low) (f .high) a run-reached
 
-  holds : Reached n (stateOf a)
-  holds = let r = run-reached in
-      subst (Reached n) (sym (ap stateOf (r .holds) ∙ reached-held lent lent-lawful n (f .low) (f .high) (r .reached))) (r .reached)
+  -- the table holds a reached state, and a step call leaves the one that the machine does
+  held : stateOf a ≡ run-reached .state
+  held = ap stateOf (run-reached .holds) ∙ reached-held lent lent-lawful n (f .low) (f .high) (run-reached .reached)
+
+  pub next-state : (c : Call) → stateOf (stepOf lent a c .table) ≡ step original n (digits n) (stateOf a) c .state
+  next-state c =
+      let r = run-reached in
+      ap (λ t. stateOf (stepOf lent t c .table)) (r .holds)
+      ∙ ap (λ (u : TableAnswer Arrays). stateOf (u .table)) (reached-written lent lent-lawful n (f .low) (f .high) (r .reached) c)
+      ∙ reached-held lent lent-lawful n (f .low) (f .high) (reached-next lent lent-lawful n (f .low) (f .high) (r .reached) c)
+      ∙ ap (λ (s : State Labels.Label). step original n (digits n) s c .state) (sym held)
 
   pub run-orderly : Orderly n (getD (a .labels) 0 [])
   run-orderly = orderly a run-passes
@@ -103,16 +112,10 @@ module _ {a : Arrays} {order : Lists.List ℕ} (f : Runnable a order) where
       same-count = table-count lent lent-lawful n (f .low) (f .high) a′ line-reached
 
       -- the labels left are those that the machine leaves
-      done : stateAfter a (actionOf x) ≡ step original n (digits n) (stateOf a) c .state
-      unfolding step
-      done = ap (stateAfter a) (judged a run-passes q (Buffer 928) _ x j)
-
       line-labels : stateOf a′ .labels false ≡ relabelled n (digits n) (stateOf a .labels) (labelStep (actionOf x)) false
-      line-labels =
-          let e : stateOf (arraysOf n (stateAfter a (actionOf x))) ≡ stateAfter a (actionOf x)
-          = subst (λ (s : State Labels.Label). stateOf (arraysOf n s) ≡ s) (sym done)
-          (reached-held lent lent-lawful n (f .low) (f .high) (reached-next lent lent-lawful n (f .low) (f .high) holds c)) in
-          ap (λ (s : State Labels.Label). s .labels false) (ap stateOf (g .0 .table) ∙ e)
+      unfolding step
+      line-labels = ap (λ (s : State Labels.Label). s .labels false) (ap stateOf (hands .table) ∙ next-state c)
+          ∙ ap (λ w. relabelled n (digits n) (stateOf a .labels) (labelStep w) false) (sym (judged a run-passes q (Buffer 928) _ x j))
 
       pub line-orderly : Orderly (a′ .count) (getD (a′ .labels) 0 [])
       line-orderly = orderly a′ (table-passes lent lent-lawful n (f .low) (f .high) a′ line-reached)
@@ -140,46 +143,61 @@ module _ {a : Arrays} {order : Lists.List ℕ} (f : Runnable a order) where
         isOrder = e;
       }
 
-      -- there is room for the report lines of the entries handed out
-      pub line-fits : (h .entries ≤ 32) × (h .entries * 29 ≤ 928)
-      line-fits = (hands .few, bytes-fit hands 928 refl)
+      pub line-turned : Turns a c a′
+          (record { action = x .action; newest = getD order (n - 1) 0; refusal = h .refusal; place = h .place; entries = h .entries })
+      line-turned = record {
+        hands = hands;
+        action = (λ i. moveOf (g .0 .place i) (sym (j .job) i) (x .action)) ∙ judged a run-passes q (Buffer 928) _ x j;
+        newest = run-newest;
+      }
 
-      abbrev lines : Lists.List ℕ
-      lines = reportLines (q .line) 1 (entriesIn (h .entries) (getD (a′ .results) (x .place) []))
+  -- A TURN: what it hands out
+  module _ {c : Call} {a′ : Arrays} {t : Turn} (g : Turns a c a′ t) where
+    -- there is room for the report lines of the entries handed out
+    pub turn-fits : c .room ≡ Buffer 928 → (t .entries ≤ 32) × (t .entries * 29 ≤ 928)
+    turn-fits e = (g .hands .few, bytes-fit (g .hands) 928 e)
 
-      told : bytesOf (stepOf lent a c .report) ≡ lines
-      told = ap bytesOf (hands .report) ∙ ap (λ k. reportLines (q .line) 1 (entriesIn (h .entries) (getD (a′ .results) k []))) (g .0 .place)
+    abbrev lines : Lists.List ℕ
+    lines = reportLines (c .line) 1 (entriesIn (t .entries) (getD (a′ .results) (t .place) []))
 
-      -- a refused line hands out nothing
-      none : refusalNumber (h .refusal) ≢ 0 → lines ≡ []
-      unfolding reportLines
-      none d = ap (reportLines (q .line) 1) (sym (g .0 .handed))
-          ∙ ap (λ (u : Answer Labels.Label). bytesOf (u .report)) (refused-stays n (digits n) (stateOf a) c (actionOf x) (λ w. d (g .0 .number ∙ w)))
+    told : c .room ≡ Buffer 928 → bytesOf (stepOf lent a c .report) ≡ lines
+    told e = ap bytesOf (g .hands .report) ∙ ap (λ r. bytesOf (written (c .line) r (entriesIn (t .entries) (getD (a′ .results) (t .place) [])))) e
 
-      -- what the line prints: its report, or one line with its refusal
-      pub line-prints : {k w : ℕ} {buffer buffer′ buffer″ : Lists.List ℕ} → let refusal = printed (q .line) (refusalNumber (h .refusal)) [] in
-          w ≡ h .entries * 29 → buffer′ ≡ over lines buffer → k ≡ length refusal → buffer″ ≡ over refusal buffer′ → Prints a c buffer a′ (w + k) buffer″
-      line-prints {buffer = buffer} {buffer′} w r e b = by-cases (ℕ-discrete (refusalNumber (h .refusal)) 0)
-          (λ z.
-          let y : stepOf lent a c .refusal ≡ 0 = sym (hands .number) ∙ z in
-          let empty = printed-accepted (q .line) (refusalNumber (h .refusal)) buffer′ z in
-          record {
-            table = hands .table;
-            count = rw (eq-eqb _ 0 y) (omega (arith, e, empty .0, w, long, ap length told));
-            report = rw (eq-eqb _ 0 y) (b ∙ sym (empty .1) ∙ r ∙ ap (λ l. over l buffer) (sym told));
-          })
-          (λ z.
-          let y : stepOf lent a c .refusal ≢ 0 = λ v. z (hands .number ∙ v) in
-          let short : printed (q .line) (refusalNumber (h .refusal)) [] ≡ printed (q .line) (stepOf lent a c .refusal) (bytesOf (stepOf lent a c .report))
-          = ap (λ (v : ℕ). printed (q .line) v []) (hands .number) ∙ rw (ne-eqb _ 0 y) refl in
-          record {
-            table = hands .table;
-            count = omega (arith, e, w, long, ap length (none z), ap length short);
-            report = b ∙ (λ i. over (short i) ((r ∙ ap (λ l. over l buffer) (none z)) i));
-          })
-        where
-          long : length lines ≡ h .entries * 29
-          long = result-length (q .line) (h .entries) (getD (a′ .results) (x .place) [])
+    -- a refused line hands out nothing
+    none : c .room ≡ Buffer 928 → refusalNumber (t .refusal) ≢ 0 → lines ≡ []
+    unfolding reportLines
+    none e d = sym (told e)
+        ∙ ap (λ (u : TableAnswer Arrays). bytesOf (u .report)) (step-kept lent a (λ _. same) c (λ v. d (g .hands .number ∙ v)))
+        ∙ ap (λ r. bytesOf (written (c .line) r [])) e
+      where
+        same : arraysOf n (stateOf a) ≡ a
+        same = ap (arraysOf n) held ∙ sym (run-reached .holds)
+
+    -- what the line prints: its report, or one line with its refusal
+    pub turn-prints : c .room ≡ Buffer 928 → {k w : ℕ} {buffer buffer′ buffer″ : Lists.List ℕ}
+        → let refusal = printed (c .line) (refusalNumber (t .refusal)) [] in
+        w ≡ t .entries * 29 → buffer′ ≡ over lines buffer → k ≡ length refusal → buffer″ ≡ over refusal buffer′ → Prints a c buffer a′ (w + k) buffer″
+    turn-prints room {buffer = buffer} {buffer′} w r e b = by-cases (ℕ-discrete (refusalNumber (t .refusal)) 0)
+        (λ z.
+        let y : stepOf lent a c .refusal ≡ 0 = sym (g .hands .number) ∙ z in
+        let empty = printed-accepted (c .line) (refusalNumber (t .refusal)) buffer′ z in
+        record {
+          table = g .hands .table;
+          count = rw (eq-eqb _ 0 y) (omega (arith, e, empty .0, w, long, ap length (told room)));
+          report = rw (eq-eqb _ 0 y) (b ∙ sym (empty .1) ∙ r ∙ ap (λ l. over l buffer) (sym (told room)));
+        })
+        (λ z.
+        let y : stepOf lent a c .refusal ≢ 0 = λ v. z (g .hands .number ∙ v) in
+        let short : printed (c .line) (refusalNumber (t .refusal)) [] ≡ printed (c .line) (stepOf lent a c .refusal) (bytesOf (stepOf lent a c .report))
+        = ap (λ (v : ℕ). printed (c .line) v []) (g .hands .number) ∙ rw (ne-eqb _ 0 y) refl in
+        record {
+          table = g .hands .table;
+          count = omega (arith, e, w, long, ap length (none room z), ap length short);
+          report = b ∙ (λ i. over (short i) ((r ∙ ap (λ l. over l buffer) (none room z)) i));
+        })
+      where
+        long : length lines ≡ t .entries * 29
+        long = result-length (c .line) (t .entries) (getD (a′ .results) (t .place) [])
 
 -- the fresh table is one
 module _ (n : ℕ) (low : 2 ≤ n) (high : n ≤ 32) {a : Arrays} (e : a ≡ freshTable lent n) where

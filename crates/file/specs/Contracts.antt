@@ -2,20 +2,25 @@
 use Prim.Native.Nat.{ℕ, _+_, _*_, _/_, _≤_, _<_, min}
 use mathlib.Core.Path.{_≡_}
 use mathlib.Core.Logic.{_≢_, _⊎_}
-use mathlib.Core.Bool.{Bool, cond}
+use mathlib.Core.Bool.{Bool, false, cond}
 use mathlib.Core.List as Lists
 use mathlib.Core.List.{[]}
 use lib.ListN.{length, getD}
 use lib.Dec.{leb}
-use Rattle.simulation.specs.Calls.{Call, bytesOf}
+use Rattle.basics.specs.Tests.{newest}
+use Rattle.rows.specs.Held.{standsIn}
+use Rattle.simulation.specs.Calls.{Call, judge, bytesOf}
 use Rattle.transition.specs.Forms.{over, freshTable, stepOf, after}
-use Rattle.moves.specs.Moves.{refusalNumber}
-use Rattle.arrays.specs.Arrays.{Arrays}
+use Rattle.moves.specs.Moves.{refusalNumber, moveOf}
+use Rattle.arrays.specs.Arrays.{Arrays, restOf}
 use Rattle.arrays.specs.Form.{lent}
+use Rattle.engine.specs.Contracts.{Hands}
 use Rattle.engine.specs.Scans.{orderOf}
 use Rattle.schedule.specs.Sessions.{Session, session, Served}
 use Rattle.schedule.specs.Files.{cut, pieces, printed, runLines, fileReport, fileRefusal}
+use Rattle.engine.specs.declared.Handed.{Handed}
 use Rattle.engine.specs.declared.Reply.{Reply}
+use Rattle.file.specs.declared.Turn.{Turn}
 use Rattle.file.specs.declared.Progress.{Progress}
 
 -- a table that step calls leave of the fresh one, with its scan order
@@ -25,6 +30,17 @@ pub record Runnable (a : Arrays) (order : Lists.List ℕ) : Type 0 where
   pub calls : Lists.List Call
   pub reached : a ≡ after lent (freshTable lent (a .count)) calls
   pub isOrder : order ≡ orderOf (a .count) (getD (a .labels) 0 [])
+
+-- what a step call that was served hands out
+abbrev pub handedBy : Turn → Handed
+handedBy r = record { refusal = r .refusal; place = r .place; entries = r .entries }
+
+-- the step call c on the table a, up to what is written of it: the table left and what is handed out, what the call amounts to, and the newest station
+-- before it
+pub record Turns (a : Arrays) (c : Call) (a′ : Arrays) (r : Turn) : Type 0 where
+  pub hands : Hands a c a′ (handedBy r)
+  pub action : moveOf (r .place) (c .job) (r .action) ≡ judge false (a .count) (restOf a) c
+  pub newest : r .newest ≡ newest (a .count) (standsIn (a .count) (getD (a .labels) 0 []))
 
 -- the step call c on the table a, and what its line prints into the buffer: n bytes
 pub record Prints (a : Arrays) (c : Call) (buffer : Lists.List ℕ) (a′ : Arrays) (n : ℕ) (buffer′ : Lists.List ℕ) : Type 0 where

@@ -3,7 +3,7 @@ ghost use mathlib.Core.Path.{_≡_};
 ghost use mathlib.Core.Logic.{_≢_};
 ghost use mathlib.Core.List.{[], _++_};
 ghost use Prim.Native.Nat.{_+_, _≤_, _<_};
-ghost use lib.ListN.{length, take, drop};
+ghost use lib.ListN.{length, take};
 ghost use Rattle.rows.specs.Held.{Orderly, OrderedBefore};
 ghost use Rattle.simulation.specs.Calls.{Buffer};
 ghost use Rattle.transition.specs.Forms.{over, freshTable};
@@ -16,7 +16,7 @@ ghost use Rattle.engine.specs.Scans.{orderOf};
 ghost use Rattle.engine.specs.Contracts.{callOf};
 ghost use Rattle.schedule.specs.Sessions.{session};
 ghost use Rattle.schedule.specs.Files.{cut, pieces, printed, runLines};
-ghost use Rattle.file.specs.Contracts.{Runnable, Prints, Reports, Follows, ReportsAll, Sizes, ReportsFile};
+ghost use Rattle.file.specs.Contracts.{Runnable, Turns, Prints, Reports, Follows, ReportsAll, Sizes, ReportsFile};
 use arrays::Control;
 use arrays::Jobs;
 use arrays::Labels;
@@ -55,26 +55,6 @@ pub fn print_refusal(line: u64, refusal: Refusal, out: &mut [u8]) -> usize
     29
 }
 
-// The line that starts at a place: 18 bytes, or what is left.
-fn line_at(chunk: &[u8], at: usize) -> &[u8]
-    requires { ⌜ at ≤ length (now chunk) ⌝ }
-    ensures { λ r. ⌜ now r ≡ take 18 (drop at (now (chunk .entry))) ⌝ }
-{
-    if 18 <= chunk.len() - at {
-        &chunk[at..at + 18]
-    } else {
-        &chunk[at..]
-    }
-}
-
-// What stands from a place on.
-fn from(file: &[u8], at: usize) -> &[u8]
-    requires { ⌜ at ≤ length (now file) ⌝ }
-    ensures { λ r. ⌜ now r ≡ drop at (now (file .entry)) ⌝ }
-{
-    &file[at..]
-}
-
 // Brings the scan order up to date after a move of the station at a place. Only an update can change it.
 fn refresh_order(m: Move, place: usize, rows: &[[u8; 31]; 32], n: usize, order: &mut [usize; 32])
     requires { ⌜ Orderly n (now rows) ⌝ }
@@ -88,6 +68,46 @@ fn refresh_order(m: Move, place: usize, rows: &[[u8; 31]; 32], n: usize, order: 
             rows::order::reorder(rows, n, order, place);
         }
         _ => {}
+    }
+}
+
+// A step call that was served: what it amounts to, the newest station before it, its refusal, and so many entries of the scan result at a place, that of its
+// station, which it hands out.
+pub struct Turn {
+    pub action: Move,
+    pub newest: usize,
+    pub refusal: Refusal,
+    pub place: usize,
+    pub entries: usize,
+}
+
+// Serves a step call, up to what is written of it, and brings the scan order up to date.
+pub fn take_turn(
+    n: usize,
+    request: Request,
+    order: &mut [usize; 32],
+    labels: &mut Labels,
+    jobs: &mut Jobs,
+    control: &mut Control,
+    results: &mut Results,
+) -> Turn
+    requires { ⌜ Runnable (arrays n (now labels) (now jobs) (now control) (now results)) (now order) ⌝ }
+    ensures { λ r. ⌜ Turns (arrays n (now (labels .entry)) (now (jobs .entry)) (now (control .entry)) (now (results .entry))) (callOf request (Buffer 928))
+        (arrays n (now (labels .exit)) (now (jobs .exit)) (now (control .exit)) (now (results .exit))) r ⌝ }
+    ensures { λ _. ⌜ Runnable (arrays n (now (labels .exit)) (now (jobs .exit)) (now (control .exit)) (now (results .exit))) (now (order .exit)) ⌝ }
+{
+    let top = order[n - 1];
+    let task = engine::judge(n, request, control, results, Room::Buffer(ROOM), top);
+    let h = engine::carry_out(n, task, order, labels, jobs, control, results);
+    let m = task.action;
+    refresh_order(m, task.place, &labels[0], n, order);
+    let refusal = h.refusal;
+    Turn {
+        action: m,
+        newest: top,
+        refusal,
+        place: h.place,
+        entries: h.entries,
     }
 }
 
@@ -109,14 +129,10 @@ fn serve_line(
         (arrays n (now (labels .exit)) (now (jobs .exit)) (now (control .exit)) (now (results .exit))) r (now (out .exit)) ⌝ }
     ensures { λ _. ⌜ Runnable (arrays n (now (labels .exit)) (now (jobs .exit)) (now (control .exit)) (now (results .exit))) (now (order .exit)) ⌝ }
 {
-    let top = order[n - 1];
-    let task = engine::judge(n, request, control, results, Room::Buffer(ROOM), top);
-    let h = engine::carry_out(n, task, order, labels, jobs, control, results);
-    let m = task.action;
-    let place = task.place;
-    refresh_order(m, place, &labels[0], n, order);
-    let refusal = h.refusal;
-    let written = engine::write_result(&results[place], h.entries, request.line, out);
+    let t = take_turn(n, request, order, labels, jobs, control, results);
+    let refusal = t.refusal;
+    let place = t.place;
+    let written = engine::write_result(&results[place], t.entries, request.line, out);
     written + print_refusal(request.line, refusal, out)
 }
 
@@ -151,7 +167,7 @@ pub fn report_lines(
                 written,
             };
         }
-        let line = line_at(chunk, at);
+        let line = schedule::line_at(chunk, at);
         let number = count as u64 + 1;
         match schedule::next_line(count, line) {
             Line::Refused(refusal) => {
@@ -251,7 +267,7 @@ fn report_steps(n: usize, rest: &[u8], out: &mut [u8]) -> Reply
             &mut jobs,
             &mut control,
             &mut results,
-            from(rest, at),
+            schedule::from(rest, at),
             &mut scratch,
         );
         let k = r.written;
@@ -282,7 +298,7 @@ fn report_size(n: usize, rest: &[u8], room: usize) -> usize
 pub fn report(file: &[u8], out: &mut [u8]) -> Reply
     ensures { λ r. ⌜ ReportsFile (now (file .entry)) (now (out .entry)) (refusalNumber (r .refusal)) (r .written) (now (out .exit)) ⌝ }
 {
-    let header = line_at(file, 0);
+    let header = schedule::line_at(file, 0);
     match schedule::read_header(header) {
         Header::Refused(refusal) => {
             if out.len() < 29 {
@@ -295,7 +311,7 @@ pub fn report(file: &[u8], out: &mut [u8]) -> Reply
             Reply { refusal, written }
         }
         Header::Stations(n) => {
-            let rest = from(file, header.len());
+            let rest = schedule::from(file, header.len());
             if out.len() < report_size(n, rest, out.len()) {
                 return Reply {
                     refusal: Refusal::NoRoom,

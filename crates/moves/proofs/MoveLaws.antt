@@ -14,10 +14,12 @@ use Rattle.basics.proofs.Facts.{within-true}
 use Rattle.simulation.specs.Calls as Calls
 use Rattle.simulation.specs.Calls.{Call, judgeIn}
 use Rattle.simulation.proofs.Judged.{begin-fits, verdict}
-use Rattle.moves.specs.Moves.{moveOf, placeOf}
+use Rattle.moves.specs.Moves.{refusalNumber, moveOf, placeOf}
 use Rattle.moves.specs.declared.Move.{Move}
 use Rattle.moves.specs.declared.Move.the-variants.{Refused, BeginLabel, SnapLabel, SnapScan, Update, EndLabel, EndScan, LeaveService, ReturnToService}
 use Rattle.moves.specs.declared.Refusal.{Refusal}
+use Rattle.moves.specs.declared.Refusal.the-variants as Refusals
+use Rattle.moves.specs.declared.Refusal.the-variants.{Accepted}
 use Rattle.moves.proofs.Move.{the-type}
 
 -- a fact about every move, from one for each
@@ -49,3 +51,24 @@ place-below n station h = go (within 1 n station) refl
     go : (b : Bool) → within 1 n station ≡ b → cond b (station - 1) 0 < n
     go true e = let w = within-true 1 n station e in omega arith
     go false e = omega arith
+
+-- 0 is the number of no refusal
+pub accepted : (r : Refusal) → refusalNumber r ≡ 0 → r ≡ Accepted
+accepted Accepted e = refl
+accepted Refusals.StationCount e = absurd (omega arith)
+accepted Refusals.UnknownStation e = absurd (omega arith)
+accepted Refusals.Busy e = absurd (omega arith)
+accepted Refusals.NoSnapDue e = absurd (omega arith)
+accepted Refusals.NoUpdateDue e = absurd (omega arith)
+accepted Refusals.NothingToEnd e = absurd (omega arith)
+accepted Refusals.NoRoom e = absurd (omega arith)
+accepted Refusals.IncompleteLine e = absurd (omega arith)
+accepted Refusals.MalformedColumn e = absurd (omega arith)
+accepted Refusals.UnknownStep e = absurd (omega arith)
+accepted Refusals.JobOutOfRange e = absurd (omega arith)
+accepted Refusals.TooManyLines e = absurd (omega arith)
+accepted Refusals.IllFormedTable e = absurd (omega arith)
+accepted Refusals.OutOfService e = absurd (omega arith)
+accepted Refusals.InService e = absurd (omega arith)
+accepted Refusals.TooManySteps e = absurd (omega arith)
+accepted Refusals.ListTooShort e = absurd (omega arith)

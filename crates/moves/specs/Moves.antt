@@ -13,7 +13,7 @@ use Rattle.moves.specs.declared.Room.the-variants.{Buffer, Panel}
 use Rattle.moves.specs.declared.Refusal.{Refusal}
 use Rattle.moves.specs.declared.Refusal.the-variants.{Accepted, StationCount, UnknownStation, Busy, NoSnapDue, NoUpdateDue, NothingToEnd}
 use Rattle.moves.specs.declared.Refusal.the-variants.{NoRoom, IncompleteLine, MalformedColumn, UnknownStep, JobOutOfRange, TooManyLines}
-use Rattle.moves.specs.declared.Refusal.the-variants.{IllFormedTable, OutOfService, InService}
+use Rattle.moves.specs.declared.Refusal.the-variants.{IllFormedTable, OutOfService, InService, TooManySteps, ListTooShort}
 use Rattle.moves.specs.declared.Move.{Move}
 use Rattle.moves.specs.declared.Move.the-variants as Moves
 use Rattle.moves.specs.declared.Move.the-variants.{Refused, BeginLabel, SnapLabel, SnapScan, EndLabel, EndScan, LeaveService, ReturnToService}
@@ -34,7 +34,7 @@ abbrev pub roomOf : Room → Calls.Room
 roomOf (Buffer b) = Calls.Buffer b
 roomOf (Panel r) = Calls.Panel r
 
--- 01, "When a step is turned down", and 02, Card 4: the number of each refusal
+-- 01, "When a step is turned down", and 02, Cards 4 and 6: the number of each refusal
 abbrev pub refusalNumber : Refusal → ℕ
 refusalNumber Accepted = 0
 refusalNumber StationCount = 1
@@ -52,6 +52,8 @@ refusalNumber TooManyLines = 12
 refusalNumber IllFormedTable = 13
 refusalNumber OutOfService = 14
 refusalNumber InService = 15
+refusalNumber TooManySteps = 16
+refusalNumber ListTooShort = 17
 
 -- a declared move as the action of process k, where a begin has this job
 abbrev pub moveOf : ℕ → ℕ → Move → Calls.Move

@@ -26,8 +26,8 @@ pub enum Room {
     Panel(usize),
 }
 
-// Why a call is turned down, in the order of the documents' numbers, of which 14 and 15 are document 02's; `Accepted` is 0. Document 01's trade words stand
-// beside the names.
+// Why a call is turned down, in the order of the documents' numbers, of which those from 14 on are document 02's; `Accepted` is 0. Document 01's trade
+// words stand beside the names.
 pub enum Refusal {
     Accepted,
     StationCount, // 1, bad crew
@@ -45,6 +45,8 @@ pub enum Refusal {
     IllFormedTable, // 13, spoiled table
     OutOfService, // 14
     InService, // 15
+    TooManySteps, // 16
+    ListTooShort, // 17
 }
 
 impl Refusal {
@@ -69,6 +71,8 @@ impl Refusal {
             Refusal::IllFormedTable => 13,
             Refusal::OutOfService => 14,
             Refusal::InService => 15,
+            Refusal::TooManySteps => 16,
+            Refusal::ListTooShort => 17,
         }
     }
 }

@@ -1,9 +1,9 @@
 -- A file that is read in parts, each but the last of whole lines, comes to what it comes to in one piece.
-use Prim.Native.Nat.{ℕ, zero, suc, _+_, _*_, _≤_}
+use Prim.Native.Nat.{ℕ, zero, suc, _+_, _-_, _*_, _≤_, _<_}
 use native.Mathlib.Nat.{zero-add}
 use native.Mathlib.Omega.{arith}
 use mathlib.Core.Path.{_≡_, refl, sym, ap, _∙_}
-use mathlib.Core.Bool.{Bool, true, false, true≢false}
+use mathlib.Core.Bool.{Bool, true, false, cond, true≢false}
 use mathlib.Core.List as Lists
 use mathlib.Core.List.{[], _∷_, _++_, append-assoc, append-nil}
 use lib.ListN.{length, take, drop, length-append, length-drop}
@@ -64,7 +64,7 @@ cut-append (suc k) j a b h =
     let left : length (drop 18 a) ≡ 18 * k = rw length-drop (omega arith) in
     rw (n, take-append-le 18 a b long, drop-append-le 18 a b long) (ap (λ l. take 18 a ∷ l) (cut-append k j (drop 18 a) b left))
 
-lines-append : (k : ℕ) (a b : Lists.List ℕ) → length a ≡ 18 * k → cut (pieces (a ++ b)) (a ++ b) ≡ cut (pieces a) a ++ cut (pieces b) b
+pub lines-append : (k : ℕ) (a b : Lists.List ℕ) → length a ≡ 18 * k → cut (pieces (a ++ b)) (a ++ b) ≡ cut (pieces a) a ++ cut (pieces b) b
 lines-append k a b h =
     let whole : pieces (a ++ b) ≡ k + pieces b = rw (length-append a b, h) (omega arith) in
     let first : pieces a ≡ k = rw h (omega arith) in
@@ -116,3 +116,11 @@ module _ (F : Form) where
       none : (b : Lists.List ℕ) → length b ≡ 0 → b ≡ []
       none [] e = refl
       none (x ∷ b) e = absurd (omega arith)
+
+-- READING ON: what is left of the lines that a file can have, as long as there is more to read
+abbrev pub linesLeft : Bool → ℕ → ℕ
+linesLeft more lines = cond more (1000002 - lines) 0
+
+pub fewer-left : (a b : ℕ) (m m′ : Bool) → m ≡ true → a ≤ 1000001 → (m′ ≡ true → (a < b) × (b ≤ 1000001)) → linesLeft m′ b < linesLeft m a
+fewer-left a b m true e h f = rw e (omega (arith, f refl))
+fewer-left a b m false e h f = rw e (omega arith)

@@ -4,3 +4,6 @@ pub mod Runs
 pub mod Cuts
 pub mod FileTheorem
 pub mod Before
+pub mod Places
+pub mod Surveys
+pub mod Numbers

@@ -3,3 +3,4 @@ pub mod Sessions
 pub mod Files
 pub mod Demand
 pub mod Before
+pub mod Numbers

@@ -1,8 +1,14 @@
-// The lines of a schedule file: the header, and the step lines after it.
+// The lines of a schedule file: the header, and the step lines after it. Nothing here runs a step.
 ghost use mathlib.Core.Path.{_≡_};
+ghost use mathlib.Core.Bool.{cond};
+ghost use Prim.Native.Nat.{_+_, _≤_};
+ghost use lib.ListN.{length, take, drop};
+ghost use lib.Dec.{eqb};
 ghost use Rattle.schedule.specs.Lines.{lineRead, nextLine, headerRead};
+ghost use Rattle.schedule.specs.Numbers.{Surveys};
 use columns::Column;
 use columns::read_column;
+use columns::read_three;
 use moves::Refusal;
 
 // What a line of the file says: a step call, or the refusal that ends the reading.
@@ -27,10 +33,10 @@ pub fn read_line(s: &[u8]) -> Line
     if s[17] != 10 {
         return Line::Refused(Refusal::IncompleteLine);
     }
-    let Column::Value(station) = read_column(&s[0..3]) else {
+    let Column::Value(station) = read_three(s[0], s[1], s[2]) else {
         return Line::Refused(Refusal::MalformedColumn);
     };
-    let Column::Value(code) = read_column(&s[3..6]) else {
+    let Column::Value(code) = read_three(s[3], s[4], s[5]) else {
         return Line::Refused(Refusal::MalformedColumn);
     };
     let Column::Value(job) = read_column(&s[6..17]) else {
@@ -70,5 +76,75 @@ pub fn read_header(line: &[u8]) -> Header
             }
             Header::Stations(station as usize)
         }
+    }
+}
+
+// The line that starts at a place: 18 bytes, or what is left.
+pub fn line_at(chunk: &[u8], at: usize) -> &[u8]
+    requires { ⌜ at ≤ length (now chunk) ⌝ }
+    ensures { λ r. ⌜ now r ≡ take 18 (drop at (now (chunk .entry))) ⌝ }
+{
+    if 18 <= chunk.len() - at {
+        &chunk[at..at + 18]
+    } else {
+        &chunk[at..]
+    }
+}
+
+// What stands from a place on.
+pub fn from(file: &[u8], at: usize) -> &[u8]
+    requires { ⌜ at ≤ length (now file) ⌝ }
+    ensures { λ r. ⌜ now r ≡ drop at (now (file .entry)) ⌝ }
+{
+    &file[at..]
+}
+
+// What the lines of a part of a file come to, up to the refusal that ends the reading, if there is one: that refusal, how many lines are steps, and how
+// many of these are of step 3.
+pub struct Survey {
+    pub refusal: Refusal,
+    pub steps: u32,
+    pub snaps: u32,
+}
+
+// One line more: the count of those of step 3.
+fn count_snap(snaps: u32, code: u64) -> u32
+    requires { ⌜ snaps ≤ 1000001 ⌝ }
+    ensures { λ r. ⌜ r ≡ snaps + cond (eqb code 3) 1 0 ⌝ }
+{
+    if code == 3 {
+        return snaps + 1;
+    }
+    snaps
+}
+
+// Reads the lines of a part of a file behind `lines` others, and runs none of them.
+pub fn survey_lines(lines: u32, chunk: &[u8]) -> Survey
+    ensures { λ r. ⌜ Surveys lines (now (chunk .entry)) r ⌝ }
+{
+    let mut steps: u32 = 0;
+    let mut snaps: u32 = 0;
+    let mut at = 0;
+    while at < chunk.len() {
+        let line = line_at(chunk, at);
+        match next_line(lines + steps, line) {
+            Line::Refused(refusal) => {
+                return Survey {
+                    refusal,
+                    steps,
+                    snaps,
+                };
+            }
+            Line::Step { code, .. } => {
+                snaps = count_snap(snaps, code);
+                steps += 1;
+                at += line.len();
+            }
+        }
+    }
+    Survey {
+        refusal: Refusal::Accepted,
+        steps,
+        snaps,
     }
 }

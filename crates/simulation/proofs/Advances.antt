@@ -12,7 +12,7 @@ use Rattle.basics.proofs.Facts.{by-here, all-parts, all-map}
 use Rattle.simulation.specs.Calls.{Call}
 use Rattle.simulation.specs.Machine.{Board, Labelling, put, numbers, stands, LabelStep, stay, snap, update, labelStep, labelSnap, pendingAfter}
 use Rattle.simulation.specs.Machine.{relabelled, carryOut, State, answer, step, snapsOf, run, snaps}
-use Rattle.simulation.specs.Numbering.{numbered, LabelSnap, met, labelSnaps, Fit, advance, advances}
+use Rattle.simulation.specs.Numbered.{numbered, LabelSnap, met, labelSnaps, Fit, advance, advances}
 
 -- one step of the labels: the advance comes to the number, and is used up
 module _ (n : ℕ) (l : Labelling ℕ) (v : ℕ) where

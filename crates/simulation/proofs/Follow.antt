@@ -9,13 +9,14 @@ use mathlib.Core.List as Lists
 use mathlib.Core.List.{[], _∷_, _++_, map, map-map, map-id, map-append, append-assoc, append-nil, List·Memᴰ, Memᴰ·cast, Memᴰ·append-left, Memᴰ·append-right}
 use lib.ListN.{length, length-append, length-map, getD, drop, replicate, length-replicate}
 use lib.Seq.{drop-nil}
+use lib.Dec.{eqb}
 use Rattle.basics.specs.Tests.{All}
 use Rattle.basics.proofs.Facts.{all-append, all-replicate, all-weaken, map-replicate, member-replicate, first-replicate, drop-replicate, ordered-same}
 use Rattle.simulation.specs.Calls.{Rest, Call}
 use Rattle.simulation.specs.Machine.{Board, Labelling, Rules, numbers, LabelStep, labelStep, labelSnap, carryOut, State, Answer, answer, fresh, step}
 use Rattle.simulation.specs.Machine.{snapsOf, run, snaps, seen, Bounded}
-use Rattle.simulation.specs.Numbering.{numbered, LabelSnap, met, labelSnaps, Fit, Fits, Gapless, advance, advances, through, Renumbering, renumber}
-use Rattle.simulation.specs.Numbering.{renumbered}
+use Rattle.simulation.specs.Numbered.{numbered, LabelSnap, met, labelSnaps, Fit, Fits, Gapless, advance, advances, newestSnaps, zeros}
+use Rattle.simulation.specs.Numbering.{through, Renumbering, renumber, renumbered}
 use Rattle.simulation.proofs.Sync.{Rising, rising-le}
 use Rattle.simulation.proofs.Numbers.{Upto, Old, Span}
 use Rattle.simulation.proofs.Simulable.{Simulable, order-kept, Stepped, stepped}
@@ -121,6 +122,7 @@ module _ {A : Type 0} {n : ℕ} {r : Rules A} {a₀ : A} {Able : LabelStep → T
     pub each : length ns ≡ snaps B n (λ _. r) s [] cs
     pub one : length ns ≡ length (labelSnaps B n (shadow (through f N) s) ns cs)
     pub same : map (seen n) (run B n (λ _. r) s [] cs) ≡ map (seen n) (run B n numbered (shadow (through f N) s) ns cs)
+    pub newest : zeros ns ≡ newestSnaps B n r s cs
     pub spans : (b : ℕ) → Upto n N b → Spans s N cs f ns b
 
   -- the first of some calls, where the answer to it and the numbers left are known
@@ -144,6 +146,7 @@ module _ {A : Type 0} {n : ℕ} {r : Rules A} {a₀ : A} {Able : LabelStep → T
     each = rw (snaps-cons B n r s c cs, length-append, length-replicate) (ap (λ k. ℓ + k) (T .each));
     one = rw met-here (length-append (replicate ℓ v) ns ∙ ap₂ _+_ (length-replicate ℓ v ∙ sym met-one) (T .one) ∙ sym (length-append x xs));
     same = rw (run-cons B n r s c cs, runs) (ap (λ l. seen n a ∷ l) (T .same));
+    newest = unfold newestSnaps snapsOf in map-append (λ y. eqb y 0) (replicate ℓ v) ns ∙ ap₂ _++_ (S .newest f (T .rising) (T .zero)) (T .newest);
     spans = λ b h. let U = S .span b h in spans b U (T .spans (U .b′) (U .upto));
   }
     where
@@ -216,43 +219,51 @@ module _ {A : Type 0} {n : ℕ} {r : Rules A} {a₀ : A} {Able : LabelStep → T
           reached y (inr h) = inr (Memᴰ·append-right (replicate ℓ v) h)
 
   simulate : (cs : Lists.List Call) (s : State A) (N : Labelling ℕ) → L .R (s .labels) N → Sim s N cs (later cs s N) (given cs s N)
-  unfolding run snaps labelSnaps later given
+  unfolding run snaps labelSnaps newestSnaps later given
   simulate [] s N i = record {
     rising = λ x y h. h;
     zero = refl;
     each = refl;
     one = refl;
     same = refl;
+    newest = refl;
     spans = λ b h. record { most = b; few = omega arith; old = omega arith; upto = tt; reach = λ x l u. inl (x, l, u, refl); bound = tt; fit = tt };
   }
   simulate (c ∷ cs) s N i =
       let S = call-stepped s N c i in
       extend c cs s N i _ S _ _ (simulate cs (step B n r s c .state) _ (unfold step in S .ready))
 
--- Numbers ns for calls on fresh states: one for each accepted snap for a label, and each fits; with them both machines show the same; none is left out
--- from 1 to the highest; and no number, current or pending, ever exceeds the count of these snaps.
+-- Numbers ns for calls on fresh states: one for each accepted snap for a label, and each fits; with them both machines show the same; 0 is given just to
+-- those that are newest by their labels; and none is left out from 1 to the highest.
 pub record Numbers {A : Type 0} (B : Board) (n : ℕ) (r : Rules A) (a : A) (cs : Lists.List Call) (ns : Lists.List ℕ) : Type 0 where
   pub each : length ns ≡ snaps B n (λ _. r) (fresh a) [] cs
   pub fits : Fits B n (snaps B n (λ _. r) (fresh a) [] cs) (fresh 0) ns cs
   pub same : map (seen n) (run B n (λ _. r) (fresh a) [] cs) ≡ map (seen n) (run B n numbered (fresh 0) ns cs)
-  pub bound : All (Bounded n (snaps B n (λ _. r) (fresh a) [] cs)) (run B n numbered (fresh 0) ns cs)
+  pub newest : zeros ns ≡ newestSnaps B n r (fresh a) cs
   pub gapless : Gapless ns
+
+-- such numbers with which no number, current or pending, ever exceeds the count of these snaps
+abbrev pub Found : {A : Type 0} → Board → ℕ → Rules A → A → Lists.List Call → Lists.List ℕ → Type 0
+Found B n r a cs ns = Numbers B n r a cs ns × All (Bounded n (snaps B n (λ _. r) (fresh a) [] cs)) (run B n numbered (fresh 0) ns cs)
 
 -- THE SEQUENCE THEOREM: the numbers that the pass finds are such, for every sequence of calls
 pub finds : {A : Type 0} {n : ℕ} {r : Rules A} {a : A} {Able : LabelStep → Type 0} (L : Simulable n r a Able) (B : Board)
     → ((o : Rest) (c : Call) → Able (labelStep (B .judge n o c))) → (cs : Lists.List Call)
-    → Numbers B n r a cs (renumbered n r (L .slot) B (fresh a) (λ x i. 0) [] cs)
-finds {A} {n} {r} {a} L B able cs = subst (Numbers B n r a cs) (sym (renumbered-is L B able cs (fresh a) (λ x i. 0) [])) (record {
-  each = S .each;
-  fits = record {
-    one = S .one ∙ ap (λ s. length (labelSnaps B n s ns cs)) begin;
-    each = subst (λ s. All (Fit most) (labelSnaps B n s ns cs)) begin (all-weaken (fit-weaken few) (labelSnaps B n u ns cs) (T .fit));
-  };
-  same = S .same ∙ ap (λ s. map (seen n) (run B n numbered s ns cs)) begin;
-  bound = subst (λ s. All (Bounded n most) (run B n numbered s ns cs)) begin
-      (all-weaken {P = Bounded n (T .most)} {Q = Bounded n most} (λ y h x j l. omega (arith, few, h x j l)) (run B n numbered u ns cs) (T .bound));
-  gapless = record { most = T .most; upto = T .upto; each = λ v l u. given-only v (T .reach v l u) };
-})
+    → Found B n r a cs (renumbered n r (L .slot) B (fresh a) (λ x i. 0) [] cs)
+finds {A} {n} {r} {a} L B able cs = subst (Found B n r a cs) (sym (renumbered-is L B able cs (fresh a) (λ x i. 0) [])) (
+  record {
+    each = S .each;
+    fits = record {
+      one = S .one ∙ ap (λ s. length (labelSnaps B n s ns cs)) begin;
+      each = subst (λ s. All (Fit most) (labelSnaps B n s ns cs)) begin (all-weaken (fit-weaken few) (labelSnaps B n u ns cs) (T .fit));
+    };
+    same = S .same ∙ ap (λ s. map (seen n) (run B n numbered s ns cs)) begin;
+    newest = S .newest;
+    gapless = record { most = T .most; upto = T .upto; each = λ v l u. given-only v (T .reach v l u) };
+  },
+  subst (λ s. All (Bounded n most) (run B n numbered s ns cs)) begin
+      (all-weaken {P = Bounded n (T .most)} {Q = Bounded n most} (λ y h x j l. omega (arith, few, h x j l)) (run B n numbered u ns cs) (T .bound)),
+)
   where
     ns : Lists.List ℕ
     ns = given L B able cs (fresh a) (λ x i. 0)
@@ -291,14 +302,14 @@ pub record Simulates {A : Type 0} (B : Board) (n : ℕ) (r : Rules A) (a : A) (c
   pub same : map (seen n) (run B n (λ _. r) (fresh a) [] cs) ≡ map (seen n) (run B n numbers (fresh 0) advances cs)
   pub bound : All (Bounded n (snaps B n (λ _. r) (fresh a) [] cs)) (run B n numbers (fresh 0) advances cs)
 
-pub simulates : {A : Type 0} {B : Board} {n : ℕ} {r : Rules A} {a : A} {cs : Lists.List Call} {ns : Lists.List ℕ} → Numbers B n r a cs ns → Simulates B n r a cs
-simulates {A} {B} {n} {r} {a} {cs} {ns} N = record {
+pub simulates : {A : Type 0} {B : Board} {n : ℕ} {r : Rules A} {a : A} {cs : Lists.List Call} {ns : Lists.List ℕ} → Found B n r a cs ns → Simulates B n r a cs
+simulates {A} {B} {n} {r} {a} {cs} {ns} (N, bound) = record {
   advances = advances B n (fresh 0) ns cs;
   whole = advances-whole _ l (N .fits .each);
   each = length-map l advance ∙ sym (N .fits .one) ∙ N .each;
   eachᵘ = length-map l advance ∙ sym (R .1);
   same = N .same ∙ ap (map (seen n)) (sym (R .0));
-  bound = rw (R .0) (N .bound);
+  bound = rw (R .0) bound;
 }
   where
     l : Lists.List LabelSnap

@@ -5,12 +5,14 @@ use native.Mathlib.Omega.{arith}
 use mathlib.Core.Path.{_≡_, refl, sym, ap, subst, _∙_, fun-ext}
 use mathlib.Core.Logic.{_≢_}
 use mathlib.Core.Bool.{Bool, true, false, _&&_, _||_, cond}
+use lib.ListN.{replicate}
 use lib.Dec.{eqb}
 use borrow.Author.Tests.{eqb-true, eq-eqb, ne-eqb}
 use Rattle.basics.specs.Tests.{newest, All}
 use Rattle.basics.proofs.Facts.{tf, by-here, Same, newest-same}
 use Rattle.simulation.specs.Machine.{Labelling, put, copy, Rules, stands, pendingAfter, LabelStep, stay, snap, update, relabelled, labelSnap}
-use Rattle.simulation.specs.Numbering.{numbered, met, Fit, through, Slot, number, shift, Renumbering, besideOnly, placed, renumber}
+use Rattle.simulation.specs.Numbered.{numbered, met, Fit, newestSnap, zeros}
+use Rattle.simulation.specs.Numbering.{through, Slot, number, shift, Renumbering, besideOnly, placed, renumber}
 use Rattle.simulation.proofs.Sync.{Rising, rising-before, byNumber}
 use Rattle.simulation.proofs.Numbers.{shift-rising, shift-zero, Upto, Sits, sits-above, Span, span-same, span-placed}
 
@@ -51,7 +53,7 @@ pub record Simulable {A : Type 0} (n : ℕ) (r : Rules A) (a : A) (Able : LabelS
 
 module _ {A : Type 0} {n : ℕ} {r : Rules A} {a₀ : A} {Able : LabelStep → Type 0} (L : Simulable n r a₀ Able) where
   -- the labels take the step w, and the numbers go by the renumbering e. Later calls make a rising f of the numbers in use: the unbounded machine, whose
-  -- numbers have gone through both, takes the same step, and the number that it is given fits
+  -- numbers have gone through both, takes the same step, and the number that it is given fits, and is 0 just for the newest process
   pub record Stepped (l : Labelling A) (N : Labelling ℕ) (w : LabelStep) (e : Renumbering) : Type 0 where
     pub rising : Rising (e .shift)
     pub zero : e .shift 0 ≡ 0
@@ -61,6 +63,7 @@ module _ {A : Type 0} {n : ℕ} {r : Rules A} {a₀ : A} {Able : LabelStep → T
         → relabelled n (numbered v) (through (λ x. f (e .shift x)) N) w ≡ through f (e .beside)
     pub fit : (f : ℕ → ℕ) → Rising f → f 0 ≡ 0 → (most : ℕ) → f (e .number) ≤ most → (v : ℕ) → (1 ≤ labelSnap w → v ≡ f (e .number))
         → All (Fit most) (met n (through (λ x. f (e .shift x)) N) w v)
+    pub newest : (f : ℕ → ℕ) → Rising f → f 0 ≡ 0 → zeros (replicate (labelSnap w) (f (e .number))) ≡ newestSnap n r l w
 
   module _ (l : Labelling A) (N : Labelling ℕ) (i : L .R l N) where
     -- after any rising renumbering the numbers still order the processes as the labels do
@@ -71,11 +74,19 @@ module _ {A : Type 0} {n : ℕ} {r : Rules A} {a₀ : A} {Able : LabelStep → T
     newest-alike f rise v = sym (newest-same n _ _ (order-kept f rise v))
 
     stays : Stepped l N stay (besideOnly N)
-    unfolding relabelled met
-    stays = record { rising = λ x y h. h; zero = refl; ready = i; span = λ b h. span-same h; follow = λ f rise v e. refl; fit = λ f rise z most h v e. tt }
+    unfolding relabelled met newestSnap
+    stays = record {
+      rising = λ x y h. h;
+      zero = refl;
+      ready = i;
+      span = λ b h. span-same h;
+      follow = λ f rise v e. refl;
+      fit = λ f rise z most h v e. tt;
+      newest = λ f rise z. refl;
+    }
 
     updated : (k : ℕ) → Able (update k) → Stepped l N (update k) (besideOnly (copy N k))
-    unfolding relabelled met
+    unfolding relabelled met newestSnap
     updated k a = record {
       rising = λ x y h. h;
       zero = refl;
@@ -83,11 +94,12 @@ module _ {A : Type 0} {n : ℕ} {r : Rules A} {a₀ : A} {Able : LabelStep → T
       span = λ b h. span-same (λ x j u. h (x || eqb j k) j u);
       follow = λ f rise v e. refl;
       fit = λ f rise z most h v e. tt;
+      newest = λ f rise z. refl;
     }
 
     -- a snap by the newest process: its pending label stays, and it is given 0
     snap-newest : (k : ℕ) → k ≡ newest n (stands r l) → Stepped l N (snap k) (besideOnly N)
-    unfolding relabelled met
+    unfolding relabelled met newestSnap
     snap-newest k q = record {
       rising = λ x y h. h;
       zero = refl;
@@ -96,6 +108,7 @@ module _ {A : Type 0} {n : ℕ} {r : Rules A} {a₀ : A} {Able : LabelStep → T
       follow = λ f rise v _. snap-stays n (numbered v) (through f N) k _ (newest-alike f rise v) q;
       fit = λ f rise z most _ v e.
           (record { newest = λ _. e (omega arith) ∙ z; other = λ h. absurd (tf (eq-eqb k _ (q ∙ sym (newest-alike f rise v))) h) }, tt);
+      newest = λ f rise z. rw (z, eq-eqb k _ q) refl;
     }
 
     -- a snap by another: its number goes to the slot
@@ -108,7 +121,7 @@ module _ {A : Type 0} {n : ℕ} {r : Rules A} {a₀ : A} {Able : LabelStep → T
       found = L .snaps l N i k (newest n (stands r l)) a refl d
 
       snap-placed : Stepped l N (snap k) (placed N k (slot-here k))
-      unfolding relabelled met
+      unfolding relabelled met newestSnap
       snap-placed = record {
         rising = shift-rising p;
         zero = shift-zero p;
@@ -124,6 +137,9 @@ module _ {A : Type 0} {n : ℕ} {r : Rules A} {a₀ : A} {Able : LabelStep → T
           },
           tt,
         );
+        newest = λ f rise zero.
+            let above = rise _ _ (sits-above n N (N false (newest n (stands r l))) p (found .0)) in
+            rw (ne-eqb k _ d, ne-eqb (f (number p)) 0 (λ q. omega arith)) refl;
       }
         where
           p : Slot

@@ -25,7 +25,7 @@ use Rattle.simulation.proofs.Snap.{snap-step}
 use Rattle.simulation.proofs.Update.{update-keeps}
 use Rattle.simulation.proofs.Judged.{Inside, inside}
 use Rattle.simulation.proofs.Simulable.{Simulable}
-use Rattle.simulation.proofs.Follow.{step-keeps, Numbers, finds, Simulates, simulates}
+use Rattle.simulation.proofs.Follow.{step-keeps, Found, finds, Simulates, simulates}
 
 -- past its m digits a new label is filled
 pub new-behind : (m fill : ℕ) (t : ℕ → Label) (z k : ℕ) → z ≤ m → k ≤ m → k ≢ z → (p : ℕ) → m ≤ p → newLabel m fill t z k p ≡ fill
@@ -111,7 +111,7 @@ module _ (n : ℕ) (some : 1 ≤ n) where
   ready-step s N c r = step-keeps (bounded n some) original (inside n) s N c r
 
   -- every sequence of calls has its numbers, and its advances
-  pub numbering : (cs : Lists.List Call) → Numbers original n (digits n) (λ p. 1) cs (numbersOf original n cs)
+  pub numbering : (cs : Lists.List Call) → Found original n (digits n) (λ p. 1) cs (numbersOf original n cs)
   unfolding bounded
   numbering cs = finds (bounded n some) original (inside n) cs
 

@@ -80,7 +80,7 @@ apart {n} {k} {c} {out} {ph} v i d = go v
     go (begins own e) = other own
     go (scans own e) = other own
     go (updates own e) = other own
-    go (snaps own o e) = other own
+    go (snaps own o e t) = other own
     go (ends own o e r) = other own
     go (service own b e) = other own
 

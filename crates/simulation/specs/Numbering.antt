@@ -1,68 +1,18 @@
--- Numbers for a sequence of calls: which ones fit, and how they are found beside the bounded machine. One pass over the calls finds them: the number of a new
--- label goes to its slot among those in use, and whatever stands above the slot, numbers given earlier too, moves up. The unbounded machine can be fed with
--- such numbers in place of advances. Demand 3 follows from them and does not name them, so nobody has to believe this page for it.
-use Prim.Native.Nat.{ℕ, zero, suc, max, _-_, _≤_, _<_}
-use mathlib.Core.Path.{_≡_}
+-- How numbers are found beside the bounded machine, in one pass over the calls: the number of a new label goes to its slot among those in use, and whatever
+-- stands above the slot, numbers given earlier too, moves up. That they fit, and that none is left out, is proved, so this page only tells which of the
+-- numbers that do are chosen; demand 3 follows from them and does not name them.
+use Prim.Native.Nat.{ℕ, zero, suc, max, _-_}
 use mathlib.Core.Bool.{Bool, true, false, not, _&&_, cond}
 use mathlib.Core.List as Lists
-use mathlib.Core.List.{[], _∷_, _++_, map, List·Memᴰ}
-use lib.ListN.{length, getD, drop, replicate}
+use mathlib.Core.List.{[], _∷_, _++_, map}
+use lib.ListN.{replicate}
 use lib.Dec.{eqb, leb}
-use Rattle.basics.specs.Tests.{newest, firstFrom, All}
+use Rattle.basics.specs.Tests.{newest, firstFrom}
 use Rattle.label.specs.Labels as Labels
 use Rattle.label.specs.Labels.{otherAgrees, labelBelow}
 use Rattle.simulation.specs.Calls.{Call}
-use Rattle.simulation.specs.Machine.{Board, Labelling, put, copy, Rules, digits, numberBefore, stands, LabelStep, stay, snap, update, labelStep, State}
-use Rattle.simulation.specs.Machine.{fresh, step, snapsOf}
-
--- NUMBERS THAT FIT
-
--- UCTSS where a snap is given its number itself: it becomes pending, unless the process is the newest
-abbrev pub numbered : ℕ → Rules ℕ
-numbered v = record { before = numberBefore; new = λ t z k. v }
-
--- a snap for a label, seen by the unbounded machine: whether the newest process takes it, the top number, and the number given
-pub record LabelSnap : Type 0 where
-  pub byNewest : Bool
-  pub top : ℕ
-  pub number : ℕ
-
-unfoldable pub met : ℕ → Labelling ℕ → LabelStep → ℕ → Lists.List LabelSnap
-met n l stay v = []
-met n l (snap k) v = let z = newest n (stands (numbered v) l) in record { byNewest = eqb k z; top = l false z; number = v } ∷ []
-met n l (update k) v = []
-
--- all of a sequence of calls
-unfoldable pub labelSnaps : Board → ℕ → State ℕ → Lists.List ℕ → Lists.List Call → Lists.List LabelSnap
-labelSnaps B n s ns [] = []
-labelSnaps B n s ns (c ∷ cs) =
-    let v = getD ns 0 0 in
-    met n (s .labels) (labelStep (B .judge n (s .rest) c)) v ++ labelSnaps B n (step B n (numbered v) s c .state) (drop (snapsOf B n s c) ns) cs
-
--- the newest process is given 0; any other a number above the top number, and no higher than `most`
-pub record Fit (most : ℕ) (x : LabelSnap) : Type 0 where
-  pub newest : x .byNewest ≡ true → x .number ≡ 0
-  pub other : x .byNewest ≡ false → (x .top < x .number) × (x .number ≤ most)
-
--- the calls get one number for each snap for a label that is accepted, and each number fits
-pub record Fits (B : Board) (n most : ℕ) (s : State ℕ) (ns : Lists.List ℕ) (cs : Lists.List Call) : Type 0 where
-  pub one : length ns ≡ length (labelSnaps B n s ns cs)
-  pub each : All (Fit most) (labelSnaps B n s ns cs)
-
--- the numbers from 1 to the highest all occur, in any order and any number of times
-pub record Gapless (ns : Lists.List ℕ) : Type 0 where
-  pub most : ℕ
-  pub upto : All (λ v. v ≤ most) ns
-  pub each : (v : ℕ) → 1 ≤ v → v ≤ most → List·Memᴰ v ns
-
--- the advances that come to these numbers; the one of the newest process is not used
-abbrev pub advance : LabelSnap → ℕ
-advance x = cond (x .byNewest) 1 (x .number - x .top)
-
-abbrev pub advances : Board → ℕ → State ℕ → Lists.List ℕ → Lists.List Call → Lists.List ℕ
-advances B n s ns cs = map advance (labelSnaps B n s ns cs)
-
--- NUMBERS FOUND
+use Rattle.simulation.specs.Machine.{Board, Labelling, put, copy, Rules, digits, stands, LabelStep, stay, snap, update, labelStep}
+use Rattle.simulation.specs.Machine.{State, fresh, step, snapsOf}
 
 abbrev pub through : {A B : Type 0} → (A → B) → Labelling A → Labelling B
 through f l x i = f (l x i)

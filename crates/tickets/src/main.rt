@@ -12,16 +12,8 @@ use arrays::Control;
 use arrays::Jobs;
 use arrays::Labels;
 use arrays::Results;
-use libc::STDERR_FILENO;
-use libc::STDIN_FILENO;
-use libc::STDOUT_FILENO;
 use schedule::Header;
-
-// How many bytes were read, and whether that failed; then there are none.
-struct Input {
-    count: usize,
-    failed: bool,
-}
+use streams::Input;
 
 // How many lines are counted after a part of the file, and whether to read on.
 struct Turn {
@@ -29,42 +21,16 @@ struct Turn {
     more: bool,
 }
 
-// Reads until `buf` is full or the schedule ends; says so if it cannot be read.
+// Reads until `buf` is full or the schedule ends.
 fn read_schedule(buf: &mut [u8]) -> Input
     ensures { λ r. ⌜ Counts (r .count) (now (buf .exit)) ⌝ }
 {
-    let mut count = 0;
-    while count < buf.len() {
-        let got = libc::read(STDIN_FILENO, &mut buf[count..]);
-        if got < 0 {
-            io::write_all(STDERR_FILENO, b"tickets: the schedule could not be read\n");
-            return Input {
-                count: 0,
-                failed: true,
-            };
-        }
-        let k = io::count(got, &buf[count..]);
-        if k == 0 {
-            return Input {
-                count,
-                failed: false,
-            };
-        }
-        count += k;
-    }
-    Input {
-        count,
-        failed: false,
-    }
+    streams::read_input(buf, b"tickets: the schedule could not be read\n")
 }
 
-// Writes a part of the report; says so if it cannot be written, and answers whether it was.
+// Writes a part of the report, and answers whether it could.
 fn write_report(bytes: &[u8]) -> bool {
-    if io::write_all(STDOUT_FILENO, bytes) {
-        return true;
-    }
-    io::write_all(STDERR_FILENO, b"tickets: the report could not be written\n");
-    false
+    streams::write_output(bytes, b"tickets: the report could not be written\n")
 }
 
 // Reads the header, and prints its refusal; hands back the number of stations, or 0 if there is no more to do.

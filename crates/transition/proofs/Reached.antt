@@ -127,8 +127,8 @@ module _ (n : ℕ) (some : 1 ≤ n) where
       go (begins own e) = in-service (begun (c .job)) (λ p. refl) e
       go (scans own e) = in-service (inPhase (End Scan)) (λ p. refl) e
       go (updates own e) = busy updated (λ p. refl) e refl
-      go (snaps own Label e) = busy (inPhase Update) (λ p. refl) e refl
-      go (snaps own Scan e) = busy (inPhase (End Scan)) (λ p. refl) e refl
+      go (snaps own Label e t) = busy (inPhase Update) (λ p. refl) e refl
+      go (snaps own Scan e t) = busy (inPhase (End Scan)) (λ p. refl) e refl
       go (ends own Label e r) = at (inPhase Idle) (λ _ _. refl)
       go (ends own Scan e r) = at (inPhase Idle) (λ _ _. refl)
       go (service own b e) = at (setOut b) (λ q _. ap (λ j. o .process j .phase) q ∙ e)

@@ -151,7 +151,7 @@ module _ (F : Form) (L : Lawful F) (n : ℕ) (low : 2 ≤ n) (high : n ≤ 32) w
         never13 = subst (All (λ a. a .refusal ≢ 13)) (sym (run-written cs)) (not-13, R .never13);
       }
 
-  runs : (cs : Lists.List Call) (s : State Labels.Label) → Reached n s → Runs F n s cs
+  pub runs : (cs : Lists.List Call) (s : State Labels.Label) → Reached n s → Runs F n s cs
   unfolding Machine.run Machine.snaps run snaps
   runs [] s r = record { same = refl; count = refl; never13 = tt }
   runs (c ∷ cs) s r = one-more r c cs (runs cs (answer s c .state) (reached-next r c))

@@ -80,10 +80,10 @@ module _ (n : ℕ) (high : n ≤ 32) (s : State Labels.Label) (w : Writable n s)
   labels-behind (begins own e) x i p h = w .behind x i p h
   labels-behind (scans own e) x i p h = w .behind x i p h
   labels-behind (updates own e) x i p h = w .behind (x || eqb i (place c)) i p h
-  labels-behind (snaps own Label e) x i p h =
+  labels-behind (snaps own Label e t) x i p h =
       by-put (λ b. cond b (pendingAfter n (digits n) (s .labels) (place c)) (s .labels x i) p ≡ 1) x (place c) i
       (λ _. pending-behind (place c) p (own-place own) h) (w .behind x i p h)
-  labels-behind (snaps own Scan e) x i p h = w .behind x i p h
+  labels-behind (snaps own Scan e t) x i p h = w .behind x i p h
   labels-behind (ends own o e f) x i p h = w .behind x i p h
   labels-behind (service own b e) x i p h = w .behind x i p h
 
@@ -102,8 +102,8 @@ module _ (n : ℕ) (high : n ≤ 32) (s : State Labels.Label) (w : Writable n s)
       go (begins own e) = at (eqb i (place c)) _ tt
       go (scans own e) = at (eqb i (place c)) _ tt
       go (updates own e) = at (eqb i (place c)) _ tt
-      go (snaps own Label e) = at (eqb i (place c)) _ tt
-      go (snaps own Scan e) = at (eqb i (place c)) _ tt
+      go (snaps own Label e t) = at (eqb i (place c)) _ tt
+      go (snaps own Scan e t) = at (eqb i (place c)) _ tt
       go (ends own Label e f) = at (eqb i (place c)) _ tt
       go (ends own Scan e f) = at (eqb i (place c)) _ tt
       go (service own b e) = at (eqb i (place c)) _ (w .phase i)

@@ -1,4 +1,4 @@
--- Samples P1 to P12 (01, "Shop samples"), and samples of Cards 4 and 5 (02): one statement for all rows.
+-- Samples P1 to P12 (01, "Shop samples"), and samples of Cards 4, 5 and 6 (02): one statement for all rows.
 use Prim.Native.Nat.{ℕ, suc, _-_}
 use mathlib.Core.Path.{_≡_}
 use mathlib.Core.Bool.{true, false, cond}
@@ -11,9 +11,11 @@ use Rattle.label.specs.Labels as Labels
 use Rattle.label.specs.Labels.{below, labelBelow}
 use Rattle.label.specs.Rows.{digit}
 use Rattle.simulation.specs.Calls.{Call, Buffer, Entry}
-use Rattle.simulation.specs.Machine.{digits, stands, State}
+use Rattle.simulation.specs.Machine.{original, digits, stands, State}
+use Rattle.simulation.specs.Numbering.{numbersOf}
 use Rattle.transition.specs.Forms.{Form, freshTable, after}
 use Rattle.transition.specs.Questions.{Tells}
+use Rattle.transition.specs.Numbers.{Numbers}
 
 -- a direct call of station s; a label operation begins with the job 7
 unfoldable pub call : ℕ → ℕ → Call
@@ -36,13 +38,15 @@ unfoldable pub shownBy : ℕ → State Labels.Label → Lists.List ℕ
 shownBy k s = map (λ (e : Entry). e .station) (s .rest .result (k - 1))
 
 -- a row: two digits, or two labels, of which the first is below the second; or n, the calls on the fresh table of n, and the labels and the order they lead
--- to; or n, the calls, a station, and the stations that its scan result then shows; or n, the calls, and how many stations then hold the top label
+-- to; or n, the calls, a station, and the stations that its scan result then shows; or n, the calls, and how many stations then hold the top label; or n, the
+-- calls, and numbers that do for them, or those that are found
 pub data Sample : Type 0 where
   digitsBelow : ℕ → ℕ → Sample
   labelsBelow : Lists.List ℕ → Lists.List ℕ → Sample
   reaches : ℕ → Lists.List Call → Lists.List (Lists.List ℕ) → Lists.List ℕ → Sample
   scanShows : ℕ → Lists.List Call → ℕ → Lists.List ℕ → Sample
   topHeld : ℕ → Lists.List Call → ℕ → Sample
+  numbersDo numbersFound : ℕ → Lists.List Call → Lists.List ℕ → Sample
 
 abbrev pub Holds : Form → Sample → Type 0
 Holds F (digitsBelow d e) = below d e ≡ true
@@ -50,6 +54,8 @@ Holds F (labelsBelow a b) = labelBelow (length a) (digit a) (digit b) ≡ true
 Holds F (reaches n cs l o) = let s = F .state (after F (freshTable F n) cs) in (shown n s ≡ l) × (order n s ≡ o)
 Holds F (scanShows n cs k l) = shownBy k (F .state (after F (freshTable F n) cs)) ≡ l
 Holds F (topHeld n cs k) = Tells F (after F (freshTable F n) cs) 0 k
+Holds F (numbersDo n cs ns) = Numbers F n cs ns
+Holds F (numbersFound n cs ns) = numbersOf original n cs ≡ ns
 
 -- lists of one, two and three
 unfoldable pub one : {A : Type 0} → A → Lists.List A
@@ -112,6 +118,21 @@ topSamples =
     ∷ topHeld 3 (labelled (three 1 2 3)) 1
     ∷ []
 
+-- NUMBERS (02, Card 6). 2 and 3 take labels; 1 snaps, and then 2, whose label is to stand before that of 1; both update, and 3 scans: the number of a snap
+-- depends on a later one.
+unfoldable pub overtaken : Lists.List Call
+overtaken = labelled (two 2 3) ++ two (call 1 1) (call 1 3) ++ two (call 2 1) (call 2 3) ++ three (call 1 4) (call 2 4) (call 3 2)
+
+-- and of stations whose labels are equal, which may share a number or not: more than one list does
+abbrev pub numberSamples : Lists.List Sample
+numberSamples =
+    numbersFound 3 overtaken (1 ∷ 2 ∷ 4 ∷ 3 ∷ [])
+    ∷ numbersFound 2 (labelled (three 1 1 2)) (three 1 0 2)
+    ∷ numbersFound 3 (together ++ one (call 3 2)) (two 1 1)
+    ∷ numbersDo 3 (together ++ one (call 3 2)) (two 1 1)
+    ∷ numbersDo 3 (together ++ one (call 3 2)) (two 1 2)
+    ∷ []
+
 -- they all hold of the tables of a form
 abbrev pub SamplesHold : Form → Type 0
-SamplesHold F = All (Holds F) (samples ++ serviceSamples ++ topSamples)
+SamplesHold F = All (Holds F) (samples ++ serviceSamples ++ topSamples ++ numberSamples)

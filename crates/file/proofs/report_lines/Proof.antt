@@ -10,11 +10,12 @@ use Rattle.moves.specs.Moves.{refusalNumber}
 use Rattle.moves.specs.declared.Refusal.the-variants.{Accepted}
 use Rattle.arrays.specs.Arrays.{arrays}
 use Rattle.schedule.specs.Sessions.{session}
+use Rattle.schedule.proofs.Places.{line-within}
 use Rattle.schedule.proofs.SessionLaws.{next-within}
 use Rattle.schedule.proofs.Runs.{printed-refusal}
 use Rattle.file.specs.Contracts.{Runnable}
 use Rattle.file.proofs.LineLaws.{run-passes}
-use Rattle.file.proofs.ChunkLaws.{Sofar, sofar-start, sofar-end, sofar-more, sofar-stop, as-long, place-within, room-here, line-within, prints-short}
+use Rattle.file.proofs.ChunkLaws.{Sofar, sofar-start, sofar-end, sofar-more, sofar-stop, as-long, place-within, room-here, prints-short}
 use Rattle.file.proofs.report_lines.Statement.{statement}
 use Rattle.file.proofs.report_lines.Tie as tie
 

@@ -1,20 +1,13 @@
 use borrow.Author.Needs.{needs}
-use mathlib.Core.Path.{_≡_, refl}
-use mathlib.Core.Bool.{Bool, true, false, cond}
-use Prim.Native.Nat.{ℕ, _-_, _≤_, _<_}
+use mathlib.Core.Path.{_≡_}
+use mathlib.Core.Bool.{true}
+use Prim.Native.Nat.{_≤_}
 use native.Mathlib.Omega.{arith}
 use Rattle.arrays.specs.Arrays.{arrays}
+use Rattle.schedule.proofs.Cuts.{linesLeft, fewer-left}
 use Rattle.file.specs.Contracts.{Runnable}
 use Rattle.tickets.proofs.read_parts.Statement.{statement}
 use Rattle.tickets.proofs.read_parts.Tie as tie
-
--- what is left of the lines that a file can have, as long as there is more to read
-abbrev left : Bool → ℕ → ℕ
-left more lines = cond more (1000002 - lines) 0
-
-fewer : (a b : ℕ) (m m′ : Bool) → m ≡ true → a ≤ 1000001 → (m′ ≡ true → (a < b) × (b ≤ 1000001)) → left m′ b < left m a
-fewer a b m true e h f = rw e (omega (arith, f refl))
-fewer a b m false e h f = rw e (omega arith)
 
 abbrev Inv-loop : tie.InvT-loop
 Inv-loop n order₀ labels₀ jobs₀ control₀ results₀ input₀ out₀ lines₀ more₀ order labels jobs control results input out lines more =
@@ -22,7 +15,7 @@ Inv-loop n order₀ labels₀ jobs₀ control₀ results₀ input₀ out₀ line
 
 abbrev μ-loop : tie.MeasureT-loop
 μ-loop n order₀ labels₀ jobs₀ control₀ results₀ input₀ out₀ lines₀ more₀ order labels jobs control results input out lines more =
-    left more lines
+    linesLeft more lines
 
 loop-holds : tie.Need-loop-holds Inv-loop μ-loop
 loop-holds c = (c .pre, λ e. omega arith)
@@ -35,7 +28,7 @@ read-part-requires c κs =
 loop-less : tie.Need-loop-less Inv-loop μ-loop
 loop-less c =
     let test = c .before .before .before .before .before .before .before .before in
-    fewer _ _ _ _ (test .loop-test .taken) (test .before .loop .inv .1 (test .loop-test .taken)) (c .read-part .ensures .1)
+    fewer-left _ _ _ _ (test .loop-test .taken) (test .before .loop .inv .1 (test .loop-test .taken)) (c .read-part .ensures .1)
 
 loop-again : tie.Need-loop-again Inv-loop μ-loop
 loop-again c = (c .read-part .ensures .0, λ e. c .read-part .ensures .1 e .1)

@@ -1,0 +1,142 @@
+-- The numbers of a whole file: it is refused before any step is run, or its numbers are those of its lines.
+use Prim.Native.Nat.{ℕ, _≤_, _<_}
+use native.Mathlib.Omega.{arith}
+use mathlib.Core.Path.{_≡_, refl, sym, ap, subst, _∙_}
+use mathlib.Core.Logic.{_≢_}
+use mathlib.Core.Bool.{Bool, true, false, cond}
+use mathlib.Core.List as Lists
+use mathlib.Core.List.{[], _++_, map}
+use lib.ListN.{length, take, drop, length-drop}
+use lib.Seq.{take-at, drop-at}
+use lib.Dec.{eqb, ltb}
+use borrow.Author.Tests.{eq-eqb, ne-eqb, eqb-true, ltb-false, lt-ltb}
+use Rattle.basics.proofs.Facts.{tf}
+use Rattle.simulation.specs.Machine.{original}
+use Rattle.simulation.specs.Numbering.{numbersOf}
+use Rattle.transition.specs.Forms.{over}
+use Rattle.moves.specs.Moves.{refusalNumber}
+use Rattle.moves.specs.declared.Refusal.{Refusal}
+use Rattle.moves.specs.declared.Refusal.the-variants.{Accepted, TooManySteps, ListTooShort}
+use Rattle.arrays.specs.Form.{lent}
+use Rattle.arrays.proofs.States.{lent-lawful}
+use Rattle.schedule.specs.Lines.{headerRead}
+use Rattle.schedule.specs.Files.{stepLines}
+use Rattle.schedule.specs.Demand.{stepCalls, ending, roomy, fileCalls}
+use Rattle.schedule.specs.Numbers.{finalAfter, finalOf, snapCalls, FileNumbers, givenIn, Surveys}
+use Rattle.schedule.proofs.Runs.{rest-after, over-short}
+use Rattle.schedule.proofs.SessionLaws.{header-refused}
+use Rattle.schedule.proofs.Numbers.{file-numbers}
+use Rattle.schedule.proofs.Cuts.{joined, Whole}
+use Rattle.schedule.proofs.Surveys.{all-lines, surveyParts, survey-parts}
+use Rattle.schedule.specs.declared.Survey.{Survey}
+use Rattle.schedule.specs.declared.Header.{Header}
+use Rattle.schedule.specs.declared.Header.the-variants as Headers
+use Rattle.schedule.specs.declared.Header.the-variants.{Stations}
+use Rattle.numbering.specs.Files.{refusedBy, numberingRefusal, fileNumbers, NumbersFile}
+
+module _ (bs list : Lists.List ℕ) where
+  -- A FILE THAT IS REFUSED
+  refused-file : (r : Refusal) → numberingRefusal bs (length list) ≡ r → refusalNumber r ≢ 0 → NumbersFile bs list (refusalNumber r) 0 list
+  unfolding fileNumbers
+  refused-file r e d = record {
+    number = ap refusalNumber (sym e);
+    count = ap length none;
+    left = ap (λ ns. over ns list) none;
+    refused = λ _. (refl, refl);
+    served = λ z. absurd (d z);
+  }
+    where
+      none : [] ≡ fileNumbers bs (length list)
+      none = rw (e, ne-eqb (refusalNumber r) 0 d) refl
+
+  -- what comes of the header and of the lines after it
+  by-header : (h : Header) → headerRead (take 18 bs) ≡ h
+      → numberingRefusal bs (length list)
+      ≡ refusedBy (finalAfter h (map roomy (stepLines bs))) (length (fileCalls bs)) (snapCalls (fileCalls bs)) (length list)
+  unfolding numberingRefusal
+  by-header h e = rw e refl
+
+  -- by its header
+  pub header-refuses : {l : Lists.List ℕ} → l ≡ take 18 bs → {r : Refusal} → headerRead l ≡ Headers.Refused r → NumbersFile bs list (refusalNumber r) 0 list
+  header-refuses p {r} e =
+      let e′ = ap headerRead (sym p) ∙ e in
+      let d = header-refused (take 18 bs) r e′ in
+      refused-file r (by-header (Headers.Refused r) e′ ∙ rw (ne-eqb (refusalNumber r) 0 d) refl) d
+
+  -- BEHIND AN ACCEPTED HEADER
+  module _ {l : Lists.List ℕ} (p : l ≡ take 18 bs) {n : ℕ} (e : headerRead l ≡ Stations n) {rest : Lists.List ℕ} (q : rest ≡ drop (length l) bs)
+      {s : Survey} (f : Surveys 1 rest s) {r : Refusal} (g : r ≡ refusedBy (s .refusal) (s .steps) (s .snaps) (length list)) where
+    rest-is : rest ≡ drop 18 bs
+    rest-is = q ∙ rest-after bs l p
+
+    same-calls : stepCalls 1 (givenIn rest) ≡ fileCalls bs
+    same-calls = ap (λ x. stepCalls 1 (givenIn x)) rest-is
+
+    accepted-header : headerRead (take 18 bs) ≡ Stations n
+    accepted-header = ap headerRead (sym p) ∙ e
+
+    told : numberingRefusal bs (length list) ≡ r
+    told = by-header (Stations n) accepted-header
+        ∙ sym (g ∙ (λ i. refusedBy ((f .refusal ∙ ap (λ x. ending 1 (givenIn x)) rest-is) i) ((f .steps ∙ ap length same-calls) i)
+        ((f .snaps ∙ ap snapCalls same-calls) i) (length list)))
+
+    pub lines-refuse : refusalNumber r ≢ 0 → NumbersFile bs list (refusalNumber r) 0 list
+    lines-refuse d = refused-file r told d
+
+    module _ (z : refusalNumber r ≡ 0) where
+      -- no line is refused for good, and there is room for a number for each line of step 3
+      passed : (refusalNumber (s .refusal) ≡ 0) × (s .snaps ≤ length list)
+      passed = go (eqb (refusalNumber (s .refusal)) 0) (ltb 4096 (s .steps)) (ltb (length list) (s .snaps)) refl refl (sym (ap refusalNumber g) ∙ z)
+        where
+          go : (a b c : Bool) → eqb (refusalNumber (s .refusal)) 0 ≡ a → ltb (length list) (s .snaps) ≡ c
+              → refusalNumber (cond a (cond b TooManySteps (cond c ListTooShort Accepted)) (s .refusal)) ≡ 0
+              → (refusalNumber (s .refusal) ≡ 0) × (s .snaps ≤ length list)
+          go true true c u v w = absurd (omega arith)
+          go true false true u v w = absurd (omega arith)
+          go true false false u v w = (eqb-true _ 0 u, ltb-false (length list) (s .snaps) v)
+          go false b c u v w = absurd (tf (eq-eqb _ 0 w) u)
+
+      pub lines-room : snapCalls (stepCalls 1 (givenIn rest)) ≤ length list
+      lines-room = omega (arith, passed .1, f .snaps)
+
+      pub lines-number : {k : ℕ} {list′ : Lists.List ℕ} → let ns = numbersOf original n (stepCalls 1 (givenIn rest)) in
+          k ≡ length ns → list′ ≡ over ns list → NumbersFile bs list (refusalNumber r) k list′
+      unfolding fileNumbers
+      lines-number {k} {list′} u v = record {
+        number = ap refusalNumber (sym told);
+        count = u ∙ ap length chosen;
+        left = v ∙ ap (λ ns. over ns list) chosen;
+        refused = λ d. absurd (d z);
+        served = λ _. (
+          n,
+          accepted-header,
+          subst (FileNumbers lent bs n) (ap (numbersOf original n) (sym same-calls) ∙ chosen)
+              (file-numbers lent lent-lawful bs n accepted-header
+              (ap (λ x. refusalNumber (ending 1 (givenIn x))) (sym rest-is) ∙ ap refusalNumber (sym (f .refusal)) ∙ passed .0)),
+        );
+      }
+        where
+          chosen : numbersOf original n (stepCalls 1 (givenIn rest)) ≡ fileNumbers bs (length list)
+          chosen = ap (numbersOf original n) same-calls ∙ rw (told, eq-eqb (refusalNumber r) 0 z, accepted-header) refl
+
+-- a list that keeps its length has room for the numbers written
+pub numbers-fit : {bs list list′ : Lists.List ℕ} {refusal written : ℕ} → NumbersFile bs list refusal written list′ → length list′ ≡ length list
+    → written ≤ length list
+numbers-fit {bs} {list} {list′} f e = omega (arith, f .count, over-short (fileNumbers bs (length list)) list list′ (f .left) e)
+
+-- A LONG FILE, of a header and 4,097 lines or more: it is refused by a final refusal, which the program finds part by part, or by 16
+pub long-file : (bs : Lists.List ℕ) (room : ℕ) → 73764 ≤ length bs → refusalNumber (finalOf bs) ≡ 0 → numberingRefusal bs room ≡ TooManySteps
+unfolding numberingRefusal
+long-file bs room h z = rw (eq-eqb _ 0 z) (go (headerRead (take 18 bs)) refl)
+  where
+    go : (x : Header) → headerRead (take 18 bs) ≡ x
+        → cond (ltb 4096 (length (fileCalls bs))) TooManySteps (cond (ltb room (snapCalls (fileCalls bs))) ListTooShort Accepted) ≡ TooManySteps
+    go (Headers.Refused r) e = absurd (header-refused (take 18 bs) r e (rw e at z))
+    go (Stations n) e =
+        let many : 4096 < length (fileCalls bs) = omega (arith, all-lines (drop 18 bs) 1 (omega arith) (rw e at z), length-drop 18 bs) in
+        rw (lt-ltb 4096 (length (fileCalls bs)) many) refl
+
+-- part by part: the header, and then the first refusal of the parts behind it
+pub parts-final : (h : Lists.List ℕ) (ps : Lists.List (Lists.List ℕ)) → length h ≡ 18 → Whole ps → (n : ℕ) → headerRead h ≡ Stations n
+    → finalOf (h ++ joined ps) ≡ surveyParts 1 ps
+parts-final h ps e w n q = rw (take-at h (joined ps) 18 e, drop-at h (joined ps) 18 e, q) (survey-parts ps 1 w)

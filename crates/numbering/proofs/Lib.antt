@@ -1,0 +1,6 @@
+pub mod Kept
+pub mod Slots
+pub mod Renumbering
+pub mod Lines
+pub mod Printing
+pub mod Files

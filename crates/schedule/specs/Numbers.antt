@@ -1,0 +1,48 @@
+-- What numbers owe to a schedule file, and the lines of a file that are only read, not run; all of it stated over the bytes of the file (02, Card 6).
+use Prim.Native.Nat.{ℕ}
+use mathlib.Core.Path.{_≡_}
+use mathlib.Core.List as Lists
+use mathlib.Core.List.{map}
+use lib.ListN.{length, take}
+use lib.Dec.{eqb}
+use Rattle.basics.specs.Tests.{passing}
+use Rattle.simulation.specs.Calls.{Call}
+use Rattle.simulation.specs.Machine as Machine
+use Rattle.transition.specs.Forms.{Form}
+use Rattle.transition.specs.Numbers.{withNumbers, Numbers}
+use Rattle.moves.specs.declared.Refusal.{Refusal}
+use Rattle.schedule.specs.Lines.{headerRead}
+use Rattle.schedule.specs.Files.{cut, pieces, stepLines, fileReport}
+use Rattle.schedule.specs.Demand.{Given, stepCalls, ending, roomy, fileCalls, printedCalls}
+use Rattle.schedule.specs.declared.Header.{Header}
+use Rattle.schedule.specs.declared.Header.the-variants as Headers
+use Rattle.schedule.specs.declared.Header.the-variants.{Stations}
+use Rattle.schedule.specs.declared.Survey.{Survey}
+
+-- the final refusal of a file: the header's, or that of the first line that has one
+abbrev pub finalAfter : Header → Lists.List Given → Refusal
+finalAfter (Headers.Refused r) gs = r
+finalAfter (Stations n) gs = ending 1 gs
+
+abbrev pub finalOf : Lists.List ℕ → Refusal
+finalOf bs = finalAfter (headerRead (take 18 bs)) (map roomy (stepLines bs))
+
+-- how many of some calls are of step 3, whatever they are answered
+abbrev pub snapCalls : Lists.List Call → ℕ
+snapCalls cs = length (passing (λ c. eqb (c .code) 3) cs)
+
+-- numbers that do for a file of n stations, all of whose lines are steps: they do for its steps, and the report of the file is what the unbounded table
+-- prints with them
+pub record FileNumbers (F : Form) (bs : Lists.List ℕ) (n : ℕ) (ns : Lists.List ℕ) : Type 0 where
+  pub numbers : Numbers F n (fileCalls bs) ns
+  pub report : fileReport F bs ≡ printedCalls (fileCalls bs) (map (Machine.seen n) (withNumbers (F .board) n ns (fileCalls bs)))
+
+-- A PART OF A FILE, only read: the lines behind `lines` others, up to a final refusal; how many of them are steps, and how many of these are of step 3
+
+abbrev pub givenIn : Lists.List ℕ → Lists.List Given
+givenIn chunk = map roomy (cut (pieces chunk) chunk)
+
+pub record Surveys (lines : ℕ) (chunk : Lists.List ℕ) (r : Survey) : Type 0 where
+  pub refusal : r .refusal ≡ ending lines (givenIn chunk)
+  pub steps : r .steps ≡ length (stepCalls lines (givenIn chunk))
+  pub snaps : r .snaps ≡ snapCalls (stepCalls lines (givenIn chunk))

@@ -1,0 +1,52 @@
+// Standard input and output for programs that end with a line on standard error where one of them fails.
+ghost use mathlib.Core.Path.{_≡_};
+ghost use mathlib.Core.Bool.{true};
+ghost use Rattle.io.specs.Counts.{Counts};
+use libc::STDERR_FILENO;
+use libc::STDIN_FILENO;
+use libc::STDOUT_FILENO;
+
+// How many bytes were read, and whether that failed; then there are none.
+pub struct Input {
+    pub count: usize,
+    pub failed: bool,
+}
+
+// Reads until `buf` is full or the input ends; complains if it cannot be read.
+pub fn read_input(buf: &mut [u8], complaint: &[u8]) -> Input
+    ensures { λ r. ⌜ (r .failed ≡ true → r .count ≡ 0) ⌝ }
+    ensures { λ r. ⌜ Counts (r .count) (now (buf .exit)) ⌝ }
+{
+    let mut count = 0;
+    while count < buf.len() {
+        let got = libc::read(STDIN_FILENO, &mut buf[count..]);
+        if got < 0 {
+            io::write_all(STDERR_FILENO, complaint);
+            return Input {
+                count: 0,
+                failed: true,
+            };
+        }
+        let k = io::count(got, &buf[count..]);
+        if k == 0 {
+            return Input {
+                count,
+                failed: false,
+            };
+        }
+        count += k;
+    }
+    Input {
+        count,
+        failed: false,
+    }
+}
+
+// Writes all bytes; complains if they cannot be written, and answers whether they were.
+pub fn write_output(bytes: &[u8], complaint: &[u8]) -> bool {
+    if io::write_all(STDOUT_FILENO, bytes) {
+        return true;
+    }
+    io::write_all(STDERR_FILENO, complaint);
+    false
+}
