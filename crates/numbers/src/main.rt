@@ -9,7 +9,7 @@ use moves::Refusal;
 use schedule::Header;
 use streams::Input;
 
-// How many lines are counted after a part of a file that is too long, and whether to read on; if not, its refusal is printed.
+// How many lines are counted after a part of a file that is too long, and whether to read on; if not, its refusal is printed, or it could not be read.
 struct Turn {
     lines: u32,
     more: bool,
@@ -22,6 +22,7 @@ fn read_schedule(buf: &mut [u8]) -> Input
     streams::read_input(buf, b"numbers: the schedule could not be read\n")
 }
 
+// Writes what is printed.
 fn write_numbers(bytes: &[u8]) {
     streams::write_output(bytes, b"numbers: the numbers could not be written\n");
 }
