@@ -16,14 +16,14 @@ use Rattle.basics.proofs.Facts.{both, within-of, every-all, every-at, last, len
 use Rattle.label.specs.Labels as Labels
 use Rattle.label.specs.Rows.{digit, row, rowFits, noRing}
 use Rattle.label.proofs.RowLaws.{digit-row, row-digit, label-fits, fits-behind}
-use Rattle.simulation.specs.Calls.{Call, Phase, Idle, Snap, Update, End, Label, Scan, Process}
+use Rattle.simulation.specs.Calls.{Call, Phase, Idle, Snap, Update, End, Label, Scan, Process, Rest}
 use Rattle.simulation.specs.Machine.{original, digits, State, step}
 use Rattle.transition.specs.Forms.{TableAnswer, stepOf}
-use Rattle.transition.proofs.Written.{Kept, Unused, Writable, writable-step}
+use Rattle.transition.proofs.Written.{Kept, Unused, WritableRest, Writable, writable-step}
 use Rattle.transition.proofs.Reached.{Idles, Reached, choice-ring-free}
 use Rattle.transition.proofs.Theorem.{Lawful, step-written}
 use Rattle.arrays.specs.Arrays.{Rows, Arrays, arrays, cell, plane, planes, phaseNumber, phaseFor, outNumber, outFor, resultRows, shownIn, resultOf}
-use Rattle.arrays.specs.Arrays.{rowsAt, labelRow, stateOf, jobsOf, controlOf, arraysOf}
+use Rattle.arrays.specs.Arrays.{Planes, rowsAt, labelRow, restIn, restOf, stateOf, jobsOf, controlOf, resultsOf, labelsOf, arraysOf, Holds}
 use Rattle.arrays.specs.WellFormed.{controlFits, stationFits, placeFresh, wellFormed}
 use Rattle.arrays.specs.Form.{lent}
 use Rattle.arrays.specs.Sizes.{Shaped}
@@ -76,14 +76,52 @@ out-number b h = eqb-true _ b (every-at 2 (λ k. eqb (outNumber (outFor k)) k) a
     all : every 2 (λ k. eqb (outNumber (outFor k)) k) ≡ true
     all = unfold every in refl
 
+-- WHAT IS NOT LABELS and can be written down is what its arrays hold
+module _ (n : ℕ) (high : n ≤ 32) (o : Rest) (w : WritableRest n o) where
+  -- what stands in the arrays at every place, past the last too
+  job-at : (x : Bool) (i : ℕ) → cell (planes (jobsOf o)) (plane x) i 0 ≡ jobsOf o x i
+  job-at false i = getD-all 32 i (jobsOf o false) 0 (λ l. sym (ap (λ (p : Process). p .job) (w .past i (omega arith) .process)))
+  job-at true i = getD-all 32 i (jobsOf o true) 0 (λ l. sym (ap (λ (p : Process). p .pendingJob) (w .past i (omega arith) .process)))
+
+  phase-at : (i : ℕ) → cell (planes (controlOf o)) 0 i 0 ≡ phaseNumber (o .process i .phase)
+  phase-at i = getD-all 32 i (λ j. phaseNumber (o .process j .phase)) 0
+      (λ l. sym (ap (λ (p : Process). phaseNumber (p .phase)) (w .past i (omega arith) .process)))
+
+  out-at : (i : ℕ) → cell (planes (controlOf o)) 1 i 0 ≡ outNumber (o .process i .out)
+  out-at i = getD-all 32 i (λ j. outNumber (o .process j .out)) 0
+      (λ l. sym (ap (λ (p : Process). outNumber (p .out)) (w .past i (omega arith) .process)))
+
+  rows-at : (i : ℕ) → i < 32 → getD (resultsOf o) i [] ≡ resultRows (o .result i)
+  rows-at i l = getD-tabulate 32 0 i (λ j. resultRows (o .result j)) [] l ∙ ap (λ j. resultRows (o .result j)) (zero-add i)
+
+  result-at : (i : ℕ) → resultOf n (getD (resultsOf o) i []) ≡ o .result i
+  result-at i = by-cases (decLt i 32)
+      (λ l. ap (resultOf n) (rows-at i l) ∙ result-back n (o .result i) high (w .listed i))
+      (λ l. ap (resultOf n) (List·getD-eq-default (resultsOf o) [] (rw length-tabulate (omega arith)))
+      ∙ none-held n [] (λ p _. refl) ∙ sym (w .past i (omega arith) .result))
+
+  rest-back : restIn n (planes (jobsOf o)) (planes (controlOf o)) (resultsOf o) ≡ o
+  rest-back = λ y. record {
+    process = λ i. record {
+      job = job-at false i y;
+      pendingJob = job-at true i y;
+      phase =
+          (ap phaseFor (phase-at i) ∙ phase-back (o .process i .phase) (w .phase i)) y;
+      out = (ap outFor (out-at i) ∙ out-back (o .process i .out)) y;
+    };
+    result = λ i. result-at i y;
+  }
+
+  pub rest-held : {jobs control : Rows} {results : Planes} → Holds o jobs control results → restIn n jobs control results ≡ o
+  rest-held h = (λ y. restIn n (h .jobs y) (h .control y) (h .results y)) ∙ rest-back
+
 -- A STATE THAT CAN BE WRITTEN DOWN is the state that its arrays hold
 module _ (n : ℕ) (high : n ≤ 32) (s : State Labels.Label) (w : Writable n s) where
-  -- what stands in the arrays at every place, past the last too
   label-at : (x : Bool) (i : ℕ) → digit (labelRow (arraysOf n s) x i) ≡ s .labels x i
   unfolding arraysOf
   label-at x i = by-cases (decLt i 32)
       (λ l. ap digit (here x l) ∙ digit-row 31 (s .labels x i) (w .behind x i))
-      (λ l. ap digit (there x (omega arith)) ∙ sym (w .past i (omega arith) .labels x))
+      (λ l. ap digit (there x (omega arith)) ∙ sym (w .blank x i (omega arith)))
     where
       here : (x : Bool) → i < 32 → labelRow (arraysOf n s) x i ≡ row 31 (s .labels x i)
       here false l = getD-tabulate 32 0 i (λ j. row 31 (s .labels false j)) [] l ∙ ap (λ j. row 31 (s .labels false j)) (zero-add i)
@@ -93,47 +131,9 @@ module _ (n : ℕ) (high : n ≤ 32) (s : State Labels.Label) (w : Writable n s)
       there false l = List·getD-eq-default (tabulate 32 0 (λ j. row 31 (s .labels false j))) [] (rw length-tabulate l)
       there true l = List·getD-eq-default (tabulate 32 0 (λ j. row 31 (s .labels true j))) [] (rw length-tabulate l)
 
-  job-at : (x : Bool) (i : ℕ) → cell (arraysOf n s .jobs) (plane x) i 0 ≡ jobsOf s x i
-  unfolding arraysOf
-  job-at false i = getD-all 32 i (jobsOf s false) 0 (λ l. sym (ap (λ (p : Process). p .job) (w .past i (omega arith) .process)))
-  job-at true i = getD-all 32 i (jobsOf s true) 0 (λ l. sym (ap (λ (p : Process). p .pendingJob) (w .past i (omega arith) .process)))
-
-  phase-at : (i : ℕ) → cell (arraysOf n s .control) 0 i 0 ≡ phaseNumber (s .rest .process i .phase)
-  unfolding arraysOf
-  phase-at i = getD-all 32 i (λ j. phaseNumber (s .rest .process j .phase)) 0
-      (λ l. sym (ap (λ (p : Process). phaseNumber (p .phase)) (w .past i (omega arith) .process)))
-
-  out-at : (i : ℕ) → cell (arraysOf n s .control) 1 i 0 ≡ outNumber (s .rest .process i .out)
-  unfolding arraysOf
-  out-at i = getD-all 32 i (λ j. outNumber (s .rest .process j .out)) 0
-      (λ l. sym (ap (λ (p : Process). outNumber (p .out)) (w .past i (omega arith) .process)))
-
-  rows-at : (i : ℕ) → i < 32 → rowsAt (arraysOf n s) i ≡ resultRows (s .rest .result i)
-  unfolding arraysOf
-  rows-at i l = getD-tabulate 32 0 i (λ j. resultRows (s .rest .result j)) [] l ∙ ap (λ j. resultRows (s .rest .result j)) (zero-add i)
-
-  result-at : (i : ℕ) → resultOf n (rowsAt (arraysOf n s) i) ≡ s .rest .result i
-  unfolding arraysOf
-  result-at i = by-cases (decLt i 32)
-      (λ l. ap (resultOf n) (rows-at i l) ∙ result-back n (s .rest .result i) high (w .listed i))
-      (λ l. ap (resultOf n) (List·getD-eq-default (arraysOf n s .results) [] (rw length-tabulate (omega arith)))
-      ∙ none-held n [] (λ p _. refl) ∙ sym (w .past i (omega arith) .result))
-
   pub held-written : stateOf (arraysOf n s) ≡ s
   unfolding arraysOf
-  held-written = λ y. record {
-    labels = λ x i. label-at x i y;
-    rest = record {
-      process = λ i. record {
-        job = job-at false i y;
-        pendingJob = job-at true i y;
-        phase =
-            (ap phaseFor (phase-at i) ∙ phase-back (s .rest .process i .phase) (w .phase i)) y;
-        out = (ap outFor (out-at i) ∙ out-back (s .rest .process i .out)) y;
-      };
-      result = λ i. result-at i y;
-    };
-  }
+  held-written = λ y. record { labels = λ x i. label-at x i y; rest = rest-back n high (s .rest) (w .rest) y }
 
 -- and well-formed if that state is reached
 module _ (n : ℕ) (low : 2 ≤ n) (high : n ≤ 32) (s : State Labels.Label) (r : Reached n s) where
@@ -144,7 +144,7 @@ module _ (n : ℕ) (low : 2 ≤ n) (high : n ≤ 32) (s : State Labels.Label) (r
   rows-fit x i l = label-fits 31 (n - 1) _ (s .labels x i) (label-at n high s w x i) (r .ready .inv .digits x i (omega arith)) (r .ready .behind x i)
 
   rows-fresh : (x : Bool) (i : ℕ) → n ≤ i → rowFits 31 0 (labelRow (arraysOf n s) x i) ≡ true
-  rows-fresh x i l = label-fits 31 0 _ (λ p. 1) (label-at n high s w x i ∙ w .past i l .labels x) (λ p. (omega arith, omega arith)) (λ p _. refl)
+  rows-fresh x i l = label-fits 31 0 _ (λ p. 1) (label-at n high s w x i ∙ w .blank x i l) (λ p. (omega arith, omega arith)) (λ p _. refl)
 
   control-fits : (p : Process) → Idles p → controlFits (phaseNumber (p .phase)) (outNumber (p .out)) ≡ true
   control-fits p h = both (both (le-leb _ 4 (phase-low (p .phase))) (le-leb _ 1 (out-low (p .out)))) (idle (p .out) h)
@@ -157,18 +157,24 @@ module _ (n : ℕ) (low : 2 ≤ n) (high : n ≤ 32) (s : State Labels.Label) (r
   unfolding wellFormed stationFits placeFresh arraysOf
   reached-passes = both (both (both (within-of 2 32 n low high)
       (every-all n _ (λ i l. both (both (both (rows-fit false i l) (rows-fit true i l))
-      (rw (rows-at n high s w i (omega arith)) (sound-fits n (s .rest .result i) high (w .listed i) (r .sound i))))
-      (rw (phase-at n high s w i, out-at n high s w i) (control-fits (s .rest .process i) (r .idles i))))))
+      (rw (rows-at n high o v i (omega arith)) (sound-fits n (o .result i) high (v .listed i) (r .sound i))))
+      (rw (phase-at n high o v i, out-at n high o v i) (control-fits (o .process i) (r .idles i))))))
       (every-all (32 - n) _ (λ i l. fresh (n + i) (omega arith) (omega arith))))
       (ap (λ (u : State Labels.Label). noRing (n - 1) (u .labels false)) (held-written n high s w) ∙ choice-ring-free n (omega arith) r (λ i. false))
     where
+      o : Rest
+      o = s .rest
+
+      v : WritableRest n o
+      v = w .rest
+
       fresh : (i : ℕ) → n ≤ i → i < 32 → placeFresh (arraysOf n s) i ≡ true
-      fresh i h l = let u = w .past i h .process in both (both (both (both (both (rows-fresh false i h) (rows-fresh true i h))
-          (eq-eqb (cell (arraysOf n s .jobs) 0 i 0) 0 (job-at n high s w false i ∙ ap (λ (p : Process). p .job) u)))
-          (eq-eqb (cell (arraysOf n s .jobs) 1 i 0) 0 (job-at n high s w true i ∙ ap (λ (p : Process). p .pendingJob) u)))
-          (rw (rows-at n high s w i l, w .past i h .result) empty-fresh))
-          (both (eq-eqb (cell (arraysOf n s .control) 0 i 0) 0 (phase-at n high s w i ∙ ap (λ (p : Process). phaseNumber (p .phase)) u))
-          (eq-eqb (cell (arraysOf n s .control) 1 i 0) 0 (out-at n high s w i ∙ ap (λ (p : Process). outNumber (p .out)) u)))
+      fresh i h l = let u = v .past i h .process in both (both (both (both (both (rows-fresh false i h) (rows-fresh true i h))
+          (eq-eqb (cell (arraysOf n s .jobs) 0 i 0) 0 (job-at n high o v false i ∙ ap (λ (p : Process). p .job) u)))
+          (eq-eqb (cell (arraysOf n s .jobs) 1 i 0) 0 (job-at n high o v true i ∙ ap (λ (p : Process). p .pendingJob) u)))
+          (rw (rows-at n high o v i l, v .past i h .result) empty-fresh))
+          (both (eq-eqb (cell (arraysOf n s .control) 0 i 0) 0 (phase-at n high o v i ∙ ap (λ (p : Process). phaseNumber (p .phase)) u))
+          (eq-eqb (cell (arraysOf n s .control) 1 i 0) 0 (out-at n high o v i ∙ ap (λ (p : Process). outNumber (p .out)) u)))
 
 pub lent-lawful : Lawful lent
 unfolding arraysOf
@@ -190,27 +196,30 @@ module _ (a : Arrays) (g : Shaped a) (e : wellFormed a ≡ true) where
   out-known : (i : ℕ) → i < 32 → cell (a .control) 1 i 0 ≤ 1
   out-known i l = by-cases (decLt i (a .count)) (λ u. passed a e .each i u .out) (λ u. omega (arith, passed a e .rest i (omega arith) l .out))
 
-  pub labels-back : planes (λ x i. row 31 (stateOf a .labels x i)) ≡ a .labels
+  pub labels-back : labelsOf (stateOf a .labels) ≡ a .labels
   labels-back = ap₂ (λ b c. b ∷ c ∷ []) (each 0 (omega arith)) (each 1 (omega arith)) ∙ two-lists (a .labels) [] (g .labels .long)
     where
       each : (f : ℕ) → f < 2 → tabulate 32 0 (λ i. row 31 (digit (cell (a .labels) f i []))) ≡ getD (a .labels) f []
       each f h = tabulate-is 32 (getD (a .labels) f []) [] _ (g .labels .each f h) (λ i l. row-digit 31 _ (g .label f h .each i l))
 
-  pub jobs-back : planes (jobsOf (stateOf a)) ≡ a .jobs
+  jobs-back : planes (jobsOf (restOf a)) ≡ a .jobs
   jobs-back = ap₂ (λ b c. b ∷ c ∷ [])
       (tabulate-is 32 (getD (a .jobs) 0 []) 0 _ (g .jobs .each 0 (omega arith)) (λ i l. refl))
       (tabulate-is 32 (getD (a .jobs) 1 []) 0 _ (g .jobs .each 1 (omega arith)) (λ i l. refl))
       ∙ two-lists (a .jobs) [] (g .jobs .long)
 
-  pub control-back : planes (controlOf (stateOf a)) ≡ a .control
+  control-back : planes (controlOf (restOf a)) ≡ a .control
   control-back = ap₂ (λ b c. b ∷ c ∷ [])
       (tabulate-is 32 (getD (a .control) 0 []) 0 _ (g .control .each 0 (omega arith)) (λ i l. number-back _ (phase-known i l)))
       (tabulate-is 32 (getD (a .control) 1 []) 0 _ (g .control .each 1 (omega arith)) (λ i l. out-number _ (out-known i l)))
       ∙ two-lists (a .control) [] (g .control .long)
 
-  pub results-back : tabulate 32 0 (λ i. resultRows (stateOf a .rest .result i)) ≡ a .results
+  results-back : resultsOf (restOf a) ≡ a .results
   results-back = tabulate-is 32 (a .results) [] _ (g .results .long) (λ i l.
       rows-back _ (rowsAt a i) (omega (arith, high, last (a .count) (λ p. not (eqb (cell (rowsAt a i) 0 p 0) 0)) .upto)) (g .result i l) (blank-at i l))
+
+  pub passed-holds : Holds (restOf a) (a .jobs) (a .control) (a .results)
+  passed-holds = record { jobs = sym jobs-back; control = sym control-back; results = sym results-back }
 
   pub written-held : arraysOf (a .count) (stateOf a) ≡ a
   unfolding arraysOf
@@ -222,9 +231,14 @@ module _ (a : Arrays) (g : Shaped a) (e : wellFormed a ≡ true) where
     behind = λ x i p h. by-cases (decLt i 32)
         (λ l. List·getD-eq-default (labelRow a x i) 1 (omega (arith, label-long x i l)))
         (λ l. ap (λ (r : Lists.List ℕ). digit r p) (label-none x i (omega arith)));
-    listed = λ i. entries-listed (a .count) (rowsAt a i);
-    phase = λ i. number-kept (cell (a .control) 0 i 0);
-    past = λ i h. by-cases (decLt i 32) (λ l. unused i h l) (λ l. missing i (omega arith));
+    blank = λ x i h. by-cases (decLt i 32)
+        (λ l. fun-ext (λ p. fits-behind 31 0 (labelRow a x i) (label-long x i l) (passed a e .rest i h l .label x) p (omega arith)))
+        (λ l. ap digit (label-none x i (omega arith)));
+    rest = record {
+      listed = λ i. entries-listed (a .count) (rowsAt a i);
+      phase = λ i. number-kept (cell (a .control) 0 i 0);
+      past = λ i h. by-cases (decLt i 32) (λ l. unused i h l) (λ l. missing i (omega arith));
+    };
   }
     where
       label-long : (x : Bool) (i : ℕ) → i < 32 → length (labelRow a x i) ≡ 31
@@ -235,9 +249,8 @@ module _ (a : Arrays) (g : Shaped a) (e : wellFormed a ≡ true) where
       label-none false i l = List·getD-eq-default (getD (a .labels) 0 []) [] (omega (arith, g .labels .each 0 (omega arith)))
       label-none true i l = List·getD-eq-default (getD (a .labels) 1 []) [] (omega (arith, g .labels .each 1 (omega arith)))
 
-      unused : (i : ℕ) → a .count ≤ i → i < 32 → Unused (stateOf a) i
+      unused : (i : ℕ) → a .count ≤ i → i < 32 → Unused (restOf a) i
       unused i h l = let f = passed a e .rest i h l in record {
-        labels = λ x. fun-ext (λ p. fits-behind 31 0 (labelRow a x i) (label-long x i l) (f .label x) p (omega arith));
         process = λ y. record { job = f .job y; pendingJob = f .pendingJob y; phase = phaseFor (f .phase y); out = outFor (f .out y) };
         result = none-held (a .count) (rowsAt a i) (λ p u. fresh-cells (rowsAt a i) (f .result) p (omega (arith, high)) .0);
       }
@@ -245,9 +258,8 @@ module _ (a : Arrays) (g : Shaped a) (e : wellFormed a ≡ true) where
       none : (xs : Rows) (f i : ℕ) → length (getD xs f []) ≡ 32 → 32 ≤ i → cell xs f i 0 ≡ 0
       none xs f i h l = List·getD-eq-default (getD xs f []) 0 (omega arith)
 
-      missing : (i : ℕ) → 32 ≤ i → Unused (stateOf a) i
+      missing : (i : ℕ) → 32 ≤ i → Unused (restOf a) i
       missing i l = record {
-        labels = λ x. ap digit (label-none x i l);
         process = λ y. record {
           job = none (a .jobs) 0 i (g .jobs .each 0 (omega arith)) l y;
           pendingJob = none (a .jobs) 1 i (g .jobs .each 1 (omega arith)) l y;

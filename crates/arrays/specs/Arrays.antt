@@ -1,5 +1,6 @@
 -- A table in four arrays of numbers, one for each kind of field, so that it can be lent and changed in place (01, "The record of a station").
 use Prim.Native.Nat.{ℕ}
+use mathlib.Core.Path.{_≡_}
 use mathlib.Core.Bool.{Bool, true, false, not, cond}
 use mathlib.Core.List as Lists
 use mathlib.Core.List.{[], _∷_}
@@ -87,30 +88,45 @@ rowsAt a i = getD (a .results) i []
 abbrev pub labelRow : Arrays → Bool → ℕ → Lists.List ℕ
 labelRow a x i = cell (a .labels) (plane x) i []
 
-abbrev pub restOf : Arrays → Rest
-restOf a = record {
+-- what is not labels, of n stations
+abbrev pub restIn : ℕ → Rows → Rows → Planes → Rest
+restIn n jobs control results = record {
   process = λ i. record {
-    job = cell (a .jobs) 0 i 0;
-    pendingJob = cell (a .jobs) 1 i 0;
-    phase = phaseFor (cell (a .control) 0 i 0);
-    out = outFor (cell (a .control) 1 i 0);
+    job = cell jobs 0 i 0;
+    pendingJob = cell jobs 1 i 0;
+    phase = phaseFor (cell control 0 i 0);
+    out = outFor (cell control 1 i 0);
   };
-  result = λ i. resultOf (a .count) (rowsAt a i);
+  result = λ i. resultOf n (getD results i []);
 }
 
+abbrev pub restOf : Arrays → Rest
+restOf a = restIn (a .count) (a .jobs) (a .control) (a .results)
+
+abbrev pub labelsIn : Planes → Bool → ℕ → Labels.Label
+labelsIn labels x i = digit (cell labels (plane x) i [])
+
 abbrev pub stateOf : Arrays → State Labels.Label
-stateOf a = record { labels = λ x i. digit (labelRow a x i); rest = restOf a }
+stateOf a = record { labels = labelsIn (a .labels); rest = restOf a }
 
 -- WRITING DOWN: the arrays of n stations that hold a state
-abbrev pub jobsOf : State Labels.Label → Bool → ℕ → ℕ
-jobsOf s x i = let p = s .rest .process i in cond x (p .pendingJob) (p .job)
+abbrev pub jobsOf : Rest → Bool → ℕ → ℕ
+jobsOf o x i = let p = o .process i in cond x (p .pendingJob) (p .job)
 
-abbrev pub controlOf : State Labels.Label → Bool → ℕ → ℕ
-controlOf s x i = let p = s .rest .process i in cond x (outNumber (p .out)) (phaseNumber (p .phase))
+abbrev pub controlOf : Rest → Bool → ℕ → ℕ
+controlOf o x i = let p = o .process i in cond x (outNumber (p .out)) (phaseNumber (p .phase))
+
+abbrev pub resultsOf : Rest → Planes
+resultsOf o = tabulate 32 0 (λ i. resultRows (o .result i))
+
+abbrev pub labelsOf : (Bool → ℕ → Labels.Label) → Planes
+labelsOf l = planes (λ x i. row 31 (l x i))
 
 unfoldable pub arraysOf : ℕ → State Labels.Label → Arrays
-arraysOf n s = arrays n
-    (planes (λ x i. row 31 (s .labels x i)))
-    (planes (jobsOf s))
-    (planes (controlOf s))
-    (tabulate 32 0 (λ i. resultRows (s .rest .result i)))
+arraysOf n s = arrays n (labelsOf (s .labels)) (planes (jobsOf (s .rest))) (planes (controlOf (s .rest))) (resultsOf (s .rest))
+
+-- these three arrays hold the rest o and nothing else
+pub record Holds (o : Rest) (j c : Rows) (r : Planes) : Type 0 where
+  pub jobs : j ≡ planes (jobsOf o)
+  pub control : c ≡ planes (controlOf o)
+  pub results : r ≡ resultsOf o

@@ -4,18 +4,18 @@ use mathlib.Core.Path.{_≡_}
 use mathlib.Core.Bool.{true, false, cond}
 use mathlib.Core.List as Lists
 use mathlib.Core.List.{[], _∷_}
-use lib.ListN.{getD}
+use lib.ListN.{length, getD, take}
 use lib.Dec.{eqb}
 use Rattle.basics.specs.Tests.{newest}
 use Rattle.label.specs.Labels as Labels
-use Rattle.rows.specs.Held.{standsIn}
+use Rattle.rows.specs.Held.{standsIn, Orderly}
 use Rattle.simulation.specs.Calls as Calls
 use Rattle.simulation.specs.Calls.{Room, Call, holds, judgeIn, PanelRecord, written}
 use Rattle.simulation.specs.Machine as Machine
-use Rattle.simulation.specs.Machine.{digits, State, labelsAfter, outcome}
+use Rattle.simulation.specs.Machine.{digits, State, labelsAfter, outcome, carryOut}
 use Rattle.transition.specs.Forms.{stepOf}
 use Rattle.moves.specs.Moves.{refusalNumber, moveOf, called, placeOf}
-use Rattle.arrays.specs.Arrays.{Rows, Planes, Arrays, cell, phaseFor, outFor, entriesIn, shownIn, stateOf, arraysOf}
+use Rattle.arrays.specs.Arrays.{Rows, Planes, Arrays, cell, phaseFor, outFor, entriesIn, shownIn, restIn, labelsIn, stateOf, labelsOf, arraysOf, Holds}
 use Rattle.arrays.specs.WellFormed.{wellFormed}
 use Rattle.arrays.specs.Form.{lent}
 use Rattle.engine.specs.Scans.{orderOf}
@@ -38,6 +38,10 @@ directly code station job = record { code = code; station = station; job = job; 
 abbrev pub actionOf : Task → Calls.Move
 actionOf x = moveOf (x .place) (x .job) (x .action)
 
+-- the first k stations in rows are at most 32, as those of a well-formed table
+abbrev pub Named : ℕ → Rows → Type 0
+Named k rows = (p : ℕ) → p < k → cell rows 0 p 0 ≤ 32
+
 -- what a task asks for: a well-formed table and a place in it; the job, the newest station, the scan order and the entries of the result where its move needs
 -- them
 pub record Prepared (a : Arrays) (x : Task) (order : Lists.List ℕ) : Type 0 where
@@ -48,6 +52,24 @@ pub record Prepared (a : Arrays) (x : Task) (order : Lists.List ℕ) : Type 0 wh
   pub isNewest : x .action ≡ SnapLabel → x .newest ≡ newest (a .count) (standsIn (a .count) (getD (a .labels) 0 []))
   pub isOrder : x .action ≡ SnapScan → order ≡ orderOf (a .count) (getD (a .labels) 0 [])
   pub isShown : x .action ≡ EndScan → x .shown ≡ shownIn (a .count) (cell (a .results) (x .place) 0 [])
+
+-- what it asks for of what is not labels, whatever the labels are: the three arrays hold it and nothing else; an order of n processes for a snap; and at the
+-- end of a scan the entries of the result, with stations of at most 32
+pub record PreparedRest (n : ℕ) (jobs control : Rows) (results : Planes) (x : Task) (order : Lists.List ℕ) : Type 0 where
+  pub holds : Holds (restIn n jobs control results) jobs control results
+  pub high : n ≤ 32
+  pub inside : x .place < n
+  pub jobFits : x .action ≡ BeginLabel → x .job ≤ 4294967295
+  pub listed : x .action ≡ SnapScan → (n ≤ length order) × ((p : ℕ) → p < n → getD order p 0 < 32)
+  pub isShown : x .action ≡ EndScan → x .shown ≡ shownIn n (cell results (x .place) 0 [])
+  pub named : x .action ≡ EndScan → Named (x .shown) (getD results (x .place) [])
+
+-- what it asks for of the labels: written down they are the same, they are in order, and the newest station is known where a snap needs it
+pub record PreparedLabels (n : ℕ) (labels : Planes) (m : Move) (k z : ℕ) : Type 0 where
+  pub exact : labels ≡ labelsOf (labelsIn labels)
+  pub orderly : Orderly n (getD labels 0 [])
+  pub inside : k < n
+  pub isNewest : m ≡ SnapLabel → z ≡ newest n (standsIn n (getD labels 0 []))
 
 -- how many entries a move hands out, where the result at its place shows k
 abbrev pub handsOut : ℕ → Move → ℕ
@@ -79,9 +101,18 @@ pub record Performs (a : Arrays) (k : ℕ) (w : Calls.Move) (a′ : Arrays) (r :
   pub place : r .place ≡ k
   pub handed : outcomeOf a w .handed ≡ entriesIn (r .entries) (getD (a′ .results) k [])
 
--- the first k stations in rows are at most 32, as those of a well-formed table
-abbrev pub Named : ℕ → Rows → Type 0
-Named k rows = (p : ℕ) → p < k → cell rows 0 p 0 ≤ 32
+-- a task carried out on what is not labels, where the n processes stand in this order: what the arrays hold then, the refusal, and the entries of the result
+-- at its place
+abbrev pub restAfter : ℕ → Rows → Rows → Planes → Task → Lists.List ℕ → Machine.Outcome
+restAfter n jobs control results x order = carryOut (take n order) (restIn n jobs control results) (actionOf x)
+
+pub record CarriesRest (o : Machine.Outcome) (x : Task) (jobs control : Rows) (results : Planes) (r : Handed) : Type 0 where
+  pub holds : Holds (o .rest) jobs control results
+  pub number : refusalNumber (r .refusal) ≡ o .refusal
+  pub place : r .place ≡ x .place
+  pub entries : r .entries ≡ handsOut (x .shown) (x .action)
+  pub handed : o .handed ≡ entriesIn (r .entries) (getD results (x .place) [])
+  pub named : Named (r .entries) (getD results (x .place) [])
 
 -- a task carried out
 abbrev pub Carries : Arrays → Task → Arrays → Handed → Type 0

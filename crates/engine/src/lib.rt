@@ -8,17 +8,19 @@ ghost use lib.ListN.{length, getD, replicate};
 ghost use Rattle.basics.specs.Tests.{newest};
 ghost use Rattle.rows.specs.Held.{standsIn, Orderly};
 ghost use Rattle.simulation.specs.Calls.{Buffer, Panel, reportLines, panelRecords, Bytes, Records};
+ghost use Rattle.simulation.specs.Machine.{digits, labelStep, relabelled};
 ghost use Rattle.transition.specs.Forms.{over};
 ghost use Rattle.transition.specs.Questions.{Tells};
 ghost use Rattle.transition.specs.Sequences.{Steps};
-ghost use Rattle.moves.specs.Moves.{roomOf, refusalNumber};
+ghost use Rattle.moves.specs.Moves.{roomOf, refusalNumber, moveOf};
 ghost use Rattle.moves.specs.declared.Move.the-variants.{SnapLabel, SnapScan};
 ghost use Rattle.moves.specs.declared.Refusal.the-variants.{Accepted};
-ghost use Rattle.arrays.specs.Arrays.{arrays, entriesIn, shownIn};
+ghost use Rattle.arrays.specs.Arrays.{arrays, entriesIn, shownIn, labelsIn, labelsOf};
 ghost use Rattle.arrays.specs.WellFormed.{wellFormed};
 ghost use Rattle.arrays.specs.Form.{lent};
 ghost use Rattle.engine.specs.Scans.{orderOf, found, scanRows};
-ghost use Rattle.engine.specs.Contracts.{directly, callOf, Prepared, due, Named, Carries, Judges, Hands, rowOf, recordOf};
+ghost use Rattle.engine.specs.Contracts.{directly, callOf, Prepared, PreparedRest, PreparedLabels, restAfter, CarriesRest};
+ghost use Rattle.engine.specs.Contracts.{due, Named, Carries, Judges, Hands, rowOf, recordOf};
 use arrays::Control;
 use arrays::END_LABEL;
 use arrays::END_SCAN;
@@ -167,21 +169,36 @@ fn accepted(place: usize, entries: usize) -> Handed
     }
 }
 
-// Carries out a task on a well-formed table of n stations with this scan order.
-pub fn carry_out(
+// What a move of the station at a place makes of the labels of n stations; z is the newest of them, where the move asks for it.
+fn relabel(m: Move, place: usize, z: usize, n: usize, labels: &mut Labels)
+    requires { ⌜ PreparedLabels n (now labels) m place z ⌝ }
+    ensures { λ _. ⌜ ((job : ℕ) → now (labels .exit) ≡ labelsOf (relabelled n (digits n) (labelsIn (now (labels .entry))) (labelStep (moveOf place job m)))) ⌝ }
+{
+    match m {
+        Move::SnapLabel => {
+            let own = labels[PENDING][place];
+            labels[PENDING][place] = rows::choice::pending_by(&labels[CURRENT], n, z, place, own);
+        }
+        Move::Update => {
+            labels[CURRENT][place] = labels[PENDING][place];
+        }
+        _ => {}
+    }
+}
+
+// Carries out a task on what a table of n stations holds beside its labels, whatever these are; the stations stand in this order.
+pub fn carry_rest(
     n: usize,
     task: Task,
     order: &[usize; 32],
-    labels: &mut Labels,
     jobs: &mut Jobs,
     control: &mut Control,
     results: &mut Results,
 ) -> Handed
-    requires { ⌜ Prepared (arrays n (now labels) (now jobs) (now control) (now results)) task (now order) ⌝ }
-    ensures { λ r. ⌜ Carries (arrays n (now (labels .entry)) (now (jobs .entry)) (now (control .entry)) (now (results .entry))) task
-        (arrays n (now (labels .exit)) (now (jobs .exit)) (now (control .exit)) (now (results .exit))) r ⌝ }
+    requires { ⌜ PreparedRest n (now jobs) (now control) (now results) task (now order) ⌝ }
+    ensures { λ r. ⌜ CarriesRest (restAfter n (now (jobs .entry)) (now (control .entry)) (now (results .entry)) task (now (order .entry))) task
+        (now (jobs .exit)) (now (control .exit)) (now (results .exit)) r ⌝ }
 {
-    arrays::shaped(*labels, *jobs, *control, *results);
     let m = task.action;
     let place = task.place;
     match m {
@@ -196,14 +213,6 @@ pub fn carry_out(
             accepted(place, 0)
         }
         Move::SnapLabel => {
-            let own = labels[PENDING][place];
-            labels[PENDING][place] = rows::choice::pending_by(
-                &labels[CURRENT],
-                n,
-                task.newest,
-                place,
-                own,
-            );
             control[PHASE][place] = UPDATE;
             accepted(place, 0)
         }
@@ -219,7 +228,6 @@ pub fn carry_out(
             accepted(place, 0)
         }
         Move::Update => {
-            labels[CURRENT][place] = labels[PENDING][place];
             jobs[CURRENT][place] = jobs[PENDING][place];
             control[PHASE][place] = END_LABEL;
             accepted(place, 0)
@@ -241,6 +249,26 @@ pub fn carry_out(
             accepted(place, 0)
         }
     }
+}
+
+// Carries out a task on a well-formed table of n stations with this scan order.
+pub fn carry_out(
+    n: usize,
+    task: Task,
+    order: &[usize; 32],
+    labels: &mut Labels,
+    jobs: &mut Jobs,
+    control: &mut Control,
+    results: &mut Results,
+) -> Handed
+    requires { ⌜ Prepared (arrays n (now labels) (now jobs) (now control) (now results)) task (now order) ⌝ }
+    ensures { λ r. ⌜ Carries (arrays n (now (labels .entry)) (now (jobs .entry)) (now (control .entry)) (now (results .entry))) task
+        (arrays n (now (labels .exit)) (now (jobs .exit)) (now (control .exit)) (now (results .exit))) r ⌝ }
+{
+    arrays::shaped(*labels, *jobs, *control, *results);
+    let m = task.action;
+    relabel(m, task.place, task.newest, n, labels);
+    carry_rest(n, task, order, jobs, control, results)
 }
 
 // How many entries a station whose phase has this number may hand out: none but at the end of a scan.

@@ -16,12 +16,12 @@ use Rattle.label.specs.Rows.{noRing}
 use Rattle.label.proofs.RowLaws.{no-ring-of}
 use Rattle.simulation.specs.Calls.{Call, place, Label, Scan, Phase, Idle, Update, Snap, End, Entry, entry, Process, Rest, Move, judge}
 use Rattle.simulation.specs.Machine.{Labelling, original, digits, stands, inPhase, begun, updated, setOut, changed, hasJob, shows, scanOf, carryOut}
-use Rattle.simulation.specs.Machine.{State, fresh, step}
+use Rattle.simulation.specs.Machine.{freshRest, State, fresh, step}
 use Rattle.simulation.proofs.Sync.{no-ring}
 use Rattle.simulation.proofs.Judged.{Verdict, turned, begins, scans, updates, snaps, ends, service, verdict-in}
 use Rattle.simulation.proofs.Touched.{results-all}
 use Rattle.simulation.proofs.Simulation.{Ready, newest-labels, fresh-ready, ready-step}
-use Rattle.transition.proofs.Written.{Writable, writable-step}
+use Rattle.transition.proofs.Written.{WritableRest, Writable, writable-step}
 
 -- a result that 13 lets pass (02, Card 2): stations from 1 to n with jobs, none of them twice
 pub record Sound (n : ℕ) (l : Lists.List Entry) : Type 0 where
@@ -54,15 +54,21 @@ module _ (n : ℕ) (some : 1 ≤ n) where
         t : ℕ → Labels.Label
         t i = s .labels (x i) i
 
+  pub rest-fresh : WritableRest n freshRest
+  rest-fresh = record {
+    listed = λ i. (omega arith, λ p e. absurd (omega arith));
+    phase = λ i. tt;
+    past = λ i l. record { process = refl; result = refl };
+  }
+
   pub reached-fresh : Reached n (fresh (λ p. 1))
   reached-fresh = record {
     N = λ x i. 0;
     ready = fresh-ready (n - 1);
     writable = record {
       behind = λ x i p h. refl;
-      listed = λ i. (omega arith, λ p e. absurd (omega arith));
-      phase = λ i. tt;
-      past = λ i l. record { labels = λ x. refl; process = refl; result = refl };
+      blank = λ x i l. refl;
+      rest = rest-fresh;
     };
     sound = λ i. record { each = tt; once = λ j l. unfold passing in omega arith };
     idles = λ i e. refl;
@@ -72,7 +78,7 @@ module _ (n : ℕ) (some : 1 ≤ n) where
   suc-eqb i j = by-here (λ b. eqb (suc i) (suc j) ≡ b) j i (λ e. eq-eqb _ _ (ap suc e)) (λ d. ne-eqb (suc i) (suc j) (λ e. d (omega arith)))
 
   -- what a scan stores
-  scan-sound : (process : ℕ → Process) (b : ℕ → ℕ → Bool) → Sound n (scanOf process (ordered n b))
+  pub scan-sound : (process : ℕ → Process) (b : ℕ → ℕ → Bool) → Sound n (scanOf process (ordered n b))
   unfolding scanOf
   scan-sound process b = record {
     each = all-map (λ i. (i < n) × (process i .job ≢ 0)) _ entryFor (λ i h. (omega arith, omega (arith, h .0), h .1)) shown

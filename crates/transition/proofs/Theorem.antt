@@ -201,7 +201,7 @@ module _ (F : Form) (L : Lawful F) (n : ℕ) (low : 2 ≤ n) (high : n ≤ 32) w
         held = ap (F .state) (r .holds) ∙ reached-held F L n low high (r .reached)
 
         few : length (F .state t .rest .result (place c)) ≤ n
-        few = omega (arith, ap (λ (s : State Labels.Label). length (s .rest .result (place c))) held, r .reached .writable .listed (place c) .0)
+        few = omega (arith, ap (λ (s : State Labels.Label). length (s .rest .result (place c))) held, r .reached .writable .rest .listed (place c) .0)
 
     pub table-step : (c : Call) → ReachedTable F n (stepOf F t c .table)
     table-step c = record {
