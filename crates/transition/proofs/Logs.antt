@@ -75,6 +75,7 @@ front-end l m i h = rw (drop-of-length-le l h) refl
 
 -- THE TEST, exactly
 
+-- one number
 fits-number : (x : LabelSnap)
     → (cond (x .byNewest) (eqb (x .number) 0) (ltb (x .top) (x .number) && leb (x .number) 4294967295) ≡ true) ↔ Fit 4294967295 x
 fits-number x = go (x .byNewest) refl
@@ -116,6 +117,7 @@ empty (x ∷ l) e = absurd (omega arith)
 abbrev writes : Board → ℕ → State ℕ → Lists.List ℕ → Lists.List Call → Lists.List ℕ
 writes B n s ns cs = lists (map (λ a. a .report) (Machine.run B n numbered s ns cs))
 
+-- all calls, from any state on
 exactly : (B : Board) (n : ℕ) (cs : Lists.List Call) (s : State ℕ) (ns bytes : Lists.List ℕ)
     → (right B n s ns bytes cs ≡ true) ↔ (Fits B n 4294967295 s ns cs × (bytes ≡ writes B n s ns cs))
 unfolding right lists Machine.run labelSnaps snapsOf
