@@ -1,22 +1,25 @@
--- Samples P1 to P12, and those of Cards 4 to 6, hold of the tables of every lawful form: computed without the test for 13, which no table on the way
+-- Samples P1 to P12, and those of Cards 4 to 7, hold of the tables of every lawful form: computed without the test for 13, which no table on the way
 -- fails.
 use Prim.Native.Nat.{ℕ, zero, suc, _≤_, _<_}
 use native.Mathlib.Omega.{arith}
 use mathlib.Core.Path.{_≡_, refl, sym, ap, subst, _∙_}
-use mathlib.Core.Bool.{false, true≢false}
+use mathlib.Core.Bool.{true, false, true≢false}
 use mathlib.Core.List as Lists
 use mathlib.Core.List.{[], _∷_, _++_, List·Memᴰ, List·Memᴰ·head, List·Memᴰ·tail}
 use Rattle.basics.specs.Tests.{every, count, firstFrom, lastOf, newest, inserted, ordered, passing, tabulate, All}
-use Rattle.basics.proofs.Facts.{all-append}
+use Rattle.basics.proofs.Facts.{tf, all-append, all-weaken}
+use Rattle.columns.specs.Columns.{lineHead, lineTail, reportLine}
 use Rattle.label.specs.Labels as Labels
 use Rattle.label.specs.Labels.{below, next, agrees, firstDifference, labelBelow, labelBefore, nextLabel, others, level, newLabel, holders}
 use Rattle.label.specs.Rows.{row}
-use Rattle.simulation.specs.Calls.{Call, unless, judgeIn}
+use Rattle.simulation.specs.Calls.{Call, unless, judgeIn, reportLines}
 use Rattle.simulation.specs.Machine.{original, digits, pendingAfter, relabelled, scanOf, carryOut, State, fresh, step, snapsOf, run, snaps, numberBefore}
 use Rattle.simulation.specs.Numbered.{met, labelSnaps, Fit, newestSnap, newestSnaps}
 use Rattle.simulation.specs.Numbering.{bump, highest, slotOf, renumber, renumbered}
 use Rattle.transition.specs.Forms.{Form, freshTable, after}
 use Rattle.transition.specs.Questions.{topHolders, Tells}
+use Rattle.transition.specs.Logs.{fitsNext, atFront, right}
+use Rattle.transition.specs.Samples.{Sample, digitsBelow, labelsBelow, numbersDo, numbersFound, logRight, logWrong, scanned, ended, logSamples}
 use Rattle.transition.specs.Samples.{call, labelled, shown, order, shownBy, reaches, scanShows, topHeld, Holds, one, two, three, together}
 use Rattle.transition.specs.Samples.{stalled, samples, absent, serviceSamples, topSamples, overtaken, numberSamples, SamplesHold}
 use Rattle.simulation.proofs.Follow as Follow
@@ -24,6 +27,7 @@ use Rattle.transition.proofs.Reached.{Reached, reached-fresh}
 use Rattle.transition.proofs.Theorem.{Lawful, reached-held, reached-written, reached-next, same-after, table-fresh, table-after}
 use Rattle.transition.proofs.Questions.{reached-tells}
 use Rattle.transition.proofs.Numbers.{numbers-do, numbers}
+use Rattle.transition.proofs.Logs.{right-exactly}
 use Rattle.arrays.specs.Arrays.{Arrays, stateOf, arraysOf}
 use Rattle.arrays.specs.Form.{lent}
 use Rattle.arrays.proofs.States.{lent-lawful}
@@ -47,6 +51,23 @@ module _ (n : ℕ) (low : 2 ≤ n) (high : n ≤ 32) where
       → P (F .state (after F (freshTable F n) cs))
   leads F L P cs =
       subst P (sym (same-after F lent L lent-lawful n low high cs ∙ ap stateOf (carried-same cs (fresh (λ p. 1)) (reached-fresh n (omega arith)))))
+
+-- the answer of the test to a log of the samples
+abbrev Judged : Sample → Type 0
+Judged (logRight n cs ns l) = right original n (fresh 0) ns (scanned l) cs ≡ true
+Judged (logWrong n cs ns l) = right original n (fresh 0) ns (scanned l) cs ≡ false
+Judged (digitsBelow d e) = ⊥
+Judged (labelsBelow a b) = ⊥
+Judged (reaches n cs l o) = ⊥
+Judged (scanShows n cs k l) = ⊥
+Judged (topHeld n cs k) = ⊥
+Judged (numbersDo n cs ns) = ⊥
+Judged (numbersFound n cs ns) = ⊥
+
+judged : All Judged logSamples
+unfolding right fitsNext atFront numberBefore snapsOf unless judgeIn pendingAfter relabelled scanOf carryOut step every firstFrom newest inserted ordered
+    passing reportLines reportLine lineHead lineTail scanned call labelled one two three overtaken ended
+judged = (refl, (refl, (refl, (refl, (refl, (refl, (refl, (refl, (refl, (refl, (refl, (refl, tt))))))))))))
 
 module _ (F : Form) (L : Lawful F) where
   two-stations : (cs : Lists.List Call) {l : Lists.List (Lists.List ℕ)} {o : Lists.List ℕ}
@@ -152,6 +173,21 @@ module _ (F : Form) (L : Lawful F) where
     (refl, (refl, (numbers F L 3 (omega arith) (omega arith) _, (numbers-do F L 3 (omega arith) (omega arith) apart, tt)))),
   )
 
+  logs : All (Holds F) logSamples
+  logs = all-weaken {P = Judged} {Q = Holds F} told logSamples judged
+    where
+      told : (x : Sample) → Judged x → Holds F x
+      told (logRight n cs ns l) e = right-exactly original n cs ns (scanned l) .0 e
+      told (logWrong n cs ns l) e = λ r. tf (right-exactly original n cs ns (scanned l) .1 r) e
+      told (digitsBelow d e) h = absurd h
+      told (labelsBelow a b) h = absurd h
+      told (reaches n cs l o) h = absurd h
+      told (scanShows n cs k l) h = absurd h
+      told (topHeld n cs k) h = absurd h
+      told (numbersDo n cs ns) h = absurd h
+      told (numbersFound n cs ns) h = absurd h
+
   pub samples-hold : SamplesHold F
-  samples-hold = all-append (Holds F) samples (serviceSamples ++ topSamples ++ numberSamples) scope
-      (all-append (Holds F) serviceSamples (topSamples ++ numberSamples) service (all-append (Holds F) topSamples numberSamples shared numbered))
+  samples-hold = all-append (Holds F) samples (serviceSamples ++ topSamples ++ numberSamples ++ logSamples) scope
+      (all-append (Holds F) serviceSamples (topSamples ++ numberSamples ++ logSamples) service
+      (all-append (Holds F) topSamples (numberSamples ++ logSamples) shared (all-append (Holds F) numberSamples logSamples numbered logs)))

@@ -7,3 +7,4 @@ pub mod Before
 pub mod Places
 pub mod Surveys
 pub mod Numbers
+pub mod Logs

@@ -4,3 +4,4 @@ pub mod Files
 pub mod Demand
 pub mod Before
 pub mod Numbers
+pub mod Logs

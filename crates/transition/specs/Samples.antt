@@ -1,4 +1,4 @@
--- Samples P1 to P12 (01, "Shop samples"), and samples of Cards 4, 5 and 6 (02): one statement for all rows.
+-- Samples P1 to P12 (01, "Shop samples"), and samples of Cards 4 to 7 (02): one statement for all rows.
 use Prim.Native.Nat.{ℕ, suc, _-_}
 use mathlib.Core.Path.{_≡_}
 use mathlib.Core.Bool.{true, false, cond}
@@ -10,12 +10,13 @@ use Rattle.basics.specs.Tests.{ordered, tabulate, All}
 use Rattle.label.specs.Labels as Labels
 use Rattle.label.specs.Labels.{below, labelBelow}
 use Rattle.label.specs.Rows.{digit}
-use Rattle.simulation.specs.Calls.{Call, Buffer, Entry}
+use Rattle.simulation.specs.Calls.{Call, Buffer, Entry, entry, reportLines}
 use Rattle.simulation.specs.Machine.{original, digits, stands, State}
 use Rattle.simulation.specs.Numbering.{numbersOf}
 use Rattle.transition.specs.Forms.{Form, freshTable, after}
 use Rattle.transition.specs.Questions.{Tells}
 use Rattle.transition.specs.Numbers.{Numbers}
+use Rattle.transition.specs.Logs.{Right}
 
 -- a direct call of station s; a label operation begins with the job 7
 unfoldable pub call : ℕ → ℕ → Call
@@ -39,7 +40,8 @@ shownBy k s = map (λ (e : Entry). e .station) (s .rest .result (k - 1))
 
 -- a row: two digits, or two labels, of which the first is below the second; or n, the calls on the fresh table of n, and the labels and the order they lead
 -- to; or n, the calls, a station, and the stations that its scan result then shows; or n, the calls, and how many stations then hold the top label; or n, the
--- calls, and numbers that do for them, or those that are found
+-- calls, and numbers that do for them, or those that are found; or a log that is right, or one that is not: n, the calls, the numbers, and the stations that
+-- its report shows
 pub data Sample : Type 0 where
   digitsBelow : ℕ → ℕ → Sample
   labelsBelow : Lists.List ℕ → Lists.List ℕ → Sample
@@ -47,6 +49,11 @@ pub data Sample : Type 0 where
   scanShows : ℕ → Lists.List Call → ℕ → Lists.List ℕ → Sample
   topHeld : ℕ → Lists.List Call → ℕ → Sample
   numbersDo numbersFound : ℕ → Lists.List Call → Lists.List ℕ → Sample
+  logRight logWrong : ℕ → Lists.List Call → Lists.List ℕ → Lists.List ℕ → Sample
+
+-- the report of one scan, ended by a call with the line number 1, that shows these stations, all with the job 7
+unfoldable pub scanned : Lists.List ℕ → Lists.List ℕ
+scanned l = reportLines 1 1 (map (λ s. entry s 7) l)
 
 abbrev pub Holds : Form → Sample → Type 0
 Holds F (digitsBelow d e) = below d e ≡ true
@@ -56,6 +63,8 @@ Holds F (scanShows n cs k l) = shownBy k (F .state (after F (freshTable F n) cs)
 Holds F (topHeld n cs k) = Tells F (after F (freshTable F n) cs) 0 k
 Holds F (numbersDo n cs ns) = Numbers F n cs ns
 Holds F (numbersFound n cs ns) = numbersOf original n cs ≡ ns
+Holds F (logRight n cs ns l) = Right original n cs ns (scanned l)
+Holds F (logWrong n cs ns l) = Right original n cs ns (scanned l) → ⊥
 
 -- lists of one, two and three
 unfoldable pub one : {A : Type 0} → A → Lists.List A
@@ -133,6 +142,28 @@ numberSamples =
     ∷ numbersDo 3 (together ++ one (call 3 2)) (two 1 2)
     ∷ []
 
+-- LOGS (02, Card 7), judged by the unbounded table with their own numbers: the same calls, and the scan ends. Where 1 and 2 share a number, the scan shows 1
+-- before 2, as the table of labels does not.
+unfoldable pub ended : Lists.List Call
+ended = overtaken ++ one (record { line = 1; code = 5; station = 3; job = 0; room = Buffer 928 })
+
+-- no log has too few or too many numbers, one that is the top number or above 2^32 - 1, 0 for a station that is not the newest, or another for one that is
+abbrev pub logSamples : Lists.List Sample
+logSamples =
+    logRight 3 ended (1 ∷ 2 ∷ 4 ∷ 3 ∷ []) (three 3 2 1)
+    ∷ logRight 3 ended (1 ∷ 2 ∷ 3 ∷ 3 ∷ []) (three 3 1 2)
+    ∷ logRight 3 ended (1 ∷ 2 ∷ 4294967295 ∷ 7 ∷ []) (three 3 2 1)
+    ∷ logRight 2 (labelled (three 1 1 2)) (three 1 0 2) []
+    ∷ logWrong 3 ended (1 ∷ 2 ∷ 3 ∷ 3 ∷ []) (three 3 2 1)
+    ∷ logWrong 3 ended (1 ∷ 2 ∷ 3 ∷ 3 ∷ []) (two 3 1)
+    ∷ logWrong 3 ended (three 1 2 3) (three 3 1 2)
+    ∷ logWrong 3 ended (1 ∷ 2 ∷ 3 ∷ 3 ∷ 4 ∷ []) (three 3 1 2)
+    ∷ logWrong 3 ended (1 ∷ 2 ∷ 3 ∷ 2 ∷ []) (three 3 2 1)
+    ∷ logWrong 3 ended (1 ∷ 2 ∷ 4294967296 ∷ 3 ∷ []) (three 3 2 1)
+    ∷ logWrong 3 ended (1 ∷ 2 ∷ 3 ∷ 0 ∷ []) (three 3 2 1)
+    ∷ logWrong 2 (labelled (three 1 1 2)) (three 1 2 3) []
+    ∷ []
+
 -- they all hold of the tables of a form
 abbrev pub SamplesHold : Form → Type 0
-SamplesHold F = All (Holds F) (samples ++ serviceSamples ++ topSamples ++ numberSamples)
+SamplesHold F = All (Holds F) (samples ++ serviceSamples ++ topSamples ++ numberSamples ++ logSamples)

@@ -1,0 +1,187 @@
+-- The numbers for a file and what its steps write are a right log; and its report without refusals is what they write (02, Card 7).
+use Prim.Native.Nat.{ℕ, zero, suc, _+_, _*_, _/_, _≤_, _<_}
+use native.Mathlib.Nat.{zero-add}
+use native.Mathlib.Omega.{arith}
+use mathlib.Core.Path.{_≡_, refl, sym, ap, ap₂, subst, _∙_}
+use mathlib.Core.Logic.{_≢_, ⊎-elim}
+use mathlib.Core.Bool.{Bool, true, false, _||_, cond}
+use mathlib.Core.List as Lists
+use mathlib.Core.List.{[], _∷_, _++_, map, append-assoc, append-nil}
+use lib.ListN.{length, take, drop, length-append, length-drop}
+use lib.Seq.{take-all, take-append-le, drop-append-le}
+use lib.Dec.{eqb}
+use borrow.Author.Tests.{eq-eqb, eqb-true, eqb-false}
+use Rattle.basics.specs.Tests.{within}
+use Rattle.basics.proofs.Facts.{or-cases, within-true}
+use Rattle.columns.specs.Columns.{column, lineHead, lineTail, reportLine}
+use Rattle.columns.proofs.ColumnLaws.{length-report-line, column-iff}
+use Rattle.columns.specs.Reading.{columnRead}
+use Rattle.columns.specs.declared.Column.the-variants.{Value}
+use Rattle.simulation.specs.Calls.{Call, Entry, Room, Buffer, Panel, reportLines, bytesOf, written}
+use Rattle.simulation.specs.Machine.{original}
+use Rattle.simulation.proofs.Judged.{direct}
+use Rattle.transition.specs.Forms.{Form, TableAnswer, freshTable, stepOf}
+use Rattle.transition.specs.Demand.{run, seen}
+use Rattle.transition.specs.Logs.{lists, Right}
+use Rattle.transition.proofs.Theorem.{Lawful, ReachedTable, table-fresh, table-count, table-refusals, table-step, step-report, step-kept, reached-held}
+use Rattle.transition.proofs.Logs.{logged}
+use Rattle.moves.specs.Moves.{refusalNumber}
+use Rattle.schedule.specs.Lines.{nextLine, headerRead}
+use Rattle.schedule.specs.Files.{stepLines, refusalLine, printed, fileReport}
+use Rattle.schedule.specs.Demand.{Given, callThen, stepCalls, ending, roomy, fileCalls, printedCalls, endPrinted, FileDemand}
+use Rattle.schedule.specs.Numbers.{FileNumbers}
+use Rattle.schedule.specs.Logs.{fileLists, RightLog, ofScan, linesOfScans, listLines}
+use Rattle.schedule.proofs.SessionLaws.{next-within, header-stations}
+use Rattle.schedule.proofs.FileTheorem.{file-demand}
+use Rattle.schedule.specs.declared.Line.{Line}
+use Rattle.schedule.specs.declared.Line.the-variants.{Step, Refused}
+use Rattle.schedule.specs.declared.Header.the-variants.{Stations}
+
+-- RIGHT LOGS
+
+-- lines past the 1,000,000th step are no steps
+calls-few : (gs : Lists.List Given) (lines : ℕ) → lines ≤ 1000001 → lines + length (stepCalls lines gs) ≤ 1000001
+unfolding stepCalls
+calls-few [] lines h = omega arith
+calls-few (g ∷ gs) lines h = go (nextLine lines (g .line)) refl (calls-few gs (lines + 1))
+  where
+    go : (w : Line) → nextLine lines (g .line) ≡ w → (lines + 1 ≤ 1000001 → lines + 1 + length (stepCalls (lines + 1) gs) ≤ 1000001)
+        → lines + length (callThen lines (g .room) w (stepCalls (lines + 1) gs)) ≤ 1000001
+    go (Refused r) e ih = omega arith
+    go (Step st k j) e ih = omega (arith, ih (omega (arith, next-within lines (g .line) st k j e)))
+
+pub file-log : {F : Form} {bs : Lists.List ℕ} {n : ℕ} {ns : Lists.List ℕ} → FileNumbers F bs n ns → Right (F .board) n (fileCalls bs) ns (fileLists F n bs)
+file-log {bs = bs} N = logged (N .numbers) (omega (arith, calls-few (map roomy (stepLines bs)) 1 (omega arith)))
+
+-- on the original board: the numbers of every lawful form (02, Card 6) make a right log
+pub right-log : {F : Form} {bs : Lists.List ℕ} {n : ℕ} {ns : Lists.List ℕ} → F .board ≡ original → headerRead (take 18 bs) ≡ Stations n → FileNumbers F bs n ns
+    → RightLog bs ns (fileLists F n bs)
+right-log {F} {bs} {n} {ns} b e N =
+    record { stations = n; header = e; log = subst (λ B. Right B n (fileCalls bs) ns (fileLists F n bs)) b (file-log N) }
+
+-- A REPORT WITHOUT ITS REFUSALS
+
+-- the bytes are whole report lines, and these are the ones of scans
+record Strikes (bytes kept : Lists.List ℕ) : Type 0 where
+  lines : ℕ
+  long : length bytes ≡ lines * 29
+  kept-are : linesOfScans lines bytes ≡ kept
+
+strikes-none : Strikes [] []
+unfolding linesOfScans
+strikes-none = record { lines = 0; long = refl; kept-are = refl }
+
+scans-append : (k j : ℕ) (a b : Lists.List ℕ) → length a ≡ k * 29 → linesOfScans (k + j) (a ++ b) ≡ linesOfScans k a ++ linesOfScans j b
+unfolding linesOfScans
+scans-append zero j [] b h = ap (λ i. linesOfScans i b) (zero-add j)
+scans-append zero j (x ∷ a) b h = absurd (omega arith)
+scans-append (suc k) j a b h =
+    let n : suc k + j ≡ suc (k + j) = omega arith in
+    let long : 29 ≤ length a = omega arith in
+    let left : length (drop 29 a) ≡ k * 29 = rw length-drop (omega arith) in
+    let first = cond (ofScan (take 29 a)) (take 29 a) [] in
+    rw (n, take-append-le 29 a b long, drop-append-le 29 a b long)
+    (ap (λ l. first ++ l) (scans-append k j (drop 29 a) b left) ∙ sym (append-assoc first (linesOfScans k (drop 29 a)) (linesOfScans j b)))
+
+strikes-append : {a b k l : Lists.List ℕ} → Strikes a k → Strikes b l → Strikes (a ++ b) (k ++ l)
+strikes-append {a} {b} A B = record {
+  lines = A .lines + B .lines;
+  long = omega (arith, length-append a b, A .long, B .long);
+  kept-are = scans-append (A .lines) (B .lines) a b (A .long) ∙ ap₂ _++_ (A .kept-are) (B .kept-are);
+}
+
+strikes-all : {bytes kept : Lists.List ℕ} → Strikes bytes kept → listLines bytes ≡ kept
+strikes-all {bytes} S = let e : length bytes / 29 ≡ S .lines = omega (arith, S .long) in ap (λ k. linesOfScans k bytes) e ∙ S .kept-are
+
+-- one line: its refusal column is read back
+module _ (line refusal place station job : ℕ) (small : refusal < 1000) where
+  abbrev whole : Lists.List ℕ
+  whole = reportLine line refusal place station job
+
+  refusal-read : columnRead (take 3 (drop 8 whole)) ≡ Value refusal
+  unfolding reportLine lineHead lineTail
+  refusal-read = column-iff (column 3 refusal) refusal (omega arith) .1 (refl, small)
+
+  strikes-line : Strikes whole (cond (eqb refusal 0) whole [])
+  unfolding linesOfScans ofScan
+  strikes-line = record {
+    lines = 1;
+    long = length-report-line line refusal place station job;
+    kept-are = rw (take-all 29 whole (omega (arith, length-report-line line refusal place station job)), refusal-read) (append-nil _);
+  }
+
+strikes-lines : (line from : ℕ) (l : Lists.List Entry) → Strikes (reportLines line from l) (reportLines line from l)
+unfolding reportLines
+strikes-lines line from [] = strikes-none
+strikes-lines line from (e ∷ l) = strikes-append (strikes-line line 0 from (e .station) (e .job) (omega arith)) (strikes-lines line (suc from) l)
+
+strikes-written : (line : ℕ) (room : Room) (l : Lists.List Entry) → let b = bytesOf (written line room l) in Strikes b b
+strikes-written line (Buffer b) l = strikes-lines line 1 l
+strikes-written line (Panel r) l = strikes-none
+
+nothing-written : (line : ℕ) (room : Room) → bytesOf (written line room []) ≡ []
+unfolding reportLines
+nothing-written line (Buffer b) = refl
+nothing-written line (Panel r) = refl
+
+-- the numbers of refusals fit the column
+known-small : (x : ℕ) → direct x ≡ true → x < 1000
+known-small x h = ⊎-elim
+    (λ g. ⊎-elim
+    (λ f. ⊎-elim (λ e. omega (arith, eqb-true x 0 e)) (λ e. omega (arith, within-true 2 7 x e .1)) (or-cases (eqb x 0) _ f))
+    (λ e. omega (arith, within-true 10 11 x e .1)) (or-cases (eqb x 0 || within 2 7 x) _ g))
+    (λ e. omega (arith, within-true 14 15 x e .1)) (or-cases (eqb x 0 || within 2 7 x || within 10 11 x) _ h)
+
+module _ (F : Form) (L : Lawful F) (n : ℕ) (low : 2 ≤ n) (high : n ≤ 32) where
+  -- of what a call prints, the lines of scans are what it writes
+  strikes-call : (t : F .Table) → ReachedTable F n t → (c : Call) → let a = stepOf F t c in
+      Strikes (printed (c .line) (a .refusal) (bytesOf (a .report))) (bytesOf (a .report))
+  strikes-call t r c = go (eqb x 0) refl
+    where
+      x : ℕ
+      x = stepOf F t c .refusal
+
+      bytes : Lists.List ℕ
+      bytes = bytesOf (stepOf F t c .report)
+
+      same : F .written (F .count t) (F .state t) ≡ t
+      same = ap₂ (F .written) (table-count F L n low high t r) (ap (F .state) (r .holds) ∙ reached-held F L n low high (r .reached)) ∙ sym (r .holds)
+
+      none : x ≢ 0 → bytes ≡ []
+      none d = ap (λ (a : TableAnswer (F .Table)). bytesOf (a .report)) (step-kept F t (λ _. same) c d) ∙ nothing-written (c .line) (c .room)
+
+      go : (b : Bool) → eqb x 0 ≡ b → Strikes (cond b bytes (refusalLine (c .line) x)) bytes
+      go true e = let w = step-report F t c in rw (w .1) (strikes-written (c .line) (c .room) (w .0))
+      go false e =
+          let s = strikes-line (c .line) x 0 0 0 (known-small x (table-refusals F L n low high t r c .2 .known)) in
+          rw (none (eqb-false x 0 e)) (rw e at s)
+
+  strikes-calls : (cs : Lists.List Call) (t : F .Table) → ReachedTable F n t
+      → Strikes (printedCalls cs (map (seen F) (run F t cs))) (lists (map (λ a. a .report) (run F t cs)))
+  unfolding printedCalls run lists
+  strikes-calls [] t r = strikes-none
+  strikes-calls (c ∷ cs) t r = strikes-append (strikes-call t r c) (strikes-calls cs (stepOf F t c .table) (table-step F L n low high t r c))
+
+-- THE REPORT OF A FILE all of whose lines are steps, without the lines of refusals
+pub lists-struck : (F : Form) → Lawful F → (bs : Lists.List ℕ) (n : ℕ) → headerRead (take 18 bs) ≡ Stations n
+    → refusalNumber (ending 1 (map roomy (stepLines bs))) ≡ 0 → listLines (fileReport F bs) ≡ fileLists F n bs
+lists-struck F L bs n e z = ap listLines report ∙ strikes-all (strikes-calls F L n low high (fileCalls bs) (freshTable F n) (table-fresh F L n low high))
+  where
+    low : 2 ≤ n
+    low = header-stations (take 18 bs) n e .0
+
+    high : n ≤ 32
+    high = header-stations (take 18 bs) n e .1
+
+    D : FileDemand F bs n
+    D = file-demand F L bs n e
+
+    shown : Lists.List ℕ
+    shown = printedCalls (fileCalls bs) (map (seen F) (run F (freshTable F n) (fileCalls bs)))
+
+    none : endPrinted 1 (map roomy (stepLines bs)) ≡ []
+    none = rw (eq-eqb _ 0 z) refl
+
+    report : fileReport F bs ≡ shown
+    report = D .report ∙ ap (λ x. printedCalls (fileCalls bs) x ++ endPrinted 1 (map roomy (stepLines bs))) (sym (D .demand .same))
+        ∙ ap (λ x. shown ++ x) none ∙ append-nil shown

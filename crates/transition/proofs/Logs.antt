@@ -1,0 +1,254 @@
+-- The test of a log is exact; tables of labels write right logs; and how long a right log is (02, Card 7).
+use Prim.Native.Nat.{ℕ, suc, _*_, _≤_, _<_}
+use native.Mathlib.Nat.{mul-suc}
+use native.Mathlib.Omega.{arith}
+use mathlib.Core.Path.{_≡_, refl, sym, ap, ap₂, _∙_}
+use mathlib.Core.Logic.{_↔_}
+use mathlib.Core.Bool.{Bool, true, false, _&&_, cond, true≢false}
+use mathlib.Core.List as Lists
+use mathlib.Core.List.{[], _∷_, _++_, map, map-map}
+use lib.ListN.{length, getD, take, drop, length-append, take-append-drop, drop-of-length-le}
+use lib.Seq.{drop-cons, take-append-seam, drop-append-seam}
+use lib.Dec.{eqb, ltb, leb}
+use borrow.Author.Tests.{eqb-true, eq-eqb, ltb-true, lt-ltb, leb-true, le-leb}
+use Rattle.basics.specs.Tests.{newest, ordered, All}
+use Rattle.basics.proofs.Facts.{tf, and-both, both, is-false, all-weaken}
+use Rattle.simulation.specs.Calls.{Call, place, Label, Scan, Buffer, Phase, Rest, Move, judge, bytesOf, written}
+use Rattle.simulation.specs.Machine as Machine
+use Rattle.simulation.specs.Machine.{Board, original, Labelling, Rules, stands, LabelStep, stay, snap, update, labelStep, labelSnap, carryOut, State, fresh}
+use Rattle.simulation.specs.Machine.{Answer, step, snapsOf, Seen}
+use Rattle.simulation.specs.Numbered.{numbered, LabelSnap, met, labelSnaps, Fit, Fits}
+use Rattle.simulation.proofs.Advances.{met-length, fit-weaken}
+use Rattle.simulation.proofs.Judged.{Verdict, turned, begins, scans, updates, snaps, ends, service, verdict-in}
+use Rattle.simulation.proofs.Reports.{lines-length}
+use Rattle.transition.specs.Forms.{Form, TableAnswer, freshTable}
+use Rattle.transition.specs.Demand.{run, seen}
+use Rattle.transition.specs.Demand as Demand
+use Rattle.transition.specs.Numbers.{withNumbers, Numbers}
+use Rattle.transition.specs.Logs.{lists, Right, fitsNext, atFront, right}
+
+-- WHAT STANDS AT THE FRONT OF A LIST
+
+pub front-append : (l m : Lists.List ℕ) → atFront l (l ++ m) ≡ true
+unfolding atFront
+front-append [] m = refl
+front-append (x ∷ l) m = both (eq-eqb x x refl) (front-append l m)
+
+pub front-split : (l m : Lists.List ℕ) → atFront l m ≡ true → m ≡ l ++ drop (length l) m
+unfolding atFront
+front-split [] m h = refl
+front-split (x ∷ l) [] h = absurd (true≢false (sym h))
+front-split (x ∷ l) (y ∷ m) h =
+    let t = and-both (eqb x y) (atFront l m) h in
+    ap₂ _∷_ (sym (eqb-true x y (t .0))) (front-split l m (t .1))
+
+-- by what follows it
+pub front-rest : (l m rest : Lists.List ℕ) → ((atFront l m ≡ true) × (drop (length l) m ≡ rest)) ↔ (m ≡ l ++ rest)
+front-rest l m rest = (
+  (λ h. front-split l m (h .0) ∙ ap (λ x. l ++ x) (h .1)),
+  (λ e. (ap (atFront l) e ∙ front-append l rest, ap (drop (length l)) e ∙ drop-append-seam l rest)),
+)
+
+pub front-exactly : (l m : Lists.List ℕ) → (atFront l m ≡ true) ↔ ((rest : Lists.List ℕ) × (m ≡ l ++ rest))
+front-exactly l m = ((λ h. (drop (length l) m, front-split l m h)), λ e. front-rest l m (e .0) .1 (e .1) .0)
+
+-- by the part of its length
+pub front-taken : (l m : Lists.List ℕ) → (atFront l m ≡ true) ↔ (take (length l) m ≡ l)
+front-taken l m = (
+  (λ h. ap (take (length l)) (front-split l m h) ∙ take-append-seam l (drop (length l) m)),
+  (λ e. front-rest l m (drop (length l) m) .1 (sym (take-append-drop (length l) m) ∙ ap (λ x. x ++ drop (length l) m) e) .0),
+)
+
+-- not in a shorter one
+pub front-short : (l m : Lists.List ℕ) → length m < length l → atFront l m ≡ false
+front-short l m s = is-false (λ h. omega (arith, ap length (front-split l m h) ∙ length-append l (drop (length l) m)))
+
+-- element by element, from the places i and j on
+pub front-from : (l m : Lists.List ℕ) (i j : ℕ) → i < length l → j < length m
+    → atFront (drop i l) (drop j m) ≡ (eqb (getD l i 0) (getD m j 0) && atFront (drop (suc i) l) (drop (suc j) m))
+unfolding atFront
+front-from l m i j h k = rw (drop-cons l i 0 h, drop-cons m j 0 k) refl
+
+pub front-end : (l m : Lists.List ℕ) (i : ℕ) → length l ≤ i → atFront (drop i l) m ≡ true
+unfolding atFront
+front-end l m i h = rw (drop-of-length-le l h) refl
+
+-- THE TEST, exactly
+
+-- one number
+fits-number : (x : LabelSnap)
+    → (cond (x .byNewest) (eqb (x .number) 0) (ltb (x .top) (x .number) && leb (x .number) 4294967295) ≡ true) ↔ Fit 4294967295 x
+fits-number x = go (x .byNewest) refl
+  where
+    go : (b : Bool) → x .byNewest ≡ b
+        → (cond b (eqb (x .number) 0) (ltb (x .top) (x .number) && leb (x .number) 4294967295) ≡ true) ↔ Fit 4294967295 x
+    go true e = (
+      (λ h. record { newest = λ _. eqb-true (x .number) 0 h; other = λ d. absurd (tf e d) }),
+      (λ f. eq-eqb (x .number) 0 (f .newest e)),
+    )
+    go false e = (
+      (λ h.
+          let t = and-both (ltb (x .top) (x .number)) (leb (x .number) 4294967295) h in
+          record { newest = λ d. absurd (tf d e); other = λ _. (ltb-true _ _ (t .0), leb-true _ _ (t .1)) }),
+      (λ f. both (lt-ltb _ _ (f .other e .0)) (le-leb _ _ (f .other e .1))),
+    )
+
+-- one call: its number, and the numbers of the others, for which the snaps xs are met
+fits-call : (n : ℕ) (l : Labelling ℕ) (w : LabelStep) (ns : Lists.List ℕ) (xs : Lists.List LabelSnap) → let ys = met n l w (getD ns 0 0) ++ xs in
+    ((fitsNext n l w ns ≡ true) × (length (drop (labelSnap w) ns) ≡ length xs) × All (Fit 4294967295) xs)
+    ↔ ((length ns ≡ length ys) × All (Fit 4294967295) ys)
+unfolding fitsNext met
+fits-call n l stay ns xs = ((λ h. (h .1, h .2)), λ h. (refl, h .0, h .1))
+fits-call n l (snap k) [] xs = ((λ h. absurd (true≢false (sym (h .0)))), λ h. absurd (omega (arith, h .0)))
+fits-call n l (snap k) (v ∷ ns) xs = (
+  (λ h. (ap suc (h .1), (fits-number x .0 (h .0), h .2))),
+  (λ h. (fits-number x .1 (h .1 .0), omega (arith, h .0), h .1 .1)),
+)
+  where
+    x : LabelSnap
+    x = let z = newest n (stands (numbered v) l) in record { byNewest = eqb k z; top = l false z; number = v }
+fits-call n l (update k) ns xs = ((λ h. (h .1, h .2)), λ h. (refl, h .0, h .1))
+
+empty : (l : Lists.List ℕ) → length l ≡ 0 → l ≡ []
+empty [] e = refl
+empty (x ∷ l) e = absurd (omega arith)
+
+-- what the unbounded machine writes from a state on
+abbrev writes : Board → ℕ → State ℕ → Lists.List ℕ → Lists.List Call → Lists.List ℕ
+writes B n s ns cs = lists (map (λ a. a .report) (Machine.run B n numbered s ns cs))
+
+-- all calls, from any state on
+exactly : (B : Board) (n : ℕ) (cs : Lists.List Call) (s : State ℕ) (ns bytes : Lists.List ℕ)
+    → (right B n s ns bytes cs ≡ true) ↔ (Fits B n 4294967295 s ns cs × (bytes ≡ writes B n s ns cs))
+unfolding right lists Machine.run labelSnaps snapsOf
+exactly B n [] s ns bytes = (
+  (λ h.
+      let t = and-both (eqb (length ns) 0) (eqb (length bytes) 0) h in
+      (record { one = eqb-true _ 0 (t .0); each = tt }, empty bytes (eqb-true _ 0 (t .1)))),
+  (λ h. both (eq-eqb _ 0 (h .0 .one)) (eq-eqb _ 0 (ap length (h .1)))),
+)
+exactly B n (c ∷ cs) s ns bytes = go (exactly B n cs s′ ns′ rest)
+  where
+    a : Answer ℕ
+    a = step B n (numbered (getD ns 0 0)) s c
+
+    s′ : State ℕ
+    s′ = a .state
+
+    ns′ : Lists.List ℕ
+    ns′ = drop (snapsOf B n s c) ns
+
+    mine : Lists.List ℕ
+    mine = bytesOf (a .report)
+
+    rest : Lists.List ℕ
+    rest = drop (length mine) bytes
+
+    w : LabelStep
+    w = labelStep (B .judge n (s .rest) c)
+
+    go : (right B n s′ ns′ rest cs ≡ true) ↔ (Fits B n 4294967295 s′ ns′ cs × (rest ≡ writes B n s′ ns′ cs))
+        → ((fitsNext n (s .labels) w ns && (atFront mine bytes && right B n s′ ns′ rest cs)) ≡ true)
+        ↔ (Fits B n 4294967295 s ns (c ∷ cs) × (bytes ≡ mine ++ writes B n s′ ns′ cs))
+    go (to, from) =
+        let number = fits-call n (s .labels) w ns (labelSnaps B n s′ ns′ cs) in
+        let lines = front-rest mine bytes (writes B n s′ ns′ cs) in (
+          (λ h.
+              let t = and-both (fitsNext n (s .labels) w ns) _ h in
+              let u = and-both (atFront mine bytes) _ (t .1) in
+              let r = to (u .1) in
+              let f = number .0 (t .0, r .0 .one, r .0 .each) in
+              (record { one = f .0; each = f .1 }, lines .0 (u .0, r .1))),
+          (λ h.
+              let f = number .1 (h .0 .one, h .0 .each) in
+              let b = lines .1 (h .1) in
+              both (f .0) (both (b .0) (from (record { one = f .1; each = f .2 }, b .1)))),
+        )
+
+-- A yes to a log exactly if it is right, on every board and for every n
+pub right-exactly : (B : Board) (n : ℕ) (calls : Lists.List Call) (ns bytes : Lists.List ℕ)
+    → (right B n (fresh 0) ns bytes calls ≡ true) ↔ Right B n calls ns bytes
+right-exactly B n calls ns bytes =
+    let e = exactly B n calls (fresh 0) ns bytes in
+    ((λ h. let t = e .0 h in record { fits = t .0; report = t .1 }), λ r. e .1 (r .fits, r .report))
+
+-- HOW LONG a right log is: as many numbers as calls at most, and what the buffers hold
+
+met-few : (B : Board) (n : ℕ) (cs : Lists.List Call) (s : State ℕ) (ns : Lists.List ℕ) → length (labelSnaps B n s ns cs) ≤ length cs
+unfolding labelSnaps
+met-few B n [] s ns = omega arith
+met-few B n (c ∷ cs) s ns =
+    let v = getD ns 0 0 in
+    let w = labelStep (B .judge n (s .rest) c) in
+    let s′ = step B n (numbered v) s c .state in
+    let ns′ = drop (snapsOf B n s c) ns in
+    omega (arith, length-append (met n (s .labels) w v) (labelSnaps B n s′ ns′ cs), met-length n (s .labels) v w, one w, met-few B n cs s′ ns′)
+  where
+    one : (w : LabelStep) → labelSnap w ≤ 1
+    one stay = omega arith
+    one (snap k) = omega arith
+    one (update k) = omega arith
+
+pub numbers-few : {B : Board} {n : ℕ} {calls : Lists.List Call} {ns bytes : Lists.List ℕ} → Right B n calls ns bytes → length ns ≤ length calls
+numbers-few {B} {n} {calls} {ns} R = omega (arith, R .fits .one, met-few B n calls (fresh 0) ns)
+
+-- what a call hands out fits the buffer that is lent: an end without room is refused
+handed-fits : (n b : ℕ) (c : Call) (order : Lists.List ℕ) (o : Rest) → c .room ≡ Buffer b → length (carryOut order o (judge false n o c) .handed) * 29 ≤ b
+unfolding carryOut
+handed-fits n b c order o e = go (verdict-in n o c)
+  where
+    go : {out : Bool} {ph : Phase} {w : Move} → Verdict n (length (o .result (place c))) c out ph w → length (carryOut order o w .handed) * 29 ≤ b
+    go (turned x d) = omega arith
+    go (begins own q) = omega arith
+    go (scans own q) = omega arith
+    go (updates own q) = omega arith
+    go (snaps own Label q t) = omega arith
+    go (snaps own Scan q t) = omega arith
+    go (ends own Label q h) = omega arith
+    go (ends own Scan q h) = leb-true _ b (rw e at h)
+    go (service own x q) = omega arith
+
+pub step-short : {A : Type 0} (n b : ℕ) (r : Rules A) (s : State A) (c : Call) → c .room ≡ Buffer b → length (bytesOf (step original n r s c .report)) ≤ b
+unfolding step
+step-short n b r s c e =
+    let order = ordered n (stands r (s .labels)) in
+    let l = carryOut order (s .rest) (judge false n (s .rest) c) .handed in
+    omega (arith, ap (λ r. length (bytesOf (written (c .line) r l))) e ∙ lines-length (c .line) 1 l, handed-fits n b c order (s .rest) e)
+
+writes-few : (n b : ℕ) (cs : Lists.List Call) → All (λ c. c .room ≡ Buffer b) cs → (s : State ℕ) (ns : Lists.List ℕ)
+    → length (writes original n s ns cs) ≤ b * length cs
+unfolding lists Machine.run
+writes-few n b [] h s ns = omega arith
+writes-few n b (c ∷ cs) h s ns =
+    let a = step original n (numbered (getD ns 0 0)) s c in
+    let ns′ = drop (snapsOf original n s c) ns in
+    let short = step-short n b (numbered (getD ns 0 0)) s c (h .0) in
+    omega (
+      arith,
+      length-append (bytesOf (a .report)) (writes original n (a .state) ns′ cs),
+      short,
+      writes-few n b cs (h .1) (a .state) ns′,
+      mul-suc b (length cs),
+    )
+
+pub report-few : (b : ℕ) {n : ℕ} {calls : Lists.List Call} {ns bytes : Lists.List ℕ} → All (λ c. c .room ≡ Buffer b) calls → Right original n calls ns bytes
+    → length bytes ≤ b * length calls
+report-few b {n} {calls} {ns} h R = omega (arith, ap length (R .report), writes-few n b calls h (fresh 0) ns)
+
+-- RIGHT LOGS: numbers that do for the calls (02, Card 6), with the lists of the table of labels
+pub logged : {F : Form} {n : ℕ} {calls : Lists.List Call} {ns : Lists.List ℕ} → Numbers F n calls ns → length calls ≤ 4294967295
+    → Right (F .board) n calls ns (lists (map (λ a. a .report) (run F (freshTable F n) calls)))
+logged {F} {n} {calls} {ns} N few = record {
+  fits = record { one = N .fits .one; each = all-weaken (fit-weaken low) (labelSnaps (F .board) n (fresh 0) ns calls) (N .fits .each) };
+  report = ap lists (sym (map-map (λ (s : Seen). s .report) (seen F) xs) ∙ ap (map (λ (s : Seen). s .report)) (N .same)
+      ∙ map-map (λ (s : Seen). s .report) (Machine.seen n) ys);
+}
+  where
+    xs : Lists.List (TableAnswer (F .Table))
+    xs = run F (freshTable F n) calls
+
+    ys : Lists.List (Answer ℕ)
+    ys = withNumbers (F .board) n ns calls
+
+    low : Demand.snaps F (freshTable F n) calls ≤ 4294967295
+    low = omega (arith, N .each, N .fits .one, met-few (F .board) n calls (fresh 0) ns)
