@@ -24,13 +24,14 @@ use Rattle.transition.specs.Sequences.{Steps}
 use Rattle.transition.proofs.Theorem.{step-written, step-ill-formed}
 use Rattle.moves.specs.Moves.{refusalNumber, moveOf, called}
 use Rattle.moves.proofs.MoveLaws.{by-move, begun-job, place-below}
-use Rattle.arrays.specs.Arrays.{Rows, Arrays, cell, phaseNumber, phaseFor, outFor, entriesIn, shownIn, restOf, stateOf}
+use Rattle.arrays.specs.Arrays.{Rows, Planes, Arrays, cell, phaseNumber, phaseFor, outFor, entriesIn, shownIn, restIn, restOf, stateOf, Holds}
 use Rattle.arrays.specs.WellFormed.{wellFormed}
 use Rattle.arrays.specs.Form.{lent}
 use Rattle.arrays.proofs.Passed.{passed, label-digits}
 use Rattle.arrays.proofs.States.{number-back}
 use Rattle.engine.specs.Scans.{orderOf}
-use Rattle.engine.specs.Contracts.{directly, callOf, actionOf, Prepared, handsOut, due, outcomeOf, Named, Carries, Judges, Hands, rowOf, recordOf}
+use Rattle.engine.specs.Contracts.{directly, callOf, actionOf, Prepared, PreparedRest, handsOut, due, outcomeOf, Named, Carries, Judges, Hands}
+use Rattle.engine.specs.Contracts.{rowOf, recordOf}
 use Rattle.engine.proofs.Reports.{result-length, records-read}
 use Rattle.moves.specs.declared.Move.{Move}
 use Rattle.moves.specs.declared.Move.the-variants.{BeginLabel, SnapLabel, SnapScan, EndScan}
@@ -95,40 +96,89 @@ shown-few : (k : ℕ) → k ≤ 32 → (m : Move) → handsOut k m ≤ 32
 shown-few k h = by-move (λ m. handsOut k m ≤ 32) (λ x. omega arith) (omega arith) (omega arith) (omega arith) (omega arith) (omega arith) h
     (omega arith) (omega arith)
 
+-- A CALL AS IT IS JUDGED, by what is not labels, where the phases of n stations are known
+module _ (n : ℕ) (low : 2 ≤ n) (jobs control : Rows) (results : Planes) (known : (i : ℕ) → i < n → cell control 0 i 0 ≤ 4)
+    (q : Request) (room : Room) (top : ℕ) (x : Task) (j : Judges n control results q room top x) where
+  abbrev call : Call
+  call = callOf q room
+
+  -- whether the caller is out of service, and its phase
+  abbrev out : Bool
+  out = outFor (cell control 1 (x .place) 0)
+
+  abbrev number : ℕ
+  number = cell control 0 (x .place) 0
+
+  abbrev ph : Calls.Phase
+  ph = phaseFor number
+
+  pub place-inside : x .place < n
+  place-inside = omega (arith, j .place, place-below n (q .station) low)
+
+  phase-low : number ≤ 4
+  phase-low = known (x .place) place-inside
+
+  -- the entries of the result there
+  abbrev shownHere : ℕ
+  shownHere = shownIn n (cell results (x .place) 0 [])
+
+  pub judged-few : n ≤ 32 → handsOut (x .shown) (x .action) ≤ 32
+  judged-few high = shown-few (x .shown) (omega (arith, j .shown, due-few number n (cell results (x .place) 0 []) high)) (x .action)
+
+  shown-all : x .action ≡ EndScan → x .shown ≡ shownHere
+  shown-all e = j .shown ∙ ap (λ b. due b shownHere) (sym (number-back number phase-low)
+      ∙ ap phaseNumber (scan-ends (verdict n (x .shown) call out ph) (sym (j .action) ∙ ap (moveOf (x .place) (q .job)) e)))
+
+  job-fits : x .action ≡ BeginLabel → x .job ≤ 4294967295
+  job-fits e = subst (λ k. k ≤ 4294967295) (sym (j .job)) (begun-job n (x .shown) out ph call (x .place) (x .action) (j .action) e)
+
+  -- what carrying out asks for of what is not labels
+  pub rest-ready : (order : Lists.List ℕ) → Holds (restIn n jobs control results) jobs control results → n ≤ 32
+      → (n ≤ length order) × ((p : ℕ) → p < n → getD order p 0 < 32) → Named shownHere (getD results (x .place) []) → PreparedRest n jobs control results x order
+  rest-ready order h high listed named = record {
+    holds = h;
+    high = high;
+    inside = place-inside;
+    jobFits = job-fits;
+    listed = λ e. listed;
+    isShown = shown-all;
+    named = λ e. subst (λ k. Named k (getD results (x .place) [])) (sym (shown-all e)) named;
+  }
+
+  -- the move is the one that the machine judges
+  pub rest-judged : actionOf x ≡ judge false n (restIn n jobs control results) call
+  rest-judged = ap (λ v. moveOf (x .place) v (x .action)) (j .job) ∙ j .action ∙ go (within 1 n (q .station)) refl
+    where
+      o : Calls.Rest
+      o = restIn n jobs control results
+
+      at : ℕ → Calls.Move
+      at i = judgeIn false n (length (o .result i)) (o .process i .out) (o .process i .phase) call
+
+      go : (b : Bool) → within 1 n (q .station) ≡ b → judgeIn false n (x .shown) out ph call ≡ judge false n o call
+      go true e = ap (λ k. judgeIn false n k out ph call) (j .shown) ∙ due-same n shownHere out number call phase-low
+          ∙ ap (λ k. judgeIn false n k out ph call) (sym (length-tabulate shownHere 0 _)) ∙ ap at (j .place ∙ rw e refl)
+      go false e =
+          let s = judge-unknown-station n call e in
+          let p = o .process (place call) in
+          s .1 (x .shown) out ph ∙ sym (s .1 _ (p .out) (p .phase))
+
+  -- there is room for what it hands out
+  pub has-room : holds room (handsOut (x .shown) (x .action)) ≡ true
+  has-room = room-shown (x .shown) (x .place) (q .job) room (x .action)
+      (subst (Roomy (x .shown) room) (sym (j .action)) (roomy (verdict n (x .shown) call out ph)))
+
+-- on a well-formed table
 module _ (a : Arrays) (ok : wellFormed a ≡ true) (q : Request) (room : Room) (top : ℕ) (x : Task)
     (j : Judges (a .count) (a .control) (a .results) q room top x) where
   abbrev c : Call
   c = callOf q room
 
-  -- whether the caller is out of service, and its phase
-  abbrev out : Bool
-  out = outFor (cell (a .control) 1 (x .place) 0)
-
-  abbrev number : ℕ
-  number = cell (a .control) 0 (x .place) 0
-
-  abbrev ph : Calls.Phase
-  ph = phaseFor number
+  known : (i : ℕ) → i < a .count → cell (a .control) 0 i 0 ≤ 4
+  known i l = passed a ok .each i l .phase
 
   pub inside : x .place < a .count
-  inside = omega (arith, j .place, place-below (a .count) (q .station) (passed a ok .low))
-
-  known : number ≤ 4
-  known = passed a ok .each (x .place) inside .phase
-
-  -- the entries of the result there
-  abbrev shownHere : ℕ
-  shownHere = shownIn (a .count) (cell (a .results) (x .place) 0 [])
-
-  few : x .shown ≤ 32
-  few = omega (arith, j .shown, due-few number (a .count) (cell (a .results) (x .place) 0 []) (passed a ok .high))
-
-  shown-all : x .action ≡ EndScan → x .shown ≡ shownHere
-  shown-all e = j .shown ∙ ap (λ b. due b shownHere) (sym (number-back number known)
-      ∙ ap phaseNumber (scan-ends (verdict (a .count) (x .shown) c out ph) (sym (j .action) ∙ ap (moveOf (x .place) (q .job)) e)))
-
-  job-fits : x .action ≡ BeginLabel → x .job ≤ 4294967295
-  job-fits e = subst (λ k. k ≤ 4294967295) (sym (j .job)) (begun-job (a .count) (x .shown) out ph c (x .place) (x .action) (j .action) e)
+  inside = place-inside (a .count) (passed a ok .low) (a .jobs) (a .control) (a .results) known q room top x j
 
   -- what carrying out asks for, given the newest station and the scan order where they are needed
   pub ready : {z : Task} (order : Lists.List ℕ) → z .action ≡ x .action → z .place ≡ x .place → z .job ≡ x .job → z .shown ≡ x .shown
@@ -138,30 +188,15 @@ module _ (a : Arrays) (ok : wellFormed a ≡ true) (q : Request) (room : Room) (
     passed = ok;
     high = passed a ok .high;
     inside = omega (arith, k, inside);
-    jobFits = λ e. omega (arith, v, job-fits (sym m ∙ e));
+    jobFits = λ e. omega (arith, v, job-fits (a .count) (passed a ok .low) (a .jobs) (a .control) (a .results) known q room top x j (sym m ∙ e));
     isNewest = w;
     isOrder = o;
-    isShown = λ e. d ∙ shown-all (sym m ∙ e) ∙ ap (λ i. shownIn (a .count) (cell (a .results) i 0 [])) (sym k);
+    isShown = λ e. d ∙ shown-all (a .count) (passed a ok .low) (a .jobs) (a .control) (a .results) known q room top x j (sym m ∙ e)
+        ∙ ap (λ i. shownIn (a .count) (cell (a .results) i 0 [])) (sym k);
   }
 
-  -- the move is the one that the machine judges
   pub judged : actionOf x ≡ judge false (a .count) (restOf a) c
-  judged = ap (λ v. moveOf (x .place) v (x .action)) (j .job) ∙ j .action ∙ go (within 1 (a .count) (q .station)) refl
-    where
-      at : ℕ → Calls.Move
-      at i = judgeIn false (a .count) (length (restOf a .result i)) (restOf a .process i .out) (restOf a .process i .phase) c
-
-      go : (b : Bool) → within 1 (a .count) (q .station) ≡ b → judgeIn false (a .count) (x .shown) out ph c ≡ judge false (a .count) (restOf a) c
-      go true e = ap (λ k. judgeIn false (a .count) k out ph c) (j .shown) ∙ due-same (a .count) shownHere out number c known
-          ∙ ap (λ k. judgeIn false (a .count) k out ph c) (sym (length-tabulate shownHere 0 _)) ∙ ap at (j .place ∙ rw e refl)
-      go false e =
-          let s = judge-unknown-station (a .count) c e in
-          let p = restOf a .process (place c) in
-          s .1 (x .shown) out ph ∙ sym (s .1 _ (p .out) (p .phase))
-
-  has-room : holds room (handsOut (x .shown) (x .action)) ≡ true
-  has-room = room-shown (x .shown) (x .place) (q .job) room (x .action)
-      (subst (Roomy (x .shown) room) (sym (j .action)) (roomy (verdict (a .count) (x .shown) c out ph)))
+  judged = rest-judged (a .count) (passed a ok .low) (a .jobs) (a .control) (a .results) known q room top x j
 
   -- so carrying it out is the step call
   pub served : {a′ : Arrays} {r : Handed} → Carries a x a′ r → Hands a c a′ r
@@ -175,9 +210,9 @@ module _ (a : Arrays) (ok : wellFormed a ≡ true) (q : Request) (room : Room) (
         number = p .number ∙ ap (λ (u : TableAnswer Arrays). u .refusal) s;
         place = p .place ∙ j .place ∙ rw ok refl;
         inside = omega (arith, p .place, inside, passed a ok .high);
-        few = omega (arith, f .1, shown-few (x .shown) few (x .action));
+        few = omega (arith, f .1, judged-few n (passed a ok .low) (a .jobs) (a .control) (a .results) known q room top x j (passed a ok .high));
         named = subst (λ k. Named (r .entries) (getD (a′ .results) k [])) (sym (p .place)) (f .2);
-        room = ap (holds room) (f .1) ∙ has-room;
+        room = ap (holds room) (f .1) ∙ has-room n (passed a ok .low) (a .jobs) (a .control) (a .results) known q room top x j;
         report = sym (ap (λ (u : TableAnswer Arrays). u .report) s) ∙ ap (written (q .line) room)
             (p .handed ∙ ap (λ k. entriesIn (r .entries) (getD (a′ .results) k [])) (sym (p .place)));
       }
