@@ -2,8 +2,9 @@
 ghost use mathlib.Core.Path.{_≡_};
 ghost use Prim.Native.Nat.{ℕ, _≤_};
 ghost use Rattle.moves.specs.Moves.{phaseOf};
+ghost use Rattle.simulation.specs.Machine.{freshRest};
 ghost use Rattle.transition.specs.Forms.{freshTable};
-ghost use Rattle.arrays.specs.Arrays.{arrays, phaseFor, outFor, shownIn};
+ghost use Rattle.arrays.specs.Arrays.{arrays, phaseFor, outFor, shownIn, Holds};
 ghost use Rattle.arrays.specs.Form.{lent};
 ghost use Rattle.arrays.specs.Sizes.{Shaped};
 use moves::Operation;
@@ -83,6 +84,20 @@ pub fn shown_in(n: usize, stations: &[u32; 32]) -> usize
     0
 }
 
+// Writes what a fresh table holds beside its labels over what is lent: no jobs, all idle and in service, empty results.
+pub fn refresh_rest(jobs: &mut Jobs, control: &mut Control, results: &mut Results)
+    ensures { λ _. ⌜ Holds freshRest (now (jobs .exit)) (now (control .exit)) (now (results .exit)) ⌝ }
+{
+    let none = [0u32; 32];
+    let idle = [IDLE; 32];
+    let serving = [IN_SERVICE; 32];
+    let empty = [none; 2];
+    *jobs = [none; 2];
+    let state = [idle, serving];
+    *control = state;
+    *results = [empty; 32];
+}
+
 // Writes the fresh table of n stations over what is lent.
 pub fn refresh(
     n: usize,
@@ -95,13 +110,6 @@ pub fn refresh(
 {
     let label = [1u8; 31];
     let plane = [label; 32];
-    let none = [0u32; 32];
-    let idle = [IDLE; 32];
-    let serving = [IN_SERVICE; 32];
-    let empty = [none; 2];
     *labels = [plane; 2];
-    *jobs = [none; 2];
-    let state = [idle, serving];
-    *control = state;
-    *results = [empty; 32];
+    refresh_rest(jobs, control, results);
 }

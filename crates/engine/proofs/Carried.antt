@@ -111,11 +111,6 @@ module _ {n : ℕ} {l : Planes} {m : Move} {k z : ℕ} (s : PreparedLabels n l m
       ∙ put-current (λ y i. row 31 (labels y i)) (λ y i. row 31 (relabelled n (digits n) labels (update k) y i)) k _ low
       (rw (here-yes k) refl) (λ i d. rw (ne-eqb i k d) refl) (λ i. refl)
 
--- every move but a snap for a label and an update leaves the labels
-pub step-stays : (k job : ℕ) (m : Move) → m ≢ SnapLabel → m ≢ Moves.Update → labelStep (moveOf k job m) ≡ stay
-step-stays k job = by-move (λ m. m ≢ SnapLabel → m ≢ Moves.Update → labelStep (moveOf k job m) ≡ stay)
-    (λ x p q. refl) (λ p q. refl) (λ p q. absurd (p refl)) (λ p q. refl) (λ p q. absurd (q refl)) (λ p q. refl) (λ p q. refl) (λ p q. refl) (λ p q. refl)
-
 -- THE REST
 
 module _ {n : ℕ} {jobs control : Rows} {results : Planes} {x : Task} {order : Lists.List ℕ} (s : PreparedRest n jobs control results x order) where

@@ -104,11 +104,6 @@ module _ (numbers : Rows) (g : Sized 2 32 numbers) (k : ℕ) (h : k < 32) where
 
 -- A STEP OF THE LABELS
 
--- every move but a snap for a label and an update leaves the labels
-pub labels-stay : (k : ℕ) (m : Move) → m ≢ SnapLabel → m ≢ Update → labelStep (moveOf k 0 m) ≡ stay
-labels-stay k = by-move (λ m. m ≢ SnapLabel → m ≢ Update → labelStep (moveOf k 0 m) ≡ stay)
-    (λ x p q. refl) (λ p q. refl) (λ p q. absurd (p refl)) (λ p q. refl) (λ p q. absurd (q refl)) (λ p q. refl) (λ p q. refl) (λ p q. refl) (λ p q. refl)
-
 -- no number is given
 pub none-given : {N : Labelling ℕ} {count : ℕ} {list : List ℕ} {numbers′ : Rows} → Contracts.beside numbers′ ≡ N
     → Renumbered (besideOnly N) 0 count list numbers′ count list

@@ -21,7 +21,7 @@ use Rattle.transition.specs.Forms.{over, freshTable, stepOf}
 use Rattle.transition.proofs.Reached.{reached-fresh}
 use Rattle.transition.proofs.Theorem.{reached-held}
 use Rattle.moves.specs.Moves.{moveOf, called, placeOf}
-use Rattle.moves.proofs.MoveLaws.{by-move, place-below}
+use Rattle.moves.proofs.MoveLaws.{step-any, place-below}
 use Rattle.moves.specs.declared.Move as Declared
 use Rattle.moves.specs.declared.Move.the-variants.{SnapLabel}
 use Rattle.arrays.specs.Arrays.{Rows, Arrays, restOf, stateOf}
@@ -40,10 +40,6 @@ use Rattle.file.specs.declared.Turn.{Turn}
 use Rattle.numbering.specs.Contracts as Contracts
 use Rattle.numbering.specs.Contracts.{renumberIn, Renumbered, Counted, NumbersCall}
 use Rattle.numbering.proofs.Renumbering.{Snapped, snapped-after, renumber-is, counted-kept}
-
--- what a move does to the labels does not depend on its job
-step-any : (k job : ℕ) (m : Declared.Move) → labelStep (moveOf k 0 m) ≡ labelStep (moveOf k job m)
-step-any k job = by-move (λ m. labelStep (moveOf k 0 m) ≡ labelStep (moveOf k job m)) (λ x. refl) refl refl refl refl refl refl refl refl
 
 -- A CALL, served on a table that calls leave of the fresh one
 module _ {a : Arrays} {order : Lists.List ℕ} (f : Runnable a order) {c : Call} {a′ : Arrays} {order′ : Lists.List ℕ} (f′ : Runnable a′ order′)

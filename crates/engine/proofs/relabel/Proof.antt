@@ -2,8 +2,8 @@
 use Prim.Native.Nat.{ℕ}
 use mathlib.Core.List.{List, [], _∷_}
 use Rattle.moves.specs.declared.Move.the-variants.{SnapLabel, Update}
-use Rattle.moves.proofs.MoveLaws.{not-among}
-use Rattle.engine.proofs.Carried.{labels-stay, labels-snap, labels-update, step-stays}
+use Rattle.moves.proofs.MoveLaws.{not-among, step-stays}
+use Rattle.engine.proofs.Carried.{labels-stay, labels-snap, labels-update}
 use borrow.Author.Needs.{needs}
 use Rattle.engine.proofs.relabel.Statement.{statement}
 use Rattle.engine.proofs.relabel.Tie as tie
