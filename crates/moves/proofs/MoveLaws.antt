@@ -13,6 +13,7 @@ use Rattle.basics.specs.Tests.{within}
 use Rattle.basics.proofs.Facts.{within-true}
 use Rattle.simulation.specs.Calls as Calls
 use Rattle.simulation.specs.Calls.{Call, judgeIn}
+use Rattle.simulation.specs.Machine.{stay, labelStep}
 use Rattle.simulation.proofs.Judged.{begin-fits, verdict}
 use Rattle.moves.specs.Moves.{refusalNumber, moveOf, placeOf}
 use Rattle.moves.specs.declared.Move.{Move}
@@ -38,6 +39,11 @@ by-move P r a b c d e f g h ReturnToService = h
 -- a move in an arm for these tags is none that the arm leaves out
 pub not-among : (tags : List ℕ) (x : Move) → T (not (hasKey tags (tagOf the-type x))) → (m : Move) → OneOf tags (tagOf the-type m) → m ≢ x
 not-among tags x out m h e = miss tags (tagOf the-type x) out (subst (λ y. OneOf tags (tagOf the-type y)) e h)
+
+-- every move but a snap for a label and an update leaves the labels
+pub labels-stay : (k job : ℕ) (m : Move) → m ≢ SnapLabel → m ≢ Update → labelStep (moveOf k job m) ≡ stay
+labels-stay k job = by-move (λ m. m ≢ SnapLabel → m ≢ Update → labelStep (moveOf k job m) ≡ stay)
+    (λ x p q. refl) (λ p q. refl) (λ p q. absurd (p refl)) (λ p q. refl) (λ p q. absurd (q refl)) (λ p q. refl) (λ p q. refl) (λ p q. refl) (λ p q. refl)
 
 -- a label operation that is judged to begin has a job of 32 bits
 pub begun-job : (n shown : ℕ) (out : Bool) (ph : Calls.Phase) (c : Call) (k : ℕ) (m : Move) → moveOf k (c .job) m ≡ judgeIn false n shown out ph c

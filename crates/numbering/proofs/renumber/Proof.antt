@@ -3,8 +3,9 @@ use native.Mathlib.Omega.{arith}
 use mathlib.Core.Path.{refl}
 use mathlib.Core.List.{List, [], _∷_}
 use Rattle.moves.specs.declared.Move.the-variants.{SnapLabel, Update}
-use Rattle.moves.proofs.MoveLaws.{not-among}
-use Rattle.numbering.proofs.Kept.{planes-copied, labels-stay, none-given}
+use Rattle.moves.proofs.MoveLaws.{not-among, labels-stay}
+use Rattle.arrays.proofs.Planes.{planes-copied}
+use Rattle.numbering.proofs.Kept.{none-given}
 use borrow.Author.Needs.{needs}
 use Rattle.numbering.proofs.renumber.Statement.{statement}
 use Rattle.numbering.proofs.renumber.Tie as tie
@@ -32,7 +33,7 @@ returns-3 : tie.Need-returns-3
 returns-3 c =
     let m = c .before .before .args .m in
     let tags : List ℕ = 0 ∷ 1 ∷ 3 ∷ 5 ∷ 6 ∷ 7 ∷ 8 ∷ [] in
-    rw (labels-stay (c .before .before .args .place) m (not-among tags SnapLabel tt m (c .match .keys3)) (not-among tags Update tt m (c .match .keys3)))
+    rw (labels-stay (c .before .before .args .place) 0 m (not-among tags SnapLabel tt m (c .match .keys3)) (not-among tags Update tt m (c .match .keys3)))
     (none-given refl)
 
 pub renumber-spec : {M : Type 1} → statement M
