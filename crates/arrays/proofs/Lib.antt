@@ -5,3 +5,4 @@ pub mod Fresh
 pub mod Samples
 pub mod PaperRule
 pub mod Questions
+pub mod Planes

@@ -2,3 +2,4 @@ pub mod Arrays
 pub mod WellFormed
 pub mod Form
 pub mod Sizes
+pub mod Planes

@@ -6,7 +6,7 @@ ghost use Rattle.simulation.specs.Machine.{freshRest};
 ghost use Rattle.transition.specs.Forms.{freshTable};
 ghost use Rattle.arrays.specs.Arrays.{arrays, phaseFor, outFor, shownIn, Holds};
 ghost use Rattle.arrays.specs.Form.{lent};
-ghost use Rattle.arrays.specs.Sizes.{Shaped};
+ghost use Rattle.arrays.specs.Sizes.{Sized, Shaped};
 use moves::Operation;
 use moves::Phase;
 
@@ -63,6 +63,11 @@ pub fn is_out(b: u8) -> bool
 {
     b != IN_SERVICE
 }
+
+// The lengths of two planes of numbers, which are known of an array passed by value.
+pub fn sized(numbers: [[u32; 32]; 2])
+    ensures { λ _. ⌜ Sized 2 32 numbers ⌝ }
+{}
 
 // The lengths of lent arrays, which are known of arrays passed by value. Nothing is left of the copies when this is compiled.
 pub fn shaped(labels: Labels, jobs: Jobs, control: Control, results: Results)

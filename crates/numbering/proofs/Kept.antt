@@ -3,24 +3,20 @@ use Prim.Native.Nat.{ℕ, suc, _+_, _<_}
 use native.Mathlib.Numerals.{add-one}
 use native.Mathlib.Nat.{add-zero}
 use native.Mathlib.Omega.{arith}
-use mathlib.Core.Path.{_≡_, refl, sym, ap, ap₂, subst, _∙_, fun-ext}
+use mathlib.Core.Path.{_≡_, refl, sym, ap, ap₂, subst, _∙_}
 use mathlib.Core.Logic.{_≢_}
 use mathlib.Core.Bool.{Bool, true, false, cond}
 use mathlib.Core.List.{List, [], _∷_, _++_, map, map-id, map-append, append-nil}
 use lib.ListN.{length, length-map, getD, take, drop, set, drop-of-length-le, take-append-drop, List·getD-map}
-use lib.Seq.{length-take-le, take-suc, drop-cons, append-snoc, take-all, set-at, getD-at, getD-set-same, getD-set-other}
+use lib.Seq.{length-take-le, take-suc, drop-cons, append-snoc, take-all, set-at, getD-at}
 use lib.Dec.{eqb}
 use borrow.Author.Tests.{eq-eqb, ne-eqb}
-use Rattle.basics.proofs.Facts.{by-here, two-lists}
-use Rattle.simulation.specs.Machine.{Labelling, put, copy, stay, snap, labelStep}
+use Rattle.simulation.specs.Machine.{Labelling, put, snap}
 use Rattle.simulation.specs.Numbering.{through, bump, Slot, number, shift, besideOnly, placed}
-use Rattle.moves.specs.Moves.{moveOf}
-use Rattle.moves.specs.declared.Move.{Move}
-use Rattle.moves.specs.declared.Move.the-variants.{SnapLabel, Update}
-use Rattle.moves.proofs.MoveLaws.{by-move}
 use Rattle.arrays.specs.Arrays.{Rows}
 use Rattle.arrays.specs.Sizes.{Sized}
-use Rattle.numbering.specs.Contracts as Contracts
+use Rattle.arrays.specs.Planes as Planes
+use Rattle.arrays.proofs.Planes.{alike, by-planes}
 use Rattle.numbering.specs.Contracts.{slotFor, slotIn, renumberIn, Renumbered}
 use Rattle.numbering.specs.declared.Slot as Declared
 use Rattle.numbering.specs.declared.Slot.the-variants.{Shared, After}
@@ -61,51 +57,22 @@ module _ (f : ℕ → ℕ) (l : List ℕ) (i : ℕ) (h : i < length l) where
 
 -- THE PLANES
 
-alike : {N M : Labelling ℕ} → ((i : ℕ) → N false i ≡ M false i) → ((i : ℕ) → N true i ≡ M true i) → N ≡ M
-alike {N} {M} p q = fun-ext (λ x. fun-ext (λ i. go x i))
-  where
-    go : (x : Bool) (i : ℕ) → N x i ≡ M x i
-    go false i = p i
-    go true i = q i
-
--- there are two of them
-by-planes : (P : Rows → Type 0) → ((a b : List ℕ) → length a ≡ 32 → length b ≡ 32 → P (a ∷ b ∷ []))
-    → (numbers : Rows) → Sized 2 32 numbers → P numbers
-by-planes P f numbers g = subst P (two-lists numbers [] (g .long)) (f _ _ (g .each 0 (omega arith)) (g .each 1 (omega arith)))
-
 -- both go through f
 pub planes-mapped : (f : ℕ → ℕ) → f 0 ≡ 0 → (numbers : Rows) → Sized 2 32 numbers → {current pending : List ℕ}
     → current ≡ mapped f 32 (getD numbers 0 []) → pending ≡ mapped f 32 (getD (set numbers 0 current) 1 [])
-    → Contracts.beside (set (set numbers 0 current) 1 pending) ≡ through f (Contracts.beside numbers)
+    → Planes.beside (set (set numbers 0 current) 1 pending) ≡ through f (Planes.beside numbers)
 planes-mapped f z numbers g {current} {pending} = by-planes
     (λ xs. current ≡ mapped f 32 (getD xs 0 []) → pending ≡ mapped f 32 (getD (set xs 0 current) 1 [])
-    → Contracts.beside (set (set xs 0 current) 1 pending) ≡ through f (Contracts.beside xs))
+    → Planes.beside (set (set xs 0 current) 1 pending) ≡ through f (Planes.beside xs))
     (λ a b u v p q. alike (λ i. along a i u p) (λ i. along b i v q)) numbers g
   where
     along : (l : List ℕ) {l′ : List ℕ} (i : ℕ) → length l ≡ 32 → l′ ≡ mapped f 32 l → getD l′ i 0 ≡ f (getD l i 0)
     along l i e d = ap (λ t. getD t i 0) (d ∙ mapped-whole f l 32 e) ∙ ap (getD (map f l) i) (sym z) ∙ List·getD-map f l i 0
 
-getD-set : (l : List ℕ) (k i v : ℕ) → k < length l → getD (set l k v) i 0 ≡ cond (eqb i k) v (getD l i 0)
-getD-set l k i v h = by-here (λ b. getD (set l k v) i 0 ≡ cond b v (getD l i 0)) k i
-    (λ e. rw e (getD-set-same l k v 0 h))
-    (λ d. getD-set-other l k i v 0 d)
-
-module _ (numbers : Rows) (g : Sized 2 32 numbers) (k : ℕ) (h : k < 32) where
-  pub planes-put : (v : ℕ) → Contracts.beside (set numbers 1 (set (getD numbers 1 []) k v)) ≡ put (Contracts.beside numbers) k v
-  planes-put v = by-planes (λ xs. Contracts.beside (set xs 1 (set (getD xs 1 []) k v)) ≡ put (Contracts.beside xs) k v)
-      (λ a b u w. alike (λ i. refl) (λ i. getD-set b k i v (omega arith))) numbers g
-
-  pub planes-copied : Contracts.beside (set numbers 0 (set (getD numbers 0 []) k (getD (getD numbers 1 []) k 0))) ≡ copy (Contracts.beside numbers) k
-  planes-copied = by-planes (λ xs. Contracts.beside (set xs 0 (set (getD xs 0 []) k (getD (getD xs 1 []) k 0))) ≡ copy (Contracts.beside xs) k)
-      (λ a b u w. alike
-      (λ i. getD-set a k i (getD b k 0) (omega arith) ∙ by-here (λ x. cond x (getD b k 0) (getD a i 0) ≡ Contracts.beside (a ∷ b ∷ []) x i) k i
-      (λ e. ap (λ j. getD b j 0) (sym e)) (λ _. refl))
-      (λ i. refl)) numbers g
-
 -- A STEP OF THE LABELS
 
 -- no number is given
-pub none-given : {N : Labelling ℕ} {count : ℕ} {list : List ℕ} {numbers′ : Rows} → Contracts.beside numbers′ ≡ N
+pub none-given : {N : Labelling ℕ} {count : ℕ} {list : List ℕ} {numbers′ : Rows} → Planes.beside numbers′ ≡ N
     → Renumbered (besideOnly N) 0 count list numbers′ count list
 none-given {count = count} {list = list} e = record {
   beside = e;
@@ -115,17 +82,17 @@ none-given {count = count} {list = list} e = record {
 
 module _ {count : ℕ} {list : List ℕ} (h : count < length list) (N : Labelling ℕ) where
   -- a station gets the number of a slot
-  slot-given : (k : ℕ) (p : Slot) {numbers′ : Rows} {list′ : List ℕ} → Contracts.beside numbers′ ≡ put (through (shift p) N) k (number p)
+  slot-given : (k : ℕ) (p : Slot) {numbers′ : Rows} {list′ : List ℕ} → Planes.beside numbers′ ≡ put (through (shift p) N) k (number p)
       → list′ ≡ set (mapped (shift p) count list) count (number p) → Renumbered (placed N k p) 1 count list numbers′ (count + 1) list′
   slot-given k p e d = record { beside = e; counted = refl; given = d ∙ given-more (shift p) list count h (number p) }
 
-  pub shared-given : (k : ℕ) {v : ℕ} {s : Declared.Slot} {numbers′ : Rows} {list′ : List ℕ} → s ≡ Shared v → Contracts.beside numbers′ ≡ put N k v
+  pub shared-given : (k : ℕ) {v : ℕ} {s : Declared.Slot} {numbers′ : Rows} {list′ : List ℕ} → s ≡ Shared v → Planes.beside numbers′ ≡ put N k v
       → list′ ≡ set list count v → Renumbered (placed N k (slotFor s)) 1 count list numbers′ (count + 1) list′
   shared-given k {v} {s} {numbers′} {list′} e p q = subst (λ t. Renumbered (placed N k (slotFor t)) 1 count list numbers′ (count + 1) list′) (sym e)
       (slot-given k (Slot.shared v) p (q ∙ ap (λ l. set l count v) (sym (mapped-same count list))))
 
   pub after-given : (k : ℕ) {c : ℕ} {s : Declared.Slot} {M : Labelling ℕ} {numbers′ : Rows} {list₁ list′ : List ℕ} → s ≡ After c
-      → M ≡ through (bump c) N → Contracts.beside numbers′ ≡ put M k (c + 1)
+      → M ≡ through (bump c) N → Planes.beside numbers′ ≡ put M k (c + 1)
       → list₁ ≡ mapped (bump c) count list → list′ ≡ set list₁ count (c + 1) → Renumbered (placed N k (slotFor s)) 1 count list numbers′ (count + 1) list′
   after-given k {c} {s} {M} {numbers′} {list₁} {list′} e p q u v =
       subst (λ t. Renumbered (placed N k (slotFor t)) 1 count list numbers′ (count + 1) list′) (sym e)
@@ -133,7 +100,7 @@ module _ {count : ℕ} {list : List ℕ} (h : count < length list) (N : Labellin
 
   -- a snap for a label by station k of n, where z is the newest: by the newest itself, and by another
   module _ (n : ℕ) (rows : Rows) (z k : ℕ) {numbers′ : Rows} where
-    pub newest-snapped : k ≡ z → Contracts.beside numbers′ ≡ N
+    pub newest-snapped : k ≡ z → Planes.beside numbers′ ≡ N
         → Renumbered (renumberIn n rows z N (snap k)) 1 count list numbers′ (count + 1) (set list count 0)
     newest-snapped e d = rw (eq-eqb k z e) (record {
       beside = d;

@@ -1,7 +1,7 @@
 -- The step lines of a file, run with the numbers beside the table: one call, and the loop over the lines.
-use Prim.Native.Nat.{ℕ, zero, suc, _+_, _-_, _≤_, _<_}
+use Prim.Native.Nat.{ℕ, suc, _+_, _-_, _≤_, _<_}
 use native.Mathlib.Omega.{arith}
-use mathlib.Core.Path.{_≡_, refl, sym, ap, ap₂, subst, _∙_, fun-ext}
+use mathlib.Core.Path.{_≡_, refl, sym, ap, ap₂, subst, _∙_}
 use mathlib.Core.Bool.{Bool, true, false, cond}
 use mathlib.Core.List as Lists
 use mathlib.Core.List.{[], _∷_, _++_, map}
@@ -24,6 +24,7 @@ use Rattle.moves.specs.Moves.{moveOf, called, placeOf}
 use Rattle.moves.proofs.MoveLaws.{step-any, place-below}
 use Rattle.moves.specs.declared.Move as Declared
 use Rattle.moves.specs.declared.Move.the-variants.{SnapLabel}
+use Rattle.arrays.specs.Planes as Planes
 use Rattle.arrays.specs.Arrays.{Rows, Arrays, restOf, stateOf}
 use Rattle.arrays.specs.Form.{lent}
 use Rattle.arrays.proofs.Passed.{label-digits, newest-station}
@@ -37,7 +38,6 @@ use Rattle.schedule.specs.declared.Line.the-variants.{Step}
 use Rattle.file.specs.Contracts.{Runnable, Turns}
 use Rattle.file.proofs.LineLaws.{run-passes, next-state}
 use Rattle.file.specs.declared.Turn.{Turn}
-use Rattle.numbering.specs.Contracts as Contracts
 use Rattle.numbering.specs.Contracts.{renumberIn, Renumbered, Counted, NumbersCall}
 use Rattle.numbering.proofs.Renumbering.{Snapped, snapped-after, renumber-is, counted-kept}
 
@@ -94,7 +94,7 @@ module _ {a : Arrays} {order : Lists.List ℕ} (f : Runnable a order) {c : Call}
   -- what the code makes of the numbers is what the call makes of them
   pub call-numbered : {numbers : Rows} {count : ℕ} {list : Lists.List ℕ} → count ≤ length list → (c .code ≡ 3 → count < length list)
       → Counted count numbers list → {numbers′ : Rows} {count′ : ℕ} {list′ : Lists.List ℕ} → let w = labelStep (moveOf (t .place) 0 (t .action)) in
-      Renumbered (renumberIn n pending (t .newest) (Contracts.beside numbers) w) (labelSnap w) count list numbers′ count′ list′
+      Renumbered (renumberIn n pending (t .newest) (Planes.beside numbers) w) (labelSnap w) count list numbers′ count′ list′
       → NumbersCall a c numbers count list a′ numbers′ count′ list′
   call-numbered {numbers} {count} {list} low room k {numbers′} {count′} {list′} r = record {
     table = g .hands .table;
@@ -104,7 +104,7 @@ module _ {a : Arrays} {order : Lists.List ℕ} (f : Runnable a order) {c : Call}
   }
     where
       N : Labelling ℕ
-      N = Contracts.beside numbers
+      N = Planes.beside numbers
 
       r′ : Renumbered (renumberIn n pending (t .newest) N asked) (labelSnap asked) count list numbers′ count′ list′
       r′ = subst (λ w. Renumbered (renumberIn n pending (t .newest) N w) (labelSnap w) count list numbers′ count′ list′) same-step r
@@ -118,23 +118,11 @@ pub record Sofar (n : ℕ) (rest list₀ : Lists.List ℕ) (a : Arrays) (numbers
   pub same : length list ≡ length list₀
   pub kept : drop count list ≡ drop count list₀
   pub found : numbersOf original n (callsFrom 1 rest 0)
-      ≡ renumbered n (digits n) (slotOf (n - 1)) original (stateOf a) (Contracts.beside numbers) (take count list) (callsFrom lines rest at)
+      ≡ renumbered n (digits n) (slotOf (n - 1)) original (stateOf a) (Planes.beside numbers) (take count list) (callsFrom lines rest at)
 
 -- at first all numbers are 0
-getD-none : (k i : ℕ) → getD {A = ℕ} (replicate k 0) i 0 ≡ 0
-getD-none zero i = refl
-getD-none (suc k) zero = refl
-getD-none (suc k) (suc i) = getD-none k i
-
-pub none-beside : Contracts.beside (replicate 2 (replicate 32 0)) ≡ (λ x i. 0)
-none-beside = fun-ext (λ x. fun-ext (λ i. go x i))
-  where
-    go : (x : Bool) (i : ℕ) → Contracts.beside (replicate 2 (replicate 32 0)) x i ≡ 0
-    go false i = getD-none 32 i
-    go true i = getD-none 32 i
-
 pub sofar-start : (n : ℕ) → 2 ≤ n → n ≤ 32 → (rest list : Lists.List ℕ) → snapCalls (callsFrom 1 rest 0) ≤ length list → {a : Arrays} → a ≡ freshTable lent n
-    → {numbers : Rows} → Contracts.beside numbers ≡ (λ x i. 0) → Sofar n rest list a numbers 0 1 0 list
+    → {numbers : Rows} → Planes.beside numbers ≡ (λ x i. 0) → Sofar n rest list a numbers 0 1 0 list
 sofar-start n low high rest list room {a} e {numbers} z = record {
   within = omega arith;
   few = (omega arith, omega arith);
@@ -158,7 +146,7 @@ module _ {n : ℕ} {rest list₀ : Lists.List ℕ} {a : Arrays} {numbers : Rows}
   )
     where
       found : numbersOf original n (callsFrom 1 rest 0) ≡ take count list
-      found = f .found ∙ ap (renumbered n (digits n) (slotOf (n - 1)) original (stateOf a) (Contracts.beside numbers) (take count list)) e
+      found = f .found ∙ ap (renumbered n (digits n) (slotOf (n - 1)) original (stateOf a) (Planes.beside numbers) (take count list)) e
 
       long : length (take count list) ≡ count
       long = length-take-le count list (omega (arith, f .room))
@@ -193,7 +181,7 @@ module _ {n : ℕ} {rest list₀ : Lists.List ℕ} {a : Arrays} {numbers : Rows}
       room = omega (arith, r .counted, f .room, counts, once, same);
       same = same ∙ f .same;
       kept = dropped ∙ sym (drop-drop ℓ count list) ∙ ap (drop ℓ) (f .kept) ∙ drop-drop ℓ count list₀ ∙ ap (λ k. drop k list₀) (sym (r .counted));
-      found = f .found ∙ ap (renumbered n (digits n) (slotOf (n - 1)) original (stateOf a) (Contracts.beside numbers) (take count list)) here
+      found = f .found ∙ ap (renumbered n (digits n) (slotOf (n - 1)) original (stateOf a) (Planes.beside numbers) (take count list)) here
           ∙ (λ i. renumbered n (digits n) (slotOf (n - 1)) original (sym (ap stateOf (g .table) ∙ t) i) (sym (r .beside) i) (sym taken i) next);
     }
       where
@@ -204,11 +192,11 @@ module _ {n : ℕ} {rest list₀ : Lists.List ℕ} {a : Arrays} {numbers : Rows}
         ℓ = labelSnap w
 
         E : Renumbering
-        E = renumber n (digits n) (slotOf (n - 1)) (stateOf a .labels) (Contracts.beside numbers) w
+        E = renumber n (digits n) (slotOf (n - 1)) (stateOf a .labels) (Planes.beside numbers) w
 
         r : Renumbered E ℓ count list numbers′ count′ list′
         r = subst (λ k. let v = labelStep (judge false k (restOf a) call) in
-            Renumbered (renumber k (digits k) (slotOf (k - 1)) (stateOf a .labels) (Contracts.beside numbers) v) (labelSnap v) count list
+            Renumbered (renumber k (digits k) (slotOf (k - 1)) (stateOf a .labels) (Planes.beside numbers) v) (labelSnap v) count list
             numbers′ count′ list′) q
             (g .renumbered)
 

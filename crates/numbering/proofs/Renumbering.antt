@@ -16,8 +16,8 @@ use Rattle.simulation.specs.Machine.{Labelling, digits, stands, LabelStep, stay
 use Rattle.simulation.specs.Numbering.{Slot, number, shift, highest, slotOf, Renumbering, besideOnly, placed, renumber}
 use Rattle.simulation.proofs.Labellings.{here-yes, here-no, by-put}
 use Rattle.simulation.proofs.Numbers.{bump-slow, highest-least}
+use Rattle.arrays.specs.Planes as Planes
 use Rattle.arrays.specs.Arrays.{Rows}
-use Rattle.numbering.specs.Contracts as Contracts
 use Rattle.numbering.specs.Contracts.{slotIn, renumberIn, Renumbered, Counted}
 use Rattle.numbering.proofs.Slots.{lower}
 
@@ -117,7 +117,7 @@ module _ {N : Labelling ℕ} {b : ℕ} (low : (x : Bool) (i : ℕ) → N x i ≤
 -- no number grows past the count
 pub counted-kept : {count : ℕ} {numbers : Rows} {list : List ℕ} → Counted count numbers list
     → (n : ℕ) (rows : Rows) (z : ℕ) (w : LabelStep) {numbers′ : Rows} {count′ : ℕ} {list′ : List ℕ}
-    → Renumbered (renumberIn n rows z (Contracts.beside numbers) w) (labelSnap w) count list numbers′ count′ list′ → count + labelSnap w ≤ length list
+    → Renumbered (renumberIn n rows z (Planes.beside numbers) w) (labelSnap w) count list numbers′ count′ list′ → count + labelSnap w ≤ length list
     → Counted count′ numbers′ list′
 counted-kept {count} {numbers} {list} s n rows z w {numbers′} {count′} {list′} r h = record {
   beside = λ x i. omega (arith, ap (λ N. N x i) (r .beside), l .beside x i, r .counted);
@@ -134,7 +134,7 @@ counted-kept {count} {numbers} {list} s n rows z w {numbers′} {count′} {list
     ℓ = labelSnap w
 
     e : Renumbering
-    e = renumberIn n rows z (Contracts.beside numbers) w
+    e = renumberIn n rows z (Planes.beside numbers) w
 
     l : Low e count (count + ℓ)
     l = low-after (s .beside) n rows z w

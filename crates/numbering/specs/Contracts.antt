@@ -12,14 +12,11 @@ use Rattle.simulation.specs.Machine.{Labelling, copy, digits, LabelStep, stay, 
 use Rattle.simulation.specs.Numbering as Numbering
 use Rattle.simulation.specs.Numbering.{slotOf, Renumbering, besideOnly, placed, renumber}
 use Rattle.transition.specs.Forms.{stepOf}
-use Rattle.arrays.specs.Arrays.{Rows, Arrays, cell, plane, restOf, stateOf}
+use Rattle.arrays.specs.Arrays.{Rows, Arrays, restOf, stateOf}
+use Rattle.arrays.specs.Planes.{beside}
 use Rattle.arrays.specs.Form.{lent}
 use Rattle.numbering.specs.declared.Slot.{Slot}
 use Rattle.numbering.specs.declared.Slot.the-variants.{Shared, After}
-
--- the number of a station's current (false) or pending (true) label
-abbrev pub beside : Rows → Labelling ℕ
-beside numbers x i = cell numbers (plane x) i 0
 
 -- a declared slot as the machine's
 abbrev pub slotFor : Slot → Numbering.Slot

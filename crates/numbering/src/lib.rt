@@ -16,12 +16,12 @@ ghost use Rattle.transition.specs.Forms.{over};
 ghost use Rattle.moves.specs.Moves.{refusalNumber, moveOf};
 ghost use Rattle.moves.specs.declared.Move.the-variants.{SnapLabel};
 ghost use Rattle.arrays.specs.Arrays.{arrays};
-ghost use Rattle.arrays.specs.Sizes.{Sized};
+ghost use Rattle.arrays.specs.Planes.{beside};
 ghost use Rattle.engine.specs.Contracts.{callOf};
 ghost use Rattle.schedule.specs.Demand.{stepCalls};
 ghost use Rattle.schedule.specs.Numbers.{snapCalls, givenIn};
 ghost use Rattle.file.specs.Contracts.{Runnable};
-ghost use Rattle.numbering.specs.Contracts.{beside, slotFor, slotIn, renumberIn, Renumbered, Counted, NumbersCall, numberLine, numberLines};
+ghost use Rattle.numbering.specs.Contracts.{slotFor, slotIn, renumberIn, Renumbered, Counted, NumbersCall, numberLine, numberLines};
 ghost use Rattle.numbering.specs.Files.{refusedBy, NumbersFile};
 use arrays::Control;
 use arrays::Jobs;
@@ -106,17 +106,12 @@ fn slot_of(rows: &[[u8; 31]; 32], n: usize, k: usize, pending: &[u32; 32], top: 
     Slot::After(highest)
 }
 
-// The lengths of the two planes, which are known of an array passed by value.
-fn sized(numbers: [[u32; 32]; 2])
-    ensures { λ _. ⌜ Sized 2 32 numbers ⌝ }
-{}
-
 // The numbers of all stations make room after c.
 fn bump_planes(numbers: &mut [[u32; 32]; 2], c: u32)
     requires { ⌜ ((x : Bool) (i : ℕ) → beside (now numbers) x i < 4294967295) ⌝ }
     ensures { λ _. ⌜ beside (now (numbers .exit)) ≡ through (bump c) (beside (now (numbers .entry))) ⌝ }
 {
-    sized(*numbers);
+    arrays::sized(*numbers);
     bump(&mut numbers[CURRENT], 32, c);
     bump(&mut numbers[PENDING], 32, c);
 }
@@ -127,7 +122,7 @@ fn put_number(k: usize, v: u32, numbers: &mut [[u32; 32]; 2], given: &mut [u32],
     ensures { λ _. ⌜ beside (now (numbers .exit)) ≡ put (beside (now (numbers .entry))) k v ⌝ }
     ensures { λ _. ⌜ now (given .exit) ≡ set (now (given .entry)) count v ⌝ }
 {
-    sized(*numbers);
+    arrays::sized(*numbers);
     numbers[PENDING][k] = v;
     given[count] = v;
 }
@@ -202,7 +197,7 @@ fn renumber(
             count + 1
         }
         Move::Update => {
-            sized(*numbers);
+            arrays::sized(*numbers);
             numbers[CURRENT][place] = numbers[PENDING][place];
             count
         }

@@ -7,17 +7,17 @@ use mathlib.Core.Path.{_≡_, refl, sym, ap, ap₂, _∙_}
 use mathlib.Core.Logic.{_≢_, by-cases}
 use mathlib.Core.Bool.{Bool, true, false}
 use mathlib.Core.List.{List, [], _∷_, _++_, append-assoc}
-use lib.ListN.{length, length-append, length-replicate, getD, set, take, drop, replicate, drop-of-length-le, List·getD-append}
-use lib.Seq.{take-all, take-suc, drop-cons, split-at, set-at, take-at, drop-at, take-append-le, drop-append-le, drop-append-add, length-take-le, getD-take}
+use lib.ListN.{length, length-append, length-replicate, getD, set, take, drop, replicate, drop-of-length-le, take-append-drop, length-drop, List·getD-append}
+use lib.Seq.{take-all, take-suc, drop-cons, split-at, set-at, take-at, drop-at, drop-drop, drop-set-lt, take-append-le, drop-append-le, drop-append-add, length-take-le, getD-take}
 use lib.Dec.{eqb}
 use borrow.Author.Tests.{eqb-true, eqb-false}
-use Rattle.basics.specs.Tests.{firstFrom, inserted, newest, ordered, All}
+use Rattle.basics.specs.Tests.{inserted, newest, ordered, All}
 use Rattle.label.specs.Labels.{labelBefore}
 use Rattle.basics.proofs.Facts.{First, first, all-at, each-all, ordered-all, ordered-each, inserted-length, ordered-length}
 use Rattle.basics.proofs.Passing.{without, without-all}
 use Rattle.label.proofs.RowLaws.{ringless}
 use Rattle.label.proofs.Total.{Total, total, newest-only, one-way, other-way, Sorted, ordered-sorted, without-sorted, without-at, without-alike, put-back}
-use Rattle.rows.specs.Held.{held, standsIn, Orderly, OrderedBefore}
+use Rattle.rows.specs.Held.{held, standsIn, Orderly, OrderedBefore, leftOut, takenOut, placeIn}
 
 -- LISTS
 
@@ -86,10 +86,6 @@ module _ {A : Type 0} where
     pub shift-ends : (q : ℕ) (x : A) (r : List A) → r ≡ shiftedTo l k q (getD l q d) → q ≤ k → set r q x ≡ shiftedTo l k q x
     shift-ends q x r e v = rw e (put-stored (take k l) (drop (k + 1) l) q (getD l q d) x (omega (arith, front)))
 
--- l without the one at place q
-abbrev pub leftOut : {A : Type 0} → ℕ → List A → List A
-leftOut q l = take q l ++ drop (q + 1) l
-
 module _ {A : Type 0} where
   leftOut-next : (l : List A) (q : ℕ) (x : A) → leftOut (suc q) (x ∷ l) ≡ x ∷ leftOut q l
   leftOut-next l q x = let e : suc q + 1 ≡ suc (q + 1) = omega arith in rw e refl
@@ -103,6 +99,14 @@ module _ {A : Type 0} where
 
   pub leftOut-moves : (l : List A) (p : ℕ) (d : A) → p + 1 < length l → leftOut (p + 1) (set l p (getD l (p + 1) d)) ≡ leftOut p l
   leftOut-moves l p d h = rw (← add-one p) at (moves l p d (omega arith))
+
+  -- what stands past place p is as it was: so is the array with the one at place q taken out
+  pub past-kept : (l l₀ : List A) (p : ℕ) (v : A) → drop p l ≡ drop p l₀ → drop (p + 1) (set l p v) ≡ drop (p + 1) l₀
+  past-kept l l₀ p v e = drop-set-lt (p + 1) l p v (omega arith) ∙ sym (drop-drop 1 p l) ∙ ap (drop 1) e ∙ drop-drop 1 p l₀
+
+  pub taken-out : (l l₀ : List A) (p q : ℕ) → p ≤ length l → leftOut p l ≡ leftOut q l₀ → drop p l ≡ drop p l₀ → l ≡ takenOut p q l₀
+  taken-out l l₀ p q h e f = sym (take-append-drop p l)
+      ∙ ap₂ (λ a b. a ++ b) (sym (take-at (take p l) (drop (p + 1) l) p (length-take-le p l h)) ∙ ap (take p) e) f
 
   leftOut-front : (l rest : List A) (q : ℕ) → q < length l → leftOut q (l ++ rest) ≡ leftOut q l ++ rest
   leftOut-front l rest q h = rw (take-append-le q l rest (omega arith), drop-append-le (q + 1) l rest (omega arith), append-assoc) refl
@@ -183,92 +187,114 @@ module _ (w : ℕ) (b : ℕ → ℕ → Bool) (k : ℕ) (l : List ℕ) (e : l �
   unfolding ordered
   order-turns q r f g h = f ∙ rw (← g, order-front, order-rest h, add-one k, ordered) refl
 
--- ONE STATION PUT ELSEWHERE: l lists the stations as they stood before station k got the label that it has in the rows
+-- ONE STATION PUT ELSEWHERE: an array of w places lists n stations as they stood before station k alone came to stand elsewhere
 
-module _ {n : ℕ} {rows : List (List ℕ)} {k : ℕ} {l : List ℕ} (valid : Orderly n rows) (lk : k < n) (was : OrderedBefore n rows k l) where
-  abbrev before : ℕ → ℕ → Bool
-  before = standsIn n rows
+pub record Displaced (w n k : ℕ) (b : ℕ → ℕ → Bool) (l : List ℕ) : Type 0 where
+  pub before : ℕ → ℕ → Bool
+  pub then : Total n before
+  pub now : Total n b
+  pub alike : (i j : ℕ) → i < n → j < n → i ≢ k → j ≢ k → before i j ≡ b i j
+  pub inside : k < n
+  pub high : n ≤ w
+  pub listed : l ≡ orderIn w before n
 
-  abbrev before₀ : ℕ → ℕ → Bool
-  before₀ = standsIn n (was .old)
+-- by another label in the rows
+pub relabelled : {n k : ℕ} {rows : List (List ℕ)} {l : List ℕ} → Orderly n rows → k < n → OrderedBefore n rows k l → Displaced 32 n k (standsIn n rows) l
+relabelled {n} {k} {rows} valid lk was = record {
+  before = standsIn n (was .old);
+  then = orderly-total n (was .old) (was .orderly);
+  now = orderly-total n rows valid;
+  alike = λ i j li lj di dj. ap₂ (λ a b. labelBefore (n - 1) a i b j) (was .others i li di) (was .others j lj dj);
+  inside = lk;
+  high = valid .high;
+  listed = was .listed;
+}
 
-  total-now : Total n before
-  total-now = orderly-total n rows valid
+module _ {w n k : ℕ} {b : ℕ → ℕ → Bool} {l : List ℕ} (d : Displaced w n k b l) where
+  abbrev m : ℕ
+  m = n - 1
 
-  total-then : Total n before₀
-  total-then = orderly-total n (was .old) (was .orderly)
+  abbrev old : List ℕ
+  old = ordered n (d .before)
 
-  alike : (i j : ℕ) → i < n → j < n → i ≢ k → j ≢ k → before₀ i j ≡ before i j
-  alike i j li lj di dj = ap₂ (λ a b. labelBefore (n - 1) a i b j) (was .others i li di) (was .others j lj dj)
+  -- the others stand in the old order as in the new one, which is theirs with k put in
+  abbrev others : List ℕ
+  others = without k (ordered n b)
 
-  pub listed-long : length l ≡ 32
-  listed-long = order-long 32 before₀ n l (was .listed) (valid .high)
+  abbrev zeros : List ℕ
+  zeros = replicate (w - n) 0
 
-  read : (p : ℕ) → p < n → getD l p 0 ≡ getD (ordered n before₀) p 0
-  read p h = rw (← getD-take n l p 0 h, order-front 32 before₀ n l (was .listed)) refl
+  old-long : length old ≡ n
+  old-long = ordered-length (d .before) n
+
+  pub listed-long : length l ≡ w
+  listed-long = order-long w (d .before) n l (d .listed) (d .high)
+
+  read : (p : ℕ) → p < n → getD l p 0 ≡ getD old p 0
+  read p h = rw (← getD-take n l p 0 h, order-front w (d .before) n l (d .listed)) refl
 
   -- its place there
-  module _ (p : ℕ) (e : p ≡ firstFrom n 0 (λ p. eqb (getD l p 0) k)) where
-    place : First n 0 (λ p. eqb (getD l p 0) k) p
-    place = rw e (first n 0 (λ p. eqb (getD l p 0) k))
+  abbrev p : ℕ
+  p = placeIn n l k
 
-    pub place-found : p < n
-    place-found = by-cases (decLt p n) (λ h. h)
-        (λ h. absurd (ordered-each (λ j. j ≢ k) before₀ n (each-all (λ j. j ≢ k) (ordered n before₀) 0
-        (λ q u. rw (← read q (omega (arith, ordered-length before₀ n))) (eqb-false _ k
-        (place .earlier q (omega arith) (omega (arith, ordered-length before₀ n)))))) k lk refl))
+  place : First n 0 (λ q. eqb (getD l q 0) k) p
+  place = first n 0 (λ q. eqb (getD l q 0) k)
 
-    -- the others stand in the old order as in the new one, which is theirs with k put in
-    abbrev others : List ℕ
-    others = without k (ordered n before)
+  pub place-found : p < n
+  place-found = by-cases (decLt p n) (λ h. h)
+      (λ h. absurd (ordered-each (λ j. j ≢ k) (d .before) n (each-all (λ j. j ≢ k) old 0
+      (λ q u. rw (← read q (omega (arith, old-long))) (eqb-false _ k (place .earlier q (omega arith) (omega (arith, old-long)))))) k (d .inside) refl))
 
-    left-out : leftOut p l ≡ others ++ replicate (32 - n) 0
-    left-out =
-        let h : p < length (ordered n before₀) = omega (arith, place-found, ordered-length before₀ n) in
-        let here = sym (read p place-found) ∙ eqb-true _ k (place .found (omega (arith, place-found))) in
-        let out : without k (ordered n before₀) ≡ leftOut p (ordered n before₀)
-        = rw (add-one p) (without-at total-then k lk (ordered n before₀) (ordered-sorted n before₀ total-then n (omega arith)) p 0 h here) in
-        ap (leftOut p) (was .listed) ∙ leftOut-front (ordered n before₀) (replicate (32 - n) 0) p h
-        ∙ ap (λ r. r ++ replicate (32 - n) 0) (sym out ∙ without-alike n before₀ before total-then total-now k alike n (omega arith))
+  left-out : leftOut p l ≡ others ++ zeros
+  left-out =
+      let h : p < length old = omega (arith, place-found, old-long) in
+      let here = sym (read p place-found) ∙ eqb-true _ k (place .found (omega (arith, place-found))) in
+      let out : without k old ≡ leftOut p old
+      = rw (add-one p) (without-at (d .then) k (d .inside) old (ordered-sorted n (d .before) (d .then) n (omega arith)) p 0 h here) in
+      ap (leftOut p) (d .listed) ∙ leftOut-front old zeros p h
+      ∙ ap (λ r. r ++ zeros) (sym out ∙ without-alike n (d .before) b (d .then) (d .now) k (d .alike) n (omega arith))
 
-    back : inserted before k others ≡ ordered n before
-    back = put-back total-now k lk (ordered n before) (ordered-all (λ j. j < n) before n (λ j u. u)) (ordered-sorted n before total-now n (omega arith))
-        (λ a. ordered-each (λ j. j ≢ k) before n a k lk refl)
+  back : inserted b k others ≡ ordered n b
+  back = put-back (d .now) k (d .inside) (ordered n b) (ordered-all (λ j. j < n) b n (λ j u. u)) (ordered-sorted n b (d .now) n (omega arith))
+      (λ a. ordered-each (λ j. j ≢ k) b n a k (d .inside) refl)
 
-    -- the array r has k taken out, and place n - 1 is free
-    module _ (r : List ℕ) (long : length r ≡ length l) (out : leftOut (n - 1) r ≡ leftOut p l) where
-      others-long : length others ≡ n - 1
-      others-long = omega (arith, inserted-length before k others, ap length back, ordered-length before n)
+  others-long : length others ≡ m
+  others-long = omega (arith, inserted-length b k others, ap length back, ordered-length b n)
 
-      r-long : length (take (n - 1) r) ≡ n - 1
-      r-long = length-take-le (n - 1) r (omega (arith, listed-long, valid .high))
+  -- k taken out: r lists the others in the first n - 1 places
+  module _ (r : List ℕ) (e : r ≡ takenOut m p l) where
+    moved-up : r ≡ others ++ drop m l
+    moved-up = e ∙ ap (λ t. t ++ drop m l) (ap (take m) left-out ∙ take-at others zeros m others-long)
 
-      others-front : take (n - 1) r ≡ others
-      others-front = sym (take-at (take (n - 1) r) (drop (n - 1 + 1) r) (n - 1) r-long) ∙ ap (take (n - 1)) (out ∙ left-out)
-          ∙ take-at others (replicate (32 - n) 0) (n - 1) others-long
+    pub others-room : m < length r
+    others-room = rw moved-up (omega (arith, length-append others (drop m l), others-long, length-drop m l, listed-long, d .inside, d .high))
 
-      rest : drop (n - 1 + 1) r ≡ replicate (32 - n) 0
-      rest = sym (drop-at (take (n - 1) r) (drop (n - 1 + 1) r) (n - 1) r-long) ∙ ap (drop (n - 1)) (out ∙ left-out)
-          ∙ drop-at others (replicate (32 - n) 0) (n - 1) others-long
+    others-front : take m r ≡ others
+    others-front = ap (take m) moved-up ∙ take-at others (drop m l) m others-long
 
-      pub others-listed : (q : ℕ) → q < n - 1 → Other n k (getD r q 0)
-      others-listed = front-all (n - 1) r others others-front others-long (Other n k)
-          (without-all (λ j. j < n) (Other n k) k (λ j u d. (u, d)) (ordered n before) (ordered-all (λ j. j < n) before n (λ j u. u)))
+    rest : drop (m + 1) r ≡ zeros
+    rest =
+        let f : m + 1 ≡ n = omega (arith, d .inside) in
+        ap (drop (m + 1)) moved-up ∙ ap (λ i. drop (i + 1) (others ++ drop m l)) (sym others-long) ∙ drop-append-add others (drop m l) 1
+        ∙ drop-drop 1 m l ∙ ap (λ i. drop i l) f ∙ ap (drop n) (d .listed) ∙ drop-at old zeros n old-long
 
-      pub others-sorted : (q q′ : ℕ) → q < q′ → q′ < n - 1 → before (getD r q 0) (getD r q′ 0) ≡ true
-      others-sorted = front-sorted (n - 1) r others others-front others-long before
-          (without-sorted before k (ordered n before) (ordered-sorted n before total-now n (omega arith)))
+    pub others-listed : (q : ℕ) → q < m → Other n k (getD r q 0)
+    others-listed = front-all m r others others-front others-long (Other n k)
+        (without-all (λ j. j < n) (Other n k) k (λ j u v. (u, v)) (ordered n b) (ordered-all (λ j. j < n) b n (λ j u. u)))
 
-      -- and it is put in at place q, where it stands now
-      pub put-again : (q : ℕ) (r′ : List ℕ) → q ≤ n - 1 → ((p : ℕ) → p < q → before (getD r p 0) k ≡ true)
-          → ((p : ℕ) → q ≤ p → p < n - 1 → before k (getD r p 0) ≡ true)
-          → r′ ≡ putIn q k (take (n - 1) r) ++ drop (n - 1 + 1) r → r′ ≡ orderIn 32 before n
-      put-again q r′ h early late e = e ∙ rw (
-        ← put-in total-now k lk (n - 1) r others-listed (omega (arith, listed-long, valid .high)) q h early late,
-        rest,
-        others-front,
-        back,
-      ) refl
+    pub others-sorted : (q q′ : ℕ) → q < q′ → q′ < m → b (getD r q 0) (getD r q′ 0) ≡ true
+    others-sorted = front-sorted m r others others-front others-long b
+        (without-sorted b k (ordered n b) (ordered-sorted n b (d .now) n (omega arith)))
+
+    -- and put in at place q, where it stands now
+    pub put-again : (q : ℕ) (r′ : List ℕ) → q ≤ m → ((p : ℕ) → p < q → b (getD r p 0) k ≡ true)
+        → ((p : ℕ) → q ≤ p → p < m → b k (getD r p 0) ≡ true) → r′ ≡ putIn q k (take m r) ++ drop (m + 1) r → r′ ≡ orderIn w b n
+    put-again q r′ h early late f = f ∙ rw (
+      ← put-in (d .now) k (d .inside) m r others-listed (omega (arith, others-room)) q h early late,
+      rest,
+      others-front,
+      back,
+    ) refl
 
 -- THE NEWEST
 

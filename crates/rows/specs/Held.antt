@@ -1,12 +1,12 @@
 -- The labels of n stations, held in an array of rows; contracts of the searches cite this.
-use Prim.Native.Nat.{ℕ, _-_, _≤_, _<_}
+use Prim.Native.Nat.{ℕ, _+_, _-_, _≤_, _<_}
 use mathlib.Core.Path.{_≡_}
 use mathlib.Core.Logic.{_≢_}
 use mathlib.Core.Bool.{Bool, true, false, not, _&&_, cond}
 use mathlib.Core.List.{List, [], _++_}
-use lib.ListN.{getD, replicate}
+use lib.ListN.{getD, take, drop, replicate}
 use lib.Dec.{eqb}
-use Rattle.basics.specs.Tests.{every, newest, ordered}
+use Rattle.basics.specs.Tests.{every, firstFrom, newest, ordered}
 use Rattle.label.specs.Labels.{Label, agrees, labelBefore, newLabel, holders}
 use Rattle.label.specs.Rows.{digit, row, noRing}
 use Rattle.label.specs.Valid.{Valid}
@@ -31,6 +31,17 @@ pub record OrderedBefore (n : ℕ) (rows : List (List ℕ)) (k : ℕ) (order : L
   pub orderly : Orderly n old
   pub others : (i : ℕ) → i < n → i ≢ k → held old i ≡ held rows i
   pub listed : order ≡ ordered n (standsIn n old) ++ replicate (32 - n) 0
+
+-- the first of n places of a list that holds k; n if none does
+abbrev pub placeIn : ℕ → List ℕ → ℕ → ℕ
+placeIn n l k = firstFrom n 0 (λ p. eqb (getD l p 0) k)
+
+-- a list without the one at place q; and an array from which it is taken out: those behind it move up as far as place m, which keeps what it holds
+abbrev pub leftOut : {A : Type 0} → ℕ → List A → List A
+leftOut q l = take q l ++ drop (q + 1) l
+
+abbrev pub takenOut : {A : Type 0} → ℕ → ℕ → List A → List A
+takenOut m q l = take m (leftOut q l) ++ drop m l
 
 -- of the first k of n stations z is the newest, and c of them have its label
 pub record Leads (n : ℕ) (rows : List (List ℕ)) (k z c : ℕ) : Type 0 where

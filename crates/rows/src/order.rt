@@ -5,10 +5,9 @@ ghost use mathlib.Core.Bool.{true};
 ghost use mathlib.Core.List.{_∷_, _++_};
 ghost use Prim.Native.Nat.{ℕ, _+_, _-_, _≤_, _<_};
 ghost use lib.ListN.{length, getD, take, drop, replicate};
-ghost use lib.Dec.{eqb};
-ghost use Rattle.basics.specs.Tests.{firstFrom, newest, ordered};
+ghost use Rattle.basics.specs.Tests.{newest, ordered};
 ghost use Rattle.label.specs.Labels.{holders};
-ghost use Rattle.rows.specs.Held.{held, standsIn, Orderly, OrderedBefore, Leads};
+ghost use Rattle.rows.specs.Held.{held, standsIn, Orderly, OrderedBefore, placeIn, takenOut, Leads};
 
 // The newest station, and how many stations have its label, the newest itself among them.
 pub struct Top {
@@ -89,7 +88,7 @@ fn position(rows: &[[u8; 31]; 32], n: usize, order: &[usize], m: usize, k: usize
 }
 
 // The first k of `order` get x put in among them at place q; what stands past them stays.
-fn insert_at(order: &mut [usize], k: usize, q: usize, x: usize)
+pub fn insert_at(order: &mut [usize], k: usize, q: usize, x: usize)
     requires { ⌜ (q ≤ k) × (k < length (now order)) ⌝ }
     ensures { λ _. ⌜ now (order .exit) ≡ take q (take k (now (order .entry))) ++ x ∷ drop q (take k (now (order .entry))) ++ drop (k + 1)
         (now (order .entry)) ⌝ }
@@ -120,7 +119,7 @@ pub fn order(rows: &[[u8; 31]; 32], n: usize) -> [usize; 32]
 // The first of n places of `order` that holds station k; n if none does.
 fn place(order: &[usize], n: usize, k: usize) -> usize
     requires { ⌜ n ≤ length (now order) ⌝ }
-    ensures { λ r. ⌜ r ≡ firstFrom n 0 (λ p. eqb (getD (now (order .entry)) p 0) k) ⌝ }
+    ensures { λ r. ⌜ r ≡ placeIn n (now (order .entry)) k ⌝ }
 {
     let mut p: usize = 0;
     while p < n {
@@ -132,16 +131,25 @@ fn place(order: &[usize], n: usize, k: usize) -> usize
     p
 }
 
-// The one at place q of `order` is taken out, and those behind it move up as far as place m, which is left free.
+// The one at place q of `order` is taken out, and those behind it move up as far as place m, which is then free.
 fn remove_at(order: &mut [usize], m: usize, q: usize)
     requires { ⌜ (q ≤ m) × (m < length (now order)) ⌝ }
-    ensures { λ _. ⌜ take m (now (order .exit)) ++ drop (m + 1) (now (order .exit)) ≡ take q (now (order .entry)) ++ drop (q + 1) (now (order .entry)) ⌝ }
+    ensures { λ _. ⌜ now (order .exit) ≡ takenOut m q (now (order .entry)) ⌝ }
 {
     let mut p = q;
     while p < m {
         order[p] = order[p + 1];
         p += 1;
     }
+}
+
+// Station k, one of the first n of `order`, is taken out, and those behind it move up: place n - 1 is then free.
+pub fn take_out(order: &mut [usize], n: usize, k: usize)
+    requires { ⌜ (placeIn n (now order) k < n) × (n ≤ length (now order)) ⌝ }
+    ensures { λ _. ⌜ now (order .exit) ≡ takenOut (n - 1) (placeIn n (now (order .entry)) k) (now (order .entry)) ⌝ }
+{
+    let q = place(order, n, k);
+    remove_at(order, n - 1, q);
 }
 
 // Brings the order up to date after station k alone got another label: it is taken out, and put in where it stands now.
@@ -152,8 +160,7 @@ pub fn reorder(rows: &[[u8; 31]; 32], n: usize, order: &mut [usize], k: usize)
     ensures { λ _. ⌜ now (order .exit) ≡ ordered n (standsIn n (now (rows .entry))) ++ replicate (32 - n) 0 ⌝ }
 {
     let m = n - 1;
-    let p = place(order, n, k);
-    remove_at(order, m, p);
+    take_out(order, n, k);
     let q = position(rows, n, order, m, k);
     insert_at(order, m, q, k);
 }

@@ -9,7 +9,8 @@ use Rattle.schedule.proofs.Places.{line-within}
 use Rattle.schedule.proofs.Surveys.{calls-none, calls-refused}
 use Rattle.file.specs.Contracts.{Runnable}
 use Rattle.file.proofs.LineLaws.{fresh-orderly, fresh-runnable, next-state}
-use Rattle.numbering.proofs.Lines.{Sofar, sofar-start, sofar-end, sofar-more, step-room, none-beside}
+use Rattle.arrays.proofs.Planes.{none-beside}
+use Rattle.numbering.proofs.Lines.{Sofar, sofar-start, sofar-end, sofar-more, step-room}
 use borrow.Author.Needs.{needs}
 use Rattle.numbering.proofs.number_lines.Statement.{statement}
 use Rattle.numbering.proofs.number_lines.Tie as tie

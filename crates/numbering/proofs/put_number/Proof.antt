@@ -1,5 +1,5 @@
 use mathlib.Core.Path.{refl}
-use Rattle.numbering.proofs.Kept.{planes-put}
+use Rattle.arrays.proofs.Planes.{planes-put}
 use borrow.Author.Needs.{needs}
 use Rattle.numbering.proofs.put_number.Statement.{statement}
 use Rattle.numbering.proofs.put_number.Tie as tie

@@ -4,7 +4,8 @@ use mathlib.Core.Path.{refl}
 use mathlib.Core.List.{List, [], _∷_}
 use Rattle.moves.specs.declared.Move.the-variants.{SnapLabel, Update}
 use Rattle.moves.proofs.MoveLaws.{not-among, step-stays}
-use Rattle.numbering.proofs.Kept.{planes-copied, none-given}
+use Rattle.arrays.proofs.Planes.{planes-copied}
+use Rattle.numbering.proofs.Kept.{none-given}
 use borrow.Author.Needs.{needs}
 use Rattle.numbering.proofs.renumber.Statement.{statement}
 use Rattle.numbering.proofs.renumber.Tie as tie

@@ -4,8 +4,8 @@ use mathlib.Core.Path.{_≡_}
 use mathlib.Core.List.{[]}
 use lib.ListN.{length}
 use Rattle.basics.proofs.Owned.{each-holds}
-use Rattle.numbering.proofs.sized.Statement.{statement}
-use Rattle.numbering.proofs.sized.Tie as tie
+use Rattle.arrays.proofs.sized.Statement.{statement}
+use Rattle.arrays.proofs.sized.Tie as tie
 
 returns : tie.Need-returns
 returns c =

@@ -1,0 +1,165 @@
+-- Laws of the order by numbers, and of what a move does to them.
+use Prim.Native.Nat.{ℕ, suc, _+_, _-_, _≤_, _<_}
+use native.Mathlib.Numerals.{add-one}
+use native.Mathlib.Omega.{arith}
+use mathlib.Core.Path.{_≡_, refl, sym, ap, ap₂, _∙_, fun-ext}
+use mathlib.Core.Logic.{_≢_, _⊎_, inl, inr}
+use mathlib.Core.Bool.{Bool, true, false, _&&_, cond}
+use mathlib.Core.List.{List, [], _∷_, _++_}
+use lib.ListN.{length, getD, set, take, drop, replicate}
+use lib.Seq.{getD-take}
+use lib.Dec.{eqb, ltb, leb}
+use borrow.Author.Tests.{eqb-true, ltb-true, leb-true, lt-ltb, le-ltb, le-leb, eq-eqb, ne-eqb}
+use Rattle.basics.specs.Tests.{newest, inserted, ordered}
+use Rattle.basics.proofs.Facts.{tf, both, and-both, by-here, all-at, ordered-all, ordered-length}
+use Rattle.label.proofs.Digits.{Tri, lt, eq, gt, compare}
+use Rattle.label.proofs.Total.{Total}
+use Rattle.rows.proofs.OrderLaws.{putIn, inserted-at, shift-starts, shift-ends, listed-below, orderIn, order-front, order-turns, Displaced, last-newest}
+use Rattle.simulation.specs.Machine.{Labelling, numberBefore, stands, put, copy, pendingAfter, labelStep, stay, snap, update, relabelled}
+use Rattle.simulation.specs.Numbered.{numbered, Fit}
+use Rattle.simulation.proofs.Sync.{number-less, number-more, number-same}
+use Rattle.moves.specs.Moves.{moveOf}
+use Rattle.moves.specs.declared.Move.{Move}
+use Rattle.moves.specs.declared.Move.the-variants.{SnapLabel, Update}
+use Rattle.moves.proofs.MoveLaws.{by-move}
+use Rattle.arrays.specs.Arrays.{Rows}
+use Rattle.arrays.specs.Planes.{beside}
+use Rattle.arrays.proofs.Planes.{alike, getD-none}
+use Rattle.unbounded.specs.Numbers.{standsBy, orderBy, NumberedBefore}
+
+-- STANDS BEFORE
+
+pub number-equal : (u i v j : ℕ) → u ≡ v → ltb i j ≡ numberBefore u i v j
+number-equal u i v j e = rw e (sym (number-same v i j))
+
+pub number-apart : (u i v j : ℕ) → u ≢ v → ltb u v ≡ numberBefore u i v j
+number-apart u i v j d = go (compare u v)
+  where
+    go : Tri (u < v) (u ≡ v) (v < u) → ltb u v ≡ numberBefore u i v j
+    go (lt h) = lt-ltb u v h ∙ sym (number-less u i v j h)
+    go (eq e) = absurd (d e)
+    go (gt h) = le-ltb u v (omega arith) ∙ sym (number-more u i v j h)
+
+-- what a passed test says
+number-true : (u i v j : ℕ) → numberBefore u i v j ≡ true → (u < v) ⊎ ((u ≡ v) × (i < j))
+number-true u i v j e = go (compare u v)
+  where
+    go : Tri (u < v) (u ≡ v) (v < u) → (u < v) ⊎ ((u ≡ v) × (i < j))
+    go (lt h) = inl h
+    go (eq h) = inr (h, ltb-true i j (number-equal u i v j h ∙ e))
+    go (gt h) = absurd (tf e (number-more u i v j h))
+
+number-of : (u i v j : ℕ) → (u < v) ⊎ ((u ≡ v) × (i < j)) → numberBefore u i v j ≡ true
+number-of u i v j (inl h) = number-less u i v j h
+number-of u i v j (inr h) = sym (number-equal u i v j (h .0)) ∙ lt-ltb i j (h .1)
+
+-- a total order of the stations, whatever their numbers
+pub number-total : (n : ℕ) (u : ℕ → ℕ) → Total n (λ i j. numberBefore (u i) i (u j) j)
+number-total n u = record {
+  irrefl = λ i l. number-same (u i) i i ∙ le-ltb i i (omega arith);
+  trans = λ i j k li lj lk x y. number-of (u i) i (u k) k (joined i j k (number-true (u i) i (u j) j x) (number-true (u j) j (u k) k y));
+  connex = λ i j li lj d. sides i j d (compare (u i) (u j)) (compare i j);
+}
+  where
+    joined : (i j k : ℕ) → (u i < u j) ⊎ ((u i ≡ u j) × (i < j)) → (u j < u k) ⊎ ((u j ≡ u k) × (j < k)) → (u i < u k) ⊎ ((u i ≡ u k) × (i < k))
+    joined i j k (inl x) (inl y) = inl (omega arith)
+    joined i j k (inl x) (inr y) = inl (omega (arith, y .0))
+    joined i j k (inr x) (inl y) = inl (omega (arith, x .0))
+    joined i j k (inr x) (inr y) = inr (x .0 ∙ y .0, omega (arith, x .1, y .1))
+
+    sides : (i j : ℕ) → i ≢ j → Tri (u i < u j) (u i ≡ u j) (u j < u i) → Tri (i < j) (i ≡ j) (j < i)
+        → (numberBefore (u i) i (u j) j ≡ true) ⊎ (numberBefore (u j) j (u i) i ≡ true)
+    sides i j d (lt h) o = inl (number-of (u i) i (u j) j (inl h))
+    sides i j d (gt h) o = inr (number-of (u j) j (u i) i (inl h))
+    sides i j d (eq h) (lt l) = inl (number-of (u i) i (u j) j (inr (h, l)))
+    sides i j d (eq h) (eq l) = absurd (d l)
+    sides i j d (eq h) (gt l) = inr (number-of (u j) j (u i) i (inr (sym h, l)))
+
+pub row-total : (n : ℕ) (numbers : List ℕ) → Total n (standsBy numbers)
+row-total n numbers = number-total n (λ i. getD numbers i 0)
+
+-- THE ORDER KEPT
+
+-- all numbers 0: one station more goes behind the others
+abbrev pub level : ℕ → ℕ → Bool
+level i j = numberBefore 0 i 0 j
+
+level-next : (k : ℕ) (l : List ℕ) → take k l ≡ ordered k level → inserted level k (take k l) ≡ putIn k k (take k l)
+level-next k l e =
+    let long : length (take k l) ≡ k = ap length e ∙ ordered-length level k in
+    inserted-at level k (take k l) k (omega (arith, long))
+    (λ p u. rw (getD-take k l p 0 u) (number-same 0 k (getD l p 0) ∙ le-ltb k (getD l p 0) (omega (arith, listed-below level k l e p u))))
+    (λ u. absurd (omega (arith, long)))
+
+pub level-turns : (w k : ℕ) (r : List ℕ) → r ≡ orderIn w level k → k < w → k < length r → set r k k ≡ orderIn w level (k + 1)
+level-turns w k r e h long = order-turns w level k r e k (set r k k) (shift-ends r k 0 long k k r (shift-starts r k 0 long) (omega arith))
+    (level-next k r (order-front w level k r e)) h
+
+-- station k put elsewhere by another number
+pub renumbered : {n k : ℕ} {numbers l : List ℕ} → k < n → n ≤ 32 → NumberedBefore n numbers k l → Displaced 32 n k (standsBy numbers) l
+renumbered {n} {k} {numbers} lk high was = record {
+  before = standsBy (was .old);
+  then = row-total n (was .old);
+  now = row-total n numbers;
+  alike = λ i j li lj di dj. ap₂ (λ a b. numberBefore a i b j) (was .others i li di) (was .others j lj dj);
+  inside = lk;
+  high = high;
+  listed = was .listed;
+}
+
+-- the order by the current plane is the machine's, and its last station the newest
+pub order-stands : (n v : ℕ) (numbers : Rows) → orderBy n (getD numbers 0 []) ≡ ordered n (stands (numbered v) (beside numbers)) ++ replicate (32 - n) 0
+order-stands n v numbers = refl
+
+pub order-first : (n : ℕ) → ordered n level ++ replicate (32 - n) 0 ≡ orderBy n (replicate 32 0)
+order-first n = ap (λ b. ordered n b ++ replicate (32 - n) 0)
+    (fun-ext (λ i. fun-ext (λ j. ap₂ (λ u v. numberBefore u i v j) (sym (getD-none 32 i)) (sym (getD-none 32 j)))))
+
+pub order-newest : (n v : ℕ) (numbers : Rows) (order : List ℕ) → order ≡ orderBy n (getD numbers 0 []) → 1 ≤ n
+    → getD order (n - 1) 0 ≡ newest n (stands (numbered v) (beside numbers))
+order-newest n v numbers order e h = last-newest n (standsBy (getD numbers 0 [])) order (row-total n (getD numbers 0 [])) h
+    (order-front 32 (standsBy (getD numbers 0 [])) n order e)
+
+-- NUMBERS THAT FIT
+
+-- those that pass the test are those that fit
+pub passes-fits : (b : Bool) (top v : ℕ) → cond b (eqb v 0) (ltb top v && leb v 4294967295) ≡ true
+    → Fit 4294967295 (record { byNewest = b; top = top; number = v })
+passes-fits true top v e = record { newest = λ _. eqb-true v 0 e; other = λ f. absurd (tf refl f) }
+passes-fits false top v e =
+    let h = and-both (ltb top v) (leb v 4294967295) e in
+    record { newest = λ f. absurd (tf f refl); other = λ _. (ltb-true top v (h .0), leb-true v 4294967295 (h .1)) }
+
+pub fits-passes : (b : Bool) (top v : ℕ) → Fit 4294967295 (record { byNewest = b; top = top; number = v })
+    → cond b (eqb v 0) (ltb top v && leb v 4294967295) ≡ true
+fits-passes true top v f = eq-eqb v 0 (f .newest refl)
+fits-passes false top v f = let h = f .other refl in both (lt-ltb top v (h .0)) (le-leb v 4294967295 (h .1))
+
+-- A MOVE
+
+module _ (n v : ℕ) (N : Labelling ℕ) (k : ℕ) where
+  -- a snap for a label by the newest leaves the numbers; by another it makes v pending
+  pub newest-snapped : k ≡ newest n (stands (numbered v) N) → N ≡ relabelled n (numbered v) N (snap k)
+  unfolding relabelled pendingAfter
+  newest-snapped e = rw (eq-eqb k (newest n (stands (numbered v) N)) e) (sym (alike (λ i. refl)
+      (λ i. by-here (λ b. cond b (N true k) (N true i) ≡ N true i) k i (λ f. ap (N true) (sym f)) (λ _. refl))))
+
+  pub other-snapped : k ≢ newest n (stands (numbered v) N) → put N k v ≡ relabelled n (numbered v) N (snap k)
+  unfolding relabelled pendingAfter
+  other-snapped d = rw (ne-eqb k (newest n (stands (numbered v) N)) d) refl
+
+  -- only an update changes a current number, that of its station
+  module _ (job : ℕ) (m : Move) {N′ : Labelling ℕ} (e : N′ ≡ relabelled n (numbered v) N (labelStep (moveOf k job m))) (i : ℕ) where
+    abbrev Stays : Move → Type 0
+    Stays m = relabelled n (numbered v) N (labelStep (moveOf k job m)) false i ≡ N false i
+
+    pub current-stays : m ≢ Update → N′ false i ≡ N false i
+    unfolding relabelled
+    current-stays d = ap (λ M. M false i) e
+        ∙ by-move (λ m. m ≢ Update → Stays m) (λ x d. refl) (λ d. refl) (λ d. refl) (λ d. refl) (λ d. absurd (d refl)) (λ d. refl) (λ d. refl) (λ d. refl)
+        (λ d. refl) m d
+
+    pub current-others : i ≢ k → N′ false i ≡ N false i
+    unfolding relabelled
+    current-others d = ap (λ M. M false i) e
+        ∙ by-move Stays (λ x. refl) refl refl refl (rw (ne-eqb i k d) refl) refl refl refl refl m

@@ -1,0 +1,28 @@
+use Prim.Native.Nat.{_<_, _≤_}
+use mathlib.Core.Path.{refl}
+use native.Mathlib.Omega.{arith}
+use lib.ListN.{getD}
+use borrow.Author.Needs.{needs}
+use borrow.Author.Tests.{eq-eqb, ne-eqb, lt-ltb, le-ltb}
+use Rattle.unbounded.proofs.numbers.fits.Statement.{statement}
+use Rattle.unbounded.proofs.numbers.fits.Tie as tie
+
+returns : tie.Need-returns
+returns c = rw (eq-eqb _ _ (c .if1 .taken)) refl
+
+returns-2 : tie.Need-returns-2
+returns-2 c =
+    let start = c .before .before .before .before in
+    let top = getD (start .args .numbers .now) (start .args .z) 0 in
+    let h : start .args .v ≤ top = omega (arith, c .if2 .taken, c .before .wide .ensures) in
+    rw (ne-eqb _ _ (c .before .before .before .if1 .left), le-ltb top (start .args .v) h) refl
+
+returns-3 : tie.Need-returns-3
+returns-3 c =
+    let start = c .before .before .before .before in
+    let top = getD (start .args .numbers .now) (start .args .z) 0 in
+    let h : top < start .args .v = omega (arith, c .if2 .left, c .before .wide .ensures) in
+    rw (ne-eqb _ _ (c .before .before .before .if1 .left), lt-ltb top (start .args .v) h) refl
+
+pub fits-spec : {M : Type 1} → statement M
+fits-spec = tie.close (tie.spec returns (λ c. search needs) (λ c. search needs) (λ c κs. search needs) returns-2 returns-3)
