@@ -30,6 +30,12 @@ impl Table {
         Table { table: plain::Table::fresh(n), current: [0; MAX_STATIONS], pending: [0; MAX_STATIONS] }
     }
 
+    /// The newest station, from 1, and its number.
+    pub fn top(&self) -> (u64, u32) {
+        let newest = newest(&self.current, self.table.n);
+        (newest as u64 + 1, self.current[newest])
+    }
+
     /// A step line: how many bytes of report were written, or the refusal. If it is an accepted snap for a label, it takes the next number, which must be 0
     /// for the newest, and for any other station above the top number and below 2 to the power of 32; else the error says what is wrong.
     pub fn serve(

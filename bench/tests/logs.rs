@@ -4,7 +4,7 @@ use std::fs;
 use std::path::{Path, PathBuf};
 use std::process::Command;
 use ticket_bench::generate::{crowded, scans, schedule, stalled, Ending, Random};
-use ticket_bench::logs::{check, print, read_numbers, run};
+use ticket_bench::logs::{check, check_file, draw, print, read_numbers, run};
 use ticket_bench::numbers::{self, numbers, MAX_STEPS};
 use ticket_bench::plain::{self, LINE, REPORT_LINE};
 use ticket_bench::reports;
@@ -62,6 +62,7 @@ fn vectors(folder: &str) -> [usize; 3] {
             run(paths.each_ref().map(PathBuf::as_path), &mut printed).unwrap();
             assert!(printed == expected, "{}: {}", path.display(), printed.escape_ascii());
             let [schedule, list, report] = paths.map(|path| fs::read(path).unwrap());
+            assert!(print(check_file(&schedule, &list, &report)) == expected, "{}", path.display());
             if let Some(list) = read_numbers(&list) {
                 assert!(print(check(&schedule, &list, &report)) == expected, "{}", path.display());
             }
@@ -164,6 +165,28 @@ fn logs_of_any_schedule() {
         }
     }
     assert!(reported > 8_000_000 && refused > 150, "{reported} bytes, {refused} with refused steps");
+}
+
+/// Numbers that are drawn, and the lists by them: right, whatever the lists by labels are, which mostly differ.
+#[test]
+fn numbers_of_any_kind() {
+    let mut others = 0;
+    for n in 2..=32 {
+        for (kind, seed) in [(stalled as fn(u64, u64, u64) -> Vec<u8>, 1), (stalled, 2), (crowded, 3), (scans, 4)] {
+            let file = kind(n, 500, seed);
+            for most in [1, 3, 1_000_000] {
+                let random = &mut Random(seed);
+                let (numbers, report) = draw(&file, |top| top + 1 + random.below(most) as u32).unwrap();
+                assert_eq!(check(&file, &numbers, &report), Ok(true), "n = {n}, seed {seed}");
+                let by_labels = log(&file).1;
+                assert_eq!(check(&file, &numbers, &by_labels), Ok(by_labels == report), "n = {n}, seed {seed}");
+                others += usize::from(by_labels != report);
+            }
+        }
+    }
+    assert!(others > 80, "{others} logs have other lists than by labels");
+    assert_eq!(draw(CROSSING, |top| top + 1), Ok((vec![1, 2, 3, 3], BY_STATIONS.to_vec())));
+    assert_eq!(draw(b"", |top| top + 1), Err(8));
 }
 
 /// Every change of one byte.
