@@ -213,3 +213,19 @@ pub fn crowded(n: u64, lines: u64, seed: u64) -> Vec<u8> {
     bytes.truncate((lines as usize + 1) * LINE);
     bytes
 }
+
+/// A schedule with the longest report that so many lines can have: all stations take labels, then the first scans, over and over.
+pub fn scans(n: u64, lines: u64, seed: u64) -> Vec<u8> {
+    assert!((2..=32).contains(&n), "2 to 32 stations");
+    let mut random = Random(seed ^ n << 32);
+    let mut bytes = line(n, 0, 0).to_vec();
+    for station in 1..=n {
+        bytes.extend([line(station, 1, job(&mut random)), line(station, 3, 0), line(station, 4, 0)].as_flattened());
+    }
+    bytes.extend(line(1, 5, 0));
+    while bytes.len() <= lines as usize * LINE {
+        bytes.extend([line(1, 2, 0), line(1, 5, 0)].as_flattened());
+    }
+    bytes.truncate((lines as usize + 1) * LINE);
+    bytes
+}

@@ -1,8 +1,9 @@
-//! The yardsticks of `tickets` and `numbers`: the same programs in plain Rust, the first of them twice, and schedules to run them on; and a check of
-//! numbers. README.md says how.
+//! The yardsticks of `tickets`, `numbers` and `check_log`: the same programs in plain Rust, the first of them twice, and schedules and logs to run them
+//! on; and a check of numbers. README.md says how.
 
 pub mod expert;
 pub mod generate;
+pub mod logs;
 pub mod numbers;
 pub mod plain;
 pub mod reports;

@@ -14,12 +14,12 @@ pub const MAX_STEPS: usize = 4096;
 pub const NUMBER_LINE: usize = 12;
 
 /// A file that is read and not yet run.
-struct Reading {
-    table: Table,
+pub(crate) struct Reading {
+    pub(crate) table: Table,
     /// How many lines, the header among them.
     lines: u32,
     /// Station, code and job of each step line, as long as they are not too many.
-    steps: Vec<(u64, u64, u64)>,
+    pub(crate) steps: Vec<(u64, u64, u64)>,
     /// How many step lines have the code of a snap.
     snaps: usize,
 }
@@ -27,6 +27,27 @@ struct Reading {
 impl Reading {
     fn new() -> Reading {
         Reading { table: Table::fresh(MAX_STATIONS), lines: 0, steps: Vec::new(), snaps: 0 }
+    }
+
+    /// All of a file that may be run, or its refusal.
+    pub(crate) fn of(file: &[u8]) -> Result<Reading, u64> {
+        let mut reading = Reading::new();
+        reading.read(file)?;
+        reading.ended()
+    }
+
+    /// The same from an input, part by part.
+    pub(crate) fn of_input(input: &mut impl Read) -> io::Result<Result<Reading, u64>> {
+        let mut schedule = vec![0; LINE * 4096];
+        let mut reading = Reading::new();
+        loop {
+            let len = fill(input, &mut schedule)?;
+            match reading.read(&schedule[..len]) {
+                Ok(()) if len < schedule.len() => return Ok(reading.ended()),
+                Ok(()) => {}
+                Err(number) => return Ok(Err(number)),
+            }
+        }
     }
 
     /// Reads on; the refusal, if one ends the file.
@@ -51,11 +72,16 @@ impl Reading {
         Ok(())
     }
 
-    /// Runs what was read to its end: how many numbers were written, or the refusal.
-    fn number(mut self, list: &mut [u32]) -> Result<usize, u64> {
+    /// What was read is the whole file.
+    fn ended(self) -> Result<Reading, u64> {
         if self.lines as usize > MAX_STEPS + 1 {
             return Err(refusal::TOO_MANY_STEPS);
         }
+        Ok(self)
+    }
+
+    /// Runs the file: how many numbers were written, or the refusal.
+    fn number(mut self, list: &mut [u32]) -> Result<usize, u64> {
         if list.len() < self.snaps {
             return Err(refusal::SHORT_LIST);
         }
@@ -128,8 +154,7 @@ impl Numbers<'_> {
 
 /// Writes a number for each accepted snap for a label to the front of the list: the refusal (0 if there is none) and their count.
 pub fn numbers(file: &[u8], list: &mut [u32]) -> (u64, usize) {
-    let mut reading = Reading::new();
-    match reading.read(file).and_then(|()| reading.number(list)) {
+    match Reading::of(file).and_then(|reading| reading.number(list)) {
         Ok(count) => (0, count),
         Err(number) => (number, 0),
     }
@@ -152,18 +177,8 @@ pub fn print(refusal: u64, numbers: &[u32]) -> Vec<u8> {
 
 /// The program.
 pub fn run(input: &mut impl Read, output: &mut impl Write) -> io::Result<()> {
-    let mut schedule = vec![0; LINE * 4096];
     let mut list = [0; MAX_STEPS];
-    let mut reading = Reading::new();
-    let numbered = loop {
-        let len = fill(input, &mut schedule)?;
-        match reading.read(&schedule[..len]) {
-            Ok(()) if len < schedule.len() => break reading.number(&mut list),
-            Ok(()) => {}
-            Err(number) => break Err(number),
-        }
-    };
-    let printed = match numbered {
+    let printed = match Reading::of_input(input)?.and_then(|reading| reading.number(&mut list)) {
         Ok(count) => print(0, &list[..count]),
         Err(number) => print(number, &[]),
     };

@@ -1,5 +1,5 @@
-//! The schedule program in plain Rust, written from documents 01 and 02 (Cards 1, 2, 4 and 5) and not from the Rattle code. `numbers` and `unbounded`
-//! have their lines and steps from here.
+//! The schedule program in plain Rust, written from documents 01 and 02 (Cards 1, 2, 4 and 5) and not from the Rattle code. `numbers`, `unbounded` and
+//! `logs` have their lines and steps from here.
 
 use std::cmp::Ordering;
 use std::io::{self, Read, Write};
@@ -352,7 +352,7 @@ pub fn put(column: &mut [u8], mut number: u32) {
 }
 
 /// Reads a column: a number at the right edge with blanks before it and no needless 0.
-fn column(bytes: &[u8]) -> Result<u64, u64> {
+pub(crate) fn column(bytes: &[u8]) -> Result<u64, u64> {
     let blanks = bytes.iter().take_while(|&&b| b == b' ').count();
     let digits = &bytes[blanks..];
     if digits.is_empty() || (digits[0] == b'0' && digits.len() > 1) {

@@ -16,3 +16,8 @@ pub fn final_refusal(report: &[u8]) -> u64 {
         _ => 0,
     }
 }
+
+/// The lines of scans, without those of refusals: what a log has of a report.
+pub fn scans(report: &[u8]) -> Vec<u8> {
+    report.as_chunks().0.iter().filter(|line| numbers(line).1 == 0).flatten().copied().collect()
+}

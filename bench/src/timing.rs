@@ -36,16 +36,21 @@ fn children_cpu() -> f64 {
     (usage[0] + usage[2]) as f64 * 1e3 + (usage[1] + usage[3]) as f64 / 1e3
 }
 
-/// The time of a program, its start counted, with its input from a file.
-pub fn run(program: &Path, input: &Path, output: Stdio) -> Time {
-    let input = File::open(input).expect("the schedule");
+/// The time of a program, its start counted.
+pub fn time(command: &mut Command) -> Time {
     let cpu = children_cpu();
     let start = Instant::now();
-    let status = Command::new(program).stdin(input).stdout(output).status();
+    let status = command.status();
     let wall = start.elapsed().as_secs_f64() * 1e3;
-    let status = status.unwrap_or_else(|error| panic!("{}: {error}", program.display()));
-    assert!(status.success(), "{}: {status}", program.display());
+    let program = command.get_program().to_string_lossy();
+    let status = status.unwrap_or_else(|error| panic!("{program}: {error}"));
+    assert!(status.success(), "{program}: {status}");
     Time { wall, cpu: children_cpu() - cpu }
+}
+
+/// The time of a program with its input from a file.
+pub fn run(program: &Path, input: &Path, output: Stdio) -> Time {
+    time(Command::new(program).stdin(File::open(input).expect("the schedule")).stdout(output))
 }
 
 /// What a program prints, by way of a file.

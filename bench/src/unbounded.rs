@@ -1,4 +1,5 @@
-//! The unbounded table (document 01: growing-number table), fed with numbers in place of advances, and all that Card 6 asks of the numbers for a schedule file.
+//! The unbounded table (document 01: growing-number table), fed with numbers in place of advances, as Card 7 has them in a log too; and all that Card 6 asks of
+//! the numbers for a schedule file.
 //!
 //! It judges steps, keeps jobs, phases and service, stores results and writes them as `plain` does, in a table whose labels stay fresh. Its order comes
 //! from the numbers alone.
@@ -10,6 +11,11 @@ pub struct Table {
     table: plain::Table,
     current: [u32; MAX_STATIONS],
     pending: [u32; MAX_STATIONS],
+}
+
+/// Of equal numbers the last station's is the newest.
+fn newest(numbers: &[u32; MAX_STATIONS], n: usize) -> usize {
+    (0..n).max_by_key(|&i| numbers[i]).unwrap_or(0)
 }
 
 /// The stations, from 0, oldest first, in the first n places.
@@ -24,30 +30,39 @@ impl Table {
         Table { table: plain::Table::fresh(n), current: [0; MAX_STATIONS], pending: [0; MAX_STATIONS] }
     }
 
+    /// The newest station, from 1, and its number.
+    pub fn top(&self) -> (u64, u32) {
+        let newest = newest(&self.current, self.table.n);
+        (newest as u64 + 1, self.current[newest])
+    }
+
     /// A step line: how many bytes of report were written, or the refusal. If it is an accepted snap for a label, it takes the next number, which must be 0
-    /// for the newest and above the top number for any other station; else the error says what is wrong.
-    pub fn serve<'a>(
+    /// for the newest, and for any other station above the top number and below 2 to the power of 32; else the error says what is wrong.
+    pub fn serve(
         &mut self,
         line: u32,
         (station, code, job): (u64, u64, u64),
-        numbers: &mut impl Iterator<Item = &'a u32>,
+        numbers: &mut impl Iterator<Item = u64>,
         report: &mut [u8],
     ) -> Result<Result<usize, u64>, String> {
         let Table { table, current, pending } = self;
-        let newest = usize::from(order(current, table.n)[table.n - 1]);
-        let top = current[newest];
         let mut fits = Ok(());
         let snap = |t: &mut plain::Table, i: usize| {
             t.stations[i].phase = Phase::Update;
+            let newest = newest(current, t.n);
+            let top = current[newest];
             fits = match numbers.next() {
                 None => Err("has no number".to_string()),
                 Some(0) if i == newest => Ok(()),
                 Some(number) if i == newest => Err(format!("is by the newest and has number {number}")),
-                Some(&number) if number > top => {
-                    pending[i] = number;
-                    Ok(())
-                }
-                Some(number) => Err(format!("has number {number}, and the top number is {top}")),
+                Some(number) if number <= top.into() => Err(format!("has number {number}, and the top number is {top}")),
+                Some(number) => match u32::try_from(number) {
+                    Ok(number) => {
+                        pending[i] = number;
+                        Ok(())
+                    }
+                    Err(_) => Err(format!("has number {number}, which is too large")),
+                },
             };
         };
         let served = table.serve_by(code, station, job, |t| order(current, t.n), snap, |s| write_result(line, s, report));
@@ -79,7 +94,7 @@ pub fn check(file: &[u8], numbers: &[u32]) -> Result<(), String> {
         let (station, code, job) = read_line(bytes).map_err(ended_by)?;
         let next = left.as_slice().first();
         let mut area = [0; MAX_STATIONS * REPORT_LINE];
-        let served = table.serve(line, (station, code, job), &mut left, &mut area)?;
+        let served = table.serve(line, (station, code, job), &mut left.by_ref().map(|&number| number.into()), &mut area)?;
         let mut by_newest = None;
         let snap = |t: &mut plain::Table, i| by_newest = Some(t.snap_label(i) == i);
         let by_labels = labels.serve_by(code, station, job, plain::Table::order, snap, |s| Ok(s.shown() * REPORT_LINE));

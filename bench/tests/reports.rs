@@ -1,8 +1,8 @@
-//! What ended a file, read off its report.
+//! What ended a file, read off its report, and a report without its refusals.
 
 use ticket_bench::generate::{schedule, Ending};
 use ticket_bench::plain::run;
-use ticket_bench::reports::final_refusal;
+use ticket_bench::reports::{final_refusal, scans};
 
 fn ended_by(mut schedule: &[u8]) -> u64 {
     let mut report = Vec::new();
@@ -51,4 +51,13 @@ fn step_lines() {
     {
         assert_eq!(ended_by(&schedule(2, lines, 1, ending)), number, "{lines} lines, {ending:?}");
     }
+}
+
+#[test]
+fn refusals_struck_out() {
+    let lines =
+        ["       6  0  1  1         70\n", "       7  4  0  0          0\n", "      10 10  0  0          0\n", "      11  0  1  2          9\n"];
+    assert_eq!(scans(lines.concat().as_bytes()), [lines[0], lines[3]].concat().into_bytes());
+    assert_eq!(scans(lines[1].as_bytes()), b"");
+    assert_eq!(scans(b""), b"");
 }

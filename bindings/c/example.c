@@ -1,8 +1,9 @@
 /* Document 01's listing as direct calls with a report buffer, as direct calls with a panel, and as a schedule file. Of a refused call with a report
    buffer this prints the line that the schedule program would print; a direct call's lines bear the number 0. The second call of station 2 is refused by
    4 in all three: a scan has no snap of its own. Its scan shows station 1 alone, which has a job. Before the calls with a panel both stations have the
-   newest's label, and after them station 1 alone. Then that one is out of service for a while: a scan does not show it. Last come the numbers of another
-   file: station 2 snaps after station 1, for a label below that one's, and gets the lower number. From the root:
+   newest's label, and after them station 1 alone. Then that one is out of service for a while: a scan does not show it. Next come the numbers of another
+   file: station 2 snaps after station 1, for a label below that one's, and gets the lower number. Last are logs of that file: with these numbers and its
+   report, with others that are in another order, with these and the scan in that order, and one that is cut short. From the root:
    rt staticlib exports && cc -Wall -Wextra -O2 bindings/c/example.c target/staticlib/libexports.a -o /tmp/example && /tmp/example */
 #include <inttypes.h>
 #include <stdio.h>
@@ -30,7 +31,7 @@ static const char file[] =
     "  2  5          0\n"
     "  3  3          0\n";
 
-/* Stations 2 and 3 take labels. Then 1 and 2 snap before either updates. */
+/* Stations 2 and 3 take labels. Then 1 and 2 snap before either updates, and 3 scans. */
 static const char crossing[] =
     "  3  0          0\n"
     "  2  1         70\n"
@@ -46,7 +47,15 @@ static const char crossing[] =
     "  2  1         73\n"
     "  2  3          0\n"
     "  1  4          0\n"
-    "  2  4          0\n";
+    "  2  4          0\n"
+    "  3  2          0\n"
+    "  3  5          0\n";
+
+/* Its scan if 1 and 2 had one number: the lower station first. */
+static const char shared_number[] =
+    "      17  0  1  3         71\n"
+    "      17  0  2  1         72\n"
+    "      17  0  3  2         73\n";
 
 /* Prints how many stations a scan of station 2 shows, or what one of its steps is refused by. */
 static void print_shown(struct tickets_board *board) {
@@ -64,6 +73,15 @@ static void print_shown(struct tickets_board *board) {
 static void print_holders(const struct tickets_board *board) {
     struct tickets_holders told = tickets_board_top_holders(board);
     printf("stations with the newest's label: %" PRIu64 "\n", told.stations);
+}
+
+/* Prints whether a log of the file with the crossing, or of its first bytes, is right, or what refuses it. */
+static void print_verdict(const char *what, size_t len, const uint64_t *numbers, size_t numbers_len, const uint8_t *report, size_t report_len) {
+    struct tickets_verdict verdict = tickets_check_log((const uint8_t *)crossing, len, numbers, numbers_len, report, report_len);
+    if (verdict.refusal == 0)
+        printf("log, %s: %s\n", what, verdict.right ? "right" : "wrong");
+    else
+        printf("log, %s: refused by %" PRIu64 "\n", what, verdict.refusal);
 }
 
 int main(void) {
@@ -108,5 +126,18 @@ int main(void) {
     for (uint64_t at = 0; at < answer.written; at++)
         printf("number: %" PRIu32 "\n", numbers[at]);
     printf("numbers in a list of 3: refused by %" PRIu64 "\n", tickets_numbers((const uint8_t *)crossing, sizeof crossing - 1, numbers, 3).refusal);
+    const size_t len = sizeof crossing - 1, count = answer.written;
+    uint64_t logged[TICKETS_MAX_STEPS] = {0};
+    for (size_t at = 0; at < count; at++)
+        logged[at] = numbers[at];
+    static uint8_t scans[TICKETS_REPORT_ROOM(sizeof crossing - 1)];
+    answer = tickets_report((const uint8_t *)crossing, len, scans, sizeof scans);
+    if (answer.refusal != 0)
+        return 1;
+    print_verdict("its numbers, its scan", len, logged, count, scans, answer.written);
+    const uint64_t others[] = {1, 2, 3, 3};
+    print_verdict("other numbers, its scan", len, others, 4, scans, answer.written);
+    print_verdict("other numbers, the scan by these", len, others, 4, (const uint8_t *)shared_number, sizeof shared_number - 1);
+    print_verdict("cut short", len - 1, logged, count, scans, answer.written);
     return 0;
 }

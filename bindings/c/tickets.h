@@ -5,8 +5,8 @@
    call. A caller owes:
    - the board, the buffers, the panels and the lists are memory of the caller's that has been written, with whatever bytes (`= {0}` will do for a new
      board);
-   - a pointer to each that is not null, also to a buffer, a panel or a list of length 0, and a report buffer, a panel or a list that overlaps neither the
-     board nor the schedule;
+   - a pointer to each that is not null, also to a buffer, a panel or a list of length 0, and a report buffer, a panel or a list to be written that overlaps
+     neither the board nor the schedule;
    - until a call returns, no other thread touches them.
    That this header declares what the library exports is not proved; the assertions below hold its layout. */
 #ifndef TICKETS_H
@@ -17,7 +17,7 @@
 #include <stdint.h>
 
 enum { TICKETS_MAX_STATIONS = 32, TICKETS_MAX_DIGITS = 31, TICKETS_LINE = 18, TICKETS_REPORT_LINE = 29 };
-/* The most step lines of a schedule whose snaps are numbered; a list of so many entries is long enough for any. */
+/* The most step lines of a schedule whose snaps are numbered, or of a log; a list of so many entries is long enough for any. */
 enum { TICKETS_MAX_STEPS = 4096 };
 
 /* The steps of a call. A label operation is begin, snap, update, end. A scan is two: TICKETS_SCAN begins it and snaps, TICKETS_END ends it.
@@ -50,7 +50,7 @@ enum {
     TICKETS_BAD_BOARD = 13,      /* a board that is no well-formed table */
     TICKETS_OUT_OF_SERVICE = 14, /* a begin or a leave, and the station is out of service */
     TICKETS_IN_SERVICE = 15,     /* a return, and the station is in service */
-    TICKETS_TOO_MANY_STEPS = 16, /* more than TICKETS_MAX_STEPS step lines to number */
+    TICKETS_TOO_MANY_STEPS = 16, /* more than TICKETS_MAX_STEPS step lines to number, or in a log */
     TICKETS_SHORT_LIST = 17      /* fewer entries than step lines with the code of a snap */
 };
 
@@ -103,6 +103,14 @@ struct tickets_holders {
 
 static_assert(sizeof(struct tickets_holders) == 16, "two words");
 
+/* 0, or the refusal; and 1 if the log is right, else 0. */
+struct tickets_verdict {
+    uint64_t refusal;
+    uint64_t right;
+};
+
+static_assert(sizeof(struct tickets_verdict) == 16, "two words");
+
 /* The exported functions, on the arrays. */
 uint64_t tickets_fresh(uint64_t count, uint8_t (*labels)[TICKETS_MAX_STATIONS][TICKETS_MAX_DIGITS], uint32_t (*jobs)[TICKETS_MAX_STATIONS],
     uint8_t (*control)[TICKETS_MAX_STATIONS], uint32_t (*results)[2][TICKETS_MAX_STATIONS]);
@@ -128,6 +136,14 @@ struct tickets_answer tickets_report(const uint8_t *schedule, size_t schedule_le
    equal ones allowed. Refused, before any step is run, is a file that a refusal ends, by the first that does: 8, 9, 10, 1 or 11 of its header, 8, 9 or 12
    of a step line; then by TICKETS_TOO_MANY_STEPS; then by TICKETS_SHORT_LIST, for which refused lines count too. A refusal writes nothing. */
 struct tickets_answer tickets_numbers(const uint8_t *schedule, size_t schedule_len, uint32_t *numbers, size_t numbers_len);
+
+/* Checks a log: a schedule file, the numbers of its snaps and the report of its scans. It is right just if the unbounded table, taken through the file with
+   these numbers, finds one for each snap for a label that it accepts and none left over, 0 where it has the station as the newest already, else above its
+   top number and at most 4294967295; and if the report is its scans, byte for byte, with the file's line numbers. Refused steps have neither a number nor
+   a line. Any numbers that will do are right, those of tickets_numbers among them. A refusal says nothing of the log: the first that ends the file, as
+   above, then TICKETS_TOO_MANY_STEPS. Nothing is written, so the three may overlap. */
+struct tickets_verdict tickets_check_log(const uint8_t *schedule, size_t schedule_len, const uint64_t *numbers, size_t numbers_len, const uint8_t *report,
+    size_t report_len);
 
 /* Makes the board a fresh table of `count` stations, which are in service and have no job and whose scan results are empty; TICKETS_BAD_COUNT leaves it
    as it is. */

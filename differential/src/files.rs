@@ -138,6 +138,11 @@ pub fn numbered(seed: u64, index: u64) -> Vec<u8> {
     any(source(seed, 6, index), index, 8, 128)
 }
 
+/// The schedule of a log, of the same kind.
+pub fn logged(seed: u64, index: u64) -> Vec<u8> {
+    any(source(seed, 9, index), index, 8, 128)
+}
+
 /// One file in so many is long, or very long.
 fn any(mut random: Random, index: u64, long_in: u64, very_long_in: u64) -> Vec<u8> {
     let random = &mut random;

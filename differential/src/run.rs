@@ -3,7 +3,8 @@
 use crate::boards;
 use crate::calls::{noise, Call, Lent, Session};
 use crate::draw::{source, Step};
-use crate::files::{file, numbered};
+use crate::files::{file, logged, numbered};
+use crate::logs::{log, numbers_file, Log};
 use std::fmt::Debug;
 use std::fs::{self, File};
 use std::io;
@@ -11,8 +12,8 @@ use std::process::{Command, Stdio};
 use ticket_bench::generate::{crowded, schedule, stalled, Ending, Random};
 use ticket_bench::plain::{self, refusal, Record, Table, LINE, MAX_STEPS};
 use ticket_bench::reports::{self, final_refusal};
-use ticket_bench::{numbers, unbounded};
-use tickets::{Answer, Board, Holders};
+use ticket_bench::{logs, numbers, unbounded};
+use tickets::{Answer, Board, Holders, Verdict};
 
 /// How often each refusal number was the plain program's answer, 0 for a call or a report line that is not refused.
 pub struct Counts {
@@ -212,17 +213,23 @@ pub enum Kind {
     Crowded,
 }
 
+/// A file at the limits, and its number of stations.
+fn at_limit(seed: u64, index: u64, kind: Kind, lines: u64) -> (u64, Vec<u8>) {
+    let n = 2 + (seed + 7 * index) % 31;
+    let bytes = match kind {
+        Kind::Mixed(ending) => schedule(n, lines, seed, ending),
+        Kind::Stalled => stalled(n, lines, seed),
+        Kind::Crowded => crowded(n, lines, seed),
+    };
+    (n, bytes)
+}
+
 /// The files at the limits, and so many others. What was counted, by the plain program's answers, and the highest number.
 pub fn numbers(seed: u64, files: u64, program: Option<&str>) -> Result<(Counts, u32), String> {
     let mut counts = Counts::new(if program.is_none() { &[0, 1, 8, 9, 10, 11, 12, 16, 17] } else { &[0, 1, 8, 9, 10, 11, 12, 16] });
     let mut most = 0;
     for (index, (kind, lines)) in (0..).zip(LIMITS) {
-        let n = 2 + (seed + 7 * index) % 31;
-        let bytes = match kind {
-            Kind::Mixed(ending) => schedule(n, lines, seed, ending),
-            Kind::Stalled => stalled(n, lines, seed),
-            Kind::Crowded => crowded(n, lines, seed),
-        };
+        let (n, bytes) = at_limit(seed, index, kind, lines);
         let highest = check_numbers(program, &bytes, source(seed, 7, index), &mut counts)
             .map_err(|what| format!("seed {seed}, numbers of a file of {n} stations and {lines} lines, {kind:?}: {what}"))?;
         most = most.max(highest);
@@ -234,6 +241,82 @@ pub fn numbers(seed: u64, files: u64, program: Option<&str>) -> Result<(Counts, 
         most = most.max(highest);
     }
     Ok((counts, most))
+}
+
+/// What was answered of logs: by refusal number, and how many are right and how many wrong.
+pub struct LogCounts {
+    pub refusals: Counts,
+    pub right: u64,
+    pub wrong: u64,
+}
+
+impl LogCounts {
+    fn add(&mut self, answer: Result<bool, u64>) {
+        self.refusals.add(answer.err().unwrap_or(0));
+        self.right += u64::from(answer == Ok(true));
+        self.wrong += u64::from(answer == Ok(false));
+    }
+
+    /// Prints the counts; fails if an answer that can be given was not.
+    pub fn show(&self) -> Result<(), String> {
+        self.refusals.show("logs")?;
+        println!("logs that are right: {}, wrong: {}", self.right, self.wrong);
+        if self.right == 0 || self.wrong == 0 {
+            return Err("logs: only one of right and wrong was reached".to_string());
+        }
+        Ok(())
+    }
+}
+
+/// A log by both sides: the answer, and that the log stays as it is.
+fn check_library_log(log: &Log, counts: &mut LogCounts) -> Result<(), String> {
+    let Log { schedule, numbers, report } = log.clone();
+    let expected = logs::check(&schedule, &numbers, &report);
+    counts.add(expected);
+    let answer = tickets::verdict(&log.schedule, &log.numbers, &log.report);
+    same("answer", &answer, &Verdict { refusal: expected.err().unwrap_or(0), right: u64::from(expected == Ok(true)) })
+        .and_then(|()| same_bytes("schedule after the call", &log.schedule, &schedule))
+        .and_then(|()| same("numbers after the call", &log.numbers, &numbers))
+        .and_then(|()| same_bytes("report after the call", &log.report, &report))
+}
+
+/// What the program prints of a log in three files.
+fn check_log_program(program: &str, log: &Log, mut random: Random, counts: &mut LogCounts) -> Result<(), String> {
+    let numbers = numbers_file(&mut random, &log.numbers);
+    let expected = logs::check_file(&log.schedule, &numbers, &log.report);
+    counts.add(expected);
+    let printed = || -> io::Result<Vec<u8>> {
+        let paths =
+            ["schedule", "numbers", "report"].map(|part| std::env::temp_dir().join(format!("ticket-differential-{}-{part}", std::process::id())));
+        paths.iter().zip([&log.schedule, &numbers, &log.report]).try_for_each(|(path, bytes)| fs::write(path, bytes))?;
+        let output = Command::new(program).args(&paths).stderr(Stdio::inherit()).output()?;
+        paths.iter().try_for_each(fs::remove_file)?;
+        output.status.success().then_some(output.stdout).ok_or_else(|| io::Error::other(output.status.to_string()))
+    };
+    let printed = printed().map_err(|error| format!("{program}: {error}"))?;
+    same_bytes("what is printed", &printed, &logs::print(expected)).map_err(|what| format!("numbers {}\n{what}", numbers.escape_ascii()))
+}
+
+/// Logs of the files at the limits, and so many others.
+pub fn logs(seed: u64, logs: u64, program: Option<&str>) -> Result<LogCounts, String> {
+    let mut counts = LogCounts { refusals: Counts::new(&[0, 1, 8, 9, 10, 11, 12, 16]), right: 0, wrong: 0 };
+    let mut check = |log: &Log, random: Random| match program {
+        None => check_library_log(log, &mut counts),
+        Some(program) => check_log_program(program, log, random, &mut counts),
+    };
+    for (index, (kind, lines)) in (0..).zip(LIMITS) {
+        let (n, bytes) = at_limit(seed, index, kind, lines);
+        check(&log(seed, index, bytes), source(seed, 11, index))
+            .map_err(|what| format!("seed {seed}, log of a file of {n} stations and {lines} lines, {kind:?}: {what}"))?;
+    }
+    for index in (LIMITS.len() as u64..).take(logs as usize) {
+        let log = log(seed, index, logged(seed, index));
+        check(&log, source(seed, 11, index)).map_err(|what| {
+            let Log { schedule, numbers, report } = &log;
+            format!("seed {seed}, log {index}:\n{}\n{numbers:?}\n{}\n{what}", schedule.escape_ascii(), report.escape_ascii())
+        })?;
+    }
+    Ok(counts)
 }
 
 /// What a panel holds before a call: numbers of any length.

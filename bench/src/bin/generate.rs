@@ -1,10 +1,10 @@
-//! generate N LINES SEED [incomplete | column | one-more | stalled | crowded]: a schedule on standard output.
+//! generate N LINES SEED [incomplete | column | one-more | stalled | crowded | scans]: a schedule on standard output.
 
 use std::io::Write;
-use ticket_bench::generate::{crowded, schedule, stalled, Ending};
+use ticket_bench::generate::{crowded, scans, schedule, stalled, Ending};
 
 fn usage() -> ! {
-    eprintln!("generate N LINES SEED [incomplete | column | one-more | stalled | crowded]");
+    eprintln!("generate N LINES SEED [incomplete | column | one-more | stalled | crowded | scans]");
     std::process::exit(2);
 }
 
@@ -19,6 +19,7 @@ fn main() -> std::io::Result<()> {
         Some("one-more") => schedule(n, lines, seed, Ending::OneMore),
         Some("stalled") => stalled(n, lines, seed),
         Some("crowded") => crowded(n, lines, seed),
+        Some("scans") => scans(n, lines, seed),
         Some(_) => usage(),
     };
     std::io::stdout().lock().write_all(&bytes)

@@ -1,8 +1,9 @@
 //! Document 01's listing as direct calls with a report buffer, as direct calls with a panel, and as a schedule file. Of a refused call with a report
 //! buffer this prints the line that the schedule program would print; a direct call's lines bear the number 0. The second call of station 2 is refused by
 //! 4 in all three: a scan has no snap of its own. Its scan shows station 1 alone, which has a job. Before the calls with a panel both stations have the
-//! newest's label, and after them station 1 alone. Then that one is out of service for a while: a scan does not show it. Last come the numbers of another
-//! file: station 2 snaps after station 1, for a label below that one's, and gets the lower number.
+//! newest's label, and after them station 1 alone. Then that one is out of service for a while: a scan does not show it. Next come the numbers of another
+//! file: station 2 snaps after station 1, for a label below that one's, and gets the lower number. Last are logs of that file: with these numbers and its
+//! report, with others that are in another order, with these and the scan in that order, and one that is cut short.
 
 use std::io::{self, Write};
 use tickets::{code, Board, Record, MAX_STATIONS, MAX_STEPS, REPORT_LINE};
@@ -29,7 +30,7 @@ const FILE: &[u8] = b"  2  0          0
   3  3          0
 ";
 
-/// Stations 2 and 3 take labels. Then 1 and 2 snap before either updates.
+/// Stations 2 and 3 take labels. Then 1 and 2 snap before either updates, and 3 scans.
 const CROSSING: &[u8] = b"  3  0          0
   2  1         70
   2  3          0
@@ -45,7 +46,23 @@ const CROSSING: &[u8] = b"  3  0          0
   2  3          0
   1  4          0
   2  4          0
+  3  2          0
+  3  5          0
 ";
+
+/// Its scan if 1 and 2 had one number: the lower station first.
+const SHARED_NUMBER: &[u8] = b"      17  0  1  3         71
+      17  0  2  1         72
+      17  0  3  2         73
+";
+
+/// Whether a log is right, or what refuses it.
+fn verdict(schedule: &[u8], numbers: &[u64], report: &[u8]) -> String {
+    match tickets::check_log(schedule, numbers, report) {
+        Ok(right) => if right { "right" } else { "wrong" }.to_string(),
+        Err(refusal) => format!("refused by {refusal}"),
+    }
+}
 
 /// How many stations a scan of station 2 shows.
 fn shown(board: &mut Board) -> usize {
@@ -93,5 +110,11 @@ fn main() -> io::Result<()> {
     for number in &list[..count] {
         writeln!(out, "number: {number}")?;
     }
-    writeln!(out, "numbers in a list of 3: refused by {}", tickets::numbers(CROSSING, &mut list[..3]).refusal)
+    writeln!(out, "numbers in a list of 3: refused by {}", tickets::numbers(CROSSING, &mut list[..3]).refusal)?;
+    let numbers: Vec<u64> = list[..count].iter().map(|&number| number.into()).collect();
+    let (scan, _) = tickets::report(CROSSING);
+    writeln!(out, "log, its numbers, its scan: {}", verdict(CROSSING, &numbers, &scan))?;
+    writeln!(out, "log, other numbers, its scan: {}", verdict(CROSSING, &[1, 2, 3, 3], &scan))?;
+    writeln!(out, "log, other numbers, the scan by these: {}", verdict(CROSSING, &[1, 2, 3, 3], SHARED_NUMBER))?;
+    writeln!(out, "log, cut short: {}", verdict(&CROSSING[..CROSSING.len() - 1], &numbers, &scan))
 }

@@ -1,5 +1,5 @@
-//! The ticket table, the schedule program and the numbers of a schedule for Rust programs: a safe wrapper of the proved library `libexports.a`, whose
-//! functions ask nothing of their caller.
+//! The ticket table, the schedule program, the numbers of a schedule and the check of logs for Rust programs: a safe wrapper of the proved library
+//! `libexports.a`, whose functions ask nothing of their caller.
 //!
 //! That the declarations here are those of the library is not proved; the assertions below hold the layout, and `tests/` runs the library.
 
@@ -10,7 +10,7 @@ pub const MAX_DIGITS: usize = MAX_STATIONS - 1;
 /// Bytes of a schedule line and of a report line.
 pub const LINE: usize = 18;
 pub const REPORT_LINE: usize = 29;
-/// The most step lines of a schedule whose snaps are numbered; a list of so many entries is long enough for any.
+/// The most step lines of a schedule whose snaps are numbered, or of a log; a list of so many entries is long enough for any.
 pub const MAX_STEPS: usize = 4096;
 
 /// The steps of a call. A label operation is begin, snap, update, end. A scan is two: `SCAN` begins it and snaps, `END` ends it. By `LEAVE_SERVICE` an idle
@@ -56,7 +56,7 @@ pub mod refusal {
     pub const OUT_OF_SERVICE: u64 = 14;
     /// A return, and the station is in service.
     pub const IN_SERVICE: u64 = 15;
-    /// More than 4,096 step lines to number.
+    /// More than 4,096 step lines to number, or in a log.
     pub const TOO_MANY_STEPS: u64 = 16;
     /// A list for numbers with fewer entries than there are step lines with the code of a snap.
     pub const SHORT_LIST: u64 = 17;
@@ -125,6 +125,14 @@ pub struct Holders {
     pub stations: u64,
 }
 
+/// What is told of a log: the number of the refusal, 0 for none, and 1 if the log is right, else 0.
+#[repr(C)]
+#[derive(Clone, Copy, PartialEq, Eq, Debug)]
+pub struct Verdict {
+    pub refusal: Refusal,
+    pub right: u64,
+}
+
 // No padding, so every byte is a number's; the C header has the same layout.
 const _: () = {
     assert!(offset_of!(Board, jobs) == 8);
@@ -134,6 +142,7 @@ const _: () = {
     assert!(size_of::<Board>() == 10_504 && align_of::<Board>() == 8);
     assert!(size_of::<Answer>() == 16 && align_of::<Answer>() == 8);
     assert!(size_of::<Holders>() == 16 && align_of::<Holders>() == 8);
+    assert!(size_of::<Verdict>() == 16 && align_of::<Verdict>() == 8);
     assert!(size_of::<Record>() == 12 && align_of::<Record>() == 4);
 };
 
@@ -166,6 +175,14 @@ extern "C" {
     fn tickets_top_holders(count: u64, labels: &Labels, jobs: &Jobs, control: &Control, results: &Results) -> Holders;
     fn tickets_report(schedule: *const u8, schedule_len: usize, report: *mut u8, report_len: usize) -> Answer;
     fn tickets_numbers(schedule: *const u8, schedule_len: usize, numbers: *mut u32, numbers_len: usize) -> Answer;
+    fn tickets_check_log(
+        schedule: *const u8,
+        schedule_len: usize,
+        numbers: *const u64,
+        numbers_len: usize,
+        report: *const u8,
+        report_len: usize,
+    ) -> Verdict;
 }
 
 /// Writes the report of a whole schedule file to the front of a buffer; what stands past it stays.
@@ -207,6 +224,26 @@ pub fn numbers(schedule: &[u8], list: &mut [u32]) -> Answer {
     // SAFETY: the function is declared as the library exports it; it takes any bytes, and writes at most `list.len()` numbers to the list, which does not
     // overlap the schedule.
     unsafe { tickets_numbers(schedule.as_ptr(), schedule.len(), list.as_mut_ptr(), list.len()) }
+}
+
+/// Whether a log is right: a schedule file, the numbers of its snaps and the report of its scans; or the refusal.
+///
+/// It is right just if the unbounded table, taken through the file with these numbers, finds one for each snap for a label that it accepts and none left
+/// over, 0 where it has the station as the newest already, else above its top number and at most 4,294,967,295; and if the report is its scans, byte for
+/// byte, with the file's line numbers. Refused steps have neither a number nor a line. Any numbers that will do are right, those of `numbers` among them.
+///
+/// Refused is a file that a refusal ends, by the first that does, as by `numbers`; then one of more than 4,096 step lines, by 16.
+pub fn check_log(schedule: &[u8], numbers: &[u64], report: &[u8]) -> Result<bool, Refusal> {
+    match verdict(schedule, numbers, report) {
+        Verdict { refusal: 0, right } => Ok(right != 0),
+        Verdict { refusal, .. } => Err(refusal),
+    }
+}
+
+/// `check_log` with the answer as it stands.
+pub fn verdict(schedule: &[u8], numbers: &[u64], report: &[u8]) -> Verdict {
+    // SAFETY: the function is declared as the library exports it; it takes any bytes and any numbers, and writes nothing.
+    unsafe { tickets_check_log(schedule.as_ptr(), schedule.len(), numbers.as_ptr(), numbers.len(), report.as_ptr(), report.len()) }
 }
 
 impl Board {
