@@ -53,7 +53,7 @@ number-back b h = eqb-true _ b (every-at 5 (λ k. eqb (phaseNumber (phaseFor k))
     all = unfold every in refl
 
 -- every number stands for a phase that a table keeps
-number-kept : (b : ℕ) → Kept (phaseFor b)
+pub number-kept : (b : ℕ) → Kept (phaseFor b)
 number-kept b = either (eqb b 0) Idle _ tt (either (eqb b 1) (Snap Label) _ tt (either (eqb b 2) Update _ tt (either (eqb b 3) (End Label) (End Scan) tt tt)))
   where
     either : (t : Bool) (p q : Phase) → Kept p → Kept q → Kept (cond t p q)
@@ -111,6 +111,9 @@ module _ (n : ℕ) (high : n ≤ 32) (o : Rest) (w : WritableRest n o) where
     };
     result = λ i. result-at i y;
   }
+
+  pub held-phases : {jobs control : Rows} {results : Planes} → Holds o jobs control results → (i : ℕ) → cell control 0 i 0 ≤ 4
+  held-phases h i = omega (arith, ap (λ (c : Rows). cell c 0 i 0) (h .control), phase-at i, phase-low (o .process i .phase))
 
   pub rest-held : {jobs control : Rows} {results : Planes} → Holds o jobs control results → restIn n jobs control results ≡ o
   rest-held h = (λ y. restIn n (h .jobs y) (h .control y) (h .results y)) ∙ rest-back

@@ -1,0 +1,78 @@
+-- The unbounded table in arrays: numbers in two planes, and beside them the arrays that a table of labels has (01, "The growing-number table"; 02, Card 7).
+use Prim.Native.Nat.{ℕ, _+_, _≤_, _<_}
+use mathlib.Core.Path.{_≡_}
+use mathlib.Core.Bool.{true, false}
+use mathlib.Core.List as Lists
+use mathlib.Core.List.{[]}
+use lib.ListN.{length, getD, drop}
+use Rattle.basics.specs.Tests.{newest, All}
+use Rattle.simulation.specs.Calls.{Call, Buffer, Entry, Rest, judge, bytesOf, reportLines}
+use Rattle.simulation.specs.Machine.{original, Labelling, stands, labelStep, labelSnap, freshRest, State, Answer, step, snapsOf}
+use Rattle.simulation.specs.Numbered.{numbered}
+use Rattle.transition.specs.Logs.{fitsNext}
+use Rattle.moves.specs.Moves.{moveOf}
+use Rattle.moves.specs.declared.Move.{Move}
+use Rattle.moves.specs.declared.Move.the-variants.{SnapLabel}
+use Rattle.arrays.specs.Arrays.{Rows, Planes, entriesIn, restIn, Holds}
+use Rattle.arrays.specs.Planes.{beside}
+use Rattle.engine.specs.Contracts.{Named}
+use Rattle.unbounded.specs.Numbers.{orderBy}
+use Rattle.unbounded.specs.declared.Given.{Given}
+use Rattle.unbounded.specs.declared.Turn.{Turn}
+
+-- a table of `count` stations
+pub record Table : Type 0 where
+  pub count : ℕ
+  pub numbers : Rows
+  pub jobs : Rows
+  pub control : Rows
+  pub results : Planes
+
+abbrev pub table : ℕ → Rows → Rows → Rows → Planes → Table
+table n v j c r = record { count = n; numbers = v; jobs = j; control = c; results = r }
+
+-- the state that it holds
+abbrev pub restOf : Table → Rest
+restOf t = restIn (t .count) (t .jobs) (t .control) (t .results)
+
+abbrev pub stateOf : Table → State ℕ
+stateOf t = record { labels = beside (t .numbers); rest = restOf t }
+
+-- a table that calls can lead to, with its scan order: the arrays hold its rest and nothing else, past the last station all is fresh, and results name
+-- stations
+pub record Runnable (t : Table) (order : Lists.List ℕ) : Type 0 where
+  pub low : 2 ≤ t .count
+  pub high : t .count ≤ 32
+  pub holds : Holds (restOf t) (t .jobs) (t .control) (t .results)
+  pub past : (i : ℕ) → t .count ≤ i → (restOf t .process i ≡ freshRest .process i) × (restOf t .result i ≡ freshRest .result i)
+  pub named : (i : ℕ) → All (λ (e : Entry). e .station ≤ t .count) (restOf t .result i)
+  pub isOrder : order ≡ orderBy (t .count) (getD (t .numbers) 0 [])
+
+-- what a move of station k is given, where z is the newest and these are the current numbers; the first `used` of the numbers of the log are used up
+pub record GivenTo (m : Move) (k z : ℕ) (current log : Lists.List ℕ) (used : ℕ) (r : Given) : Type 0 where
+  pub passes : (n job : ℕ) (N : Labelling ℕ) → N false ≡ (λ i. getD current i 0) → z ≡ newest n (stands (numbered 0) N)
+      → r .fits ≡ fitsNext n N (labelStep (moveOf k job m)) (drop used log)
+  pub next : r .fits ≡ true → m ≡ SnapLabel → r .number ≡ getD (drop used log) 0 0
+  pub counted : r .fits ≡ true → (job : ℕ) → r .taken ≡ labelSnap (labelStep (moveOf k job m))
+  pub inside : used + r .taken ≤ length log
+
+-- what the machine answers to a call with the first of the numbers left
+abbrev pub answered : Table → Call → Lists.List ℕ → Answer ℕ
+answered t c ns = step original (t .count) (numbered (getD ns 0 0)) (stateOf t) c
+
+-- a call with room for a whole scan result, where the first `used` of the numbers are used up: whether the next number fits. If it does, the table left
+-- holds the state that the machine comes to, and the numbers used up and the entries handed out are told; if not, nothing has changed.
+pub record Served (t : Table) (c : Call) (given : Lists.List ℕ) (used : ℕ) (t′ : Table) (r : Turn) : Type 0 where
+  pub state : stateOf t′ ≡ answered t c (drop used given) .state
+  pub counted : r .used ≡ used + snapsOf original (t .count) (stateOf t) c
+  pub inside : r .used ≤ length given
+  pub place : r .place < 32
+  pub few : r .entries ≤ 32
+  pub named : Named (r .entries) (getD (t′ .results) (r .place) [])
+  pub report : bytesOf (answered t c (drop used given) .report)
+      ≡ reportLines (c .line) 1 (entriesIn (r .entries) (getD (t′ .results) (r .place) []))
+
+pub record Turns (t : Table) (c : Call) (given : Lists.List ℕ) (used : ℕ) (t′ : Table) (r : Turn) : Type 0 where
+  pub fits : r .fits ≡ fitsNext (t .count) (beside (t .numbers)) (labelStep (judge false (t .count) (restOf t) c)) (drop used given)
+  pub served : r .fits ≡ true → Served t c given used t′ r
+  pub kept : r .fits ≡ false → t′ ≡ t
