@@ -5,11 +5,10 @@ use native.Mathlib.Nat.{add-zero}
 use native.Mathlib.Omega.{arith}
 use mathlib.Core.Path.{_≡_, refl, sym, ap, ap₂, subst, _∙_}
 use mathlib.Core.Logic.{_≢_}
-use mathlib.Core.Bool.{Bool, true, false, cond}
+use mathlib.Core.Bool.{true, false}
 use mathlib.Core.List.{List, [], _∷_, _++_, map, map-id, map-append, append-nil}
 use lib.ListN.{length, length-map, getD, take, drop, set, drop-of-length-le, take-append-drop, List·getD-map}
 use lib.Seq.{length-take-le, take-suc, drop-cons, append-snoc, take-all, set-at, getD-at}
-use lib.Dec.{eqb}
 use borrow.Author.Tests.{eq-eqb, ne-eqb}
 use Rattle.simulation.specs.Machine.{Labelling, put, snap}
 use Rattle.simulation.specs.Numbering.{through, bump, Slot, number, shift, besideOnly, placed}

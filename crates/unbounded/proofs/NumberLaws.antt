@@ -1,26 +1,25 @@
 -- Laws of the order by numbers, and of what a move does to them.
-use Prim.Native.Nat.{ℕ, suc, _+_, _-_, _≤_, _<_}
-use native.Mathlib.Numerals.{add-one}
+use Prim.Native.Nat.{ℕ, _+_, _-_, _≤_, _<_}
 use native.Mathlib.Omega.{arith}
 use mathlib.Core.Path.{_≡_, refl, sym, ap, ap₂, _∙_, fun-ext}
 use mathlib.Core.Logic.{_≢_, _⊎_, inl, inr}
 use mathlib.Core.Bool.{Bool, true, false, _&&_, cond}
-use mathlib.Core.List.{List, [], _∷_, _++_}
-use lib.ListN.{length, getD, set, take, drop, replicate}
+use mathlib.Core.List.{List, [], _++_}
+use lib.ListN.{length, getD, set, take, replicate}
 use lib.Seq.{getD-take}
 use lib.Dec.{eqb, ltb, leb}
 use borrow.Author.Tests.{eqb-true, ltb-true, leb-true, lt-ltb, le-ltb, le-leb, eq-eqb, ne-eqb}
 use Rattle.basics.specs.Tests.{newest, inserted, ordered}
-use Rattle.basics.proofs.Facts.{tf, both, and-both, by-here, all-at, ordered-all, ordered-length}
+use Rattle.basics.proofs.Facts.{tf, both, and-both, by-here, ordered-length}
 use Rattle.label.proofs.Digits.{Tri, lt, eq, gt, compare}
 use Rattle.label.proofs.Total.{Total}
 use Rattle.rows.proofs.OrderLaws.{putIn, inserted-at, shift-starts, shift-ends, listed-below, orderIn, order-front, order-turns, Displaced, last-newest}
-use Rattle.simulation.specs.Machine.{Labelling, numberBefore, stands, put, copy, pendingAfter, labelStep, stay, snap, update, relabelled}
+use Rattle.simulation.specs.Machine.{Labelling, numberBefore, stands, put, pendingAfter, labelStep, snap, relabelled}
 use Rattle.simulation.specs.Numbered.{numbered, Fit}
 use Rattle.simulation.proofs.Sync.{number-less, number-more, number-same}
 use Rattle.moves.specs.Moves.{moveOf}
 use Rattle.moves.specs.declared.Move.{Move}
-use Rattle.moves.specs.declared.Move.the-variants.{SnapLabel, Update}
+use Rattle.moves.specs.declared.Move.the-variants.{Update}
 use Rattle.moves.proofs.MoveLaws.{by-move}
 use Rattle.arrays.specs.Arrays.{Rows}
 use Rattle.arrays.specs.Planes.{beside}
@@ -163,3 +162,13 @@ module _ (n v : ℕ) (N : Labelling ℕ) (k : ℕ) where
     unfolding relabelled
     current-others d = ap (λ M. M false i) e
         ∙ by-move Stays (λ x. refl) refl refl refl (rw (ne-eqb i k d) refl) refl refl refl refl m
+
+-- an order kept through a move: it is still the one by the current plane, or, after an update, was so before the station got its number
+module _ (n v k job : ℕ) (m : Move) (numbers numbers′ : Rows)
+    (e : beside numbers′ ≡ relabelled n (numbered v) (beside numbers) (labelStep (moveOf k job m))) where
+  pub order-stays : m ≢ Update → orderBy n (getD numbers 0 []) ≡ orderBy n (getD numbers′ 0 [])
+  order-stays d = ap (λ u. ordered n (λ i j. numberBefore (u i) i (u j) j) ++ replicate (32 - n) 0)
+      (fun-ext (λ i. sym (current-stays n v (beside numbers) k job m e i d)))
+
+  pub order-before : {order : List ℕ} → order ≡ orderBy n (getD numbers 0 []) → NumberedBefore n (getD numbers′ 0 []) k order
+  order-before l = record { old = getD numbers 0 []; others = λ i h d. sym (current-others n v (beside numbers) k job m e i d); listed = l }

@@ -1,4 +1,3 @@
-use mathlib.Core.Path.{_∙_}
 use Rattle.unbounded.proofs.NumberLaws.{number-equal, number-apart}
 use Rattle.unbounded.proofs.numbers.before.Statement.{statement}
 use Rattle.unbounded.proofs.numbers.before.Tie as tie

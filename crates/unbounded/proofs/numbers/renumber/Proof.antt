@@ -1,5 +1,5 @@
 use Prim.Native.Nat.{ℕ}
-use mathlib.Core.Path.{refl, sym, ap, _∙_}
+use mathlib.Core.Path.{refl, sym, _∙_}
 use mathlib.Core.List.{List, [], _∷_}
 use Rattle.simulation.specs.Machine.{relabelled}
 use Rattle.moves.specs.declared.Move.the-variants.{SnapLabel, Update}
