@@ -6,12 +6,9 @@ ghost use mathlib.Core.List.{_++_};
 ghost use Prim.Native.Nat.{ℕ, _-_, _≤_, _<_};
 ghost use lib.ListN.{length, getD, replicate};
 ghost use lib.Dec.{eqb, ltb, leb};
-ghost use Rattle.basics.specs.Tests.{newest, ordered};
-ghost use Rattle.simulation.specs.Machine.{numberBefore, stands, labelStep, relabelled};
-ghost use Rattle.simulation.specs.Numbered.{numbered};
-ghost use Rattle.moves.specs.Moves.{moveOf};
-ghost use Rattle.arrays.specs.Planes.{beside};
-ghost use Rattle.unbounded.specs.Numbers.{standsBy, orderBy, NumberedBefore};
+ghost use Rattle.basics.specs.Tests.{ordered};
+ghost use Rattle.simulation.specs.Machine.{numberBefore};
+ghost use Rattle.unbounded.specs.Numbers.{standsBy, orderBy, NumberedBefore, Renumbers};
 use moves::Move;
 
 // The planes.
@@ -101,8 +98,7 @@ pub fn fits(numbers: &[u32; 32], z: usize, k: usize, v: u64) -> bool
 // What a move of the station at this place makes of the numbers, where z is the newest station, and v the number that a snap is given.
 pub fn renumber(m: Move, place: usize, z: usize, v: u32, numbers: &mut [[u32; 32]; 2])
     requires { ⌜ place < 32 ⌝ }
-    ensures { λ _. ⌜ ((n job : ℕ) → z ≡ newest n (stands (numbered v) (beside (now (numbers .entry))))
-        → beside (now (numbers .exit)) ≡ relabelled n (numbered v) (beside (now (numbers .entry))) (labelStep (moveOf place job m))) ⌝ }
+    ensures { λ _. ⌜ Renumbers m place z v (now (numbers .entry)) (now (numbers .exit)) ⌝ }
 {
     arrays::sized(*numbers);
     match m {

@@ -1,25 +1,17 @@
+-- The order is that of before but after an update.
+use Prim.Native.Nat.{ℕ}
+use mathlib.Core.List.{List, [], _∷_}
+use Rattle.moves.specs.declared.Move.the-variants.{Update}
+use Rattle.moves.proofs.MoveLaws.{not-among}
 use borrow.Author.Needs.{needs}
 use Rattle.unbounded.proofs.refresh_order.Statement.{statement}
 use Rattle.unbounded.proofs.refresh_order.Tie as tie
-use Rattle.unbounded.proofs.refresh_order.Reads as reads
-use Rattle.unbounded.proofs.refresh_order.Lts as lts
-use Rattle.unbounded.proofs.numbers.reorder.Reads as reorder-reads
 
--- src/lib.rt:92:54
-enum-told : tie.Need-enum-told
-enum-told c = search needs
-
--- src/lib.rt:92:25
-reorder-requires : tie.Need-reorder-requires
-reorder-requires c κs = search needs
-
--- src/lib.rt:85:1
-returns : tie.Need-returns
-returns c = search needs
-
--- src/lib.rt:85:1
 returns-2 : tie.Need-returns-2
-returns-2 c = ?
+returns-2 c =
+    let s = c .before in
+    let tags : List ℕ = 0 ∷ 1 ∷ 2 ∷ 3 ∷ 5 ∷ 6 ∷ 7 ∷ 8 ∷ [] in
+    s .pre .1 .1 (not-among tags Update tt (s .args .m) (c .match .keys2))
 
 pub refresh-order-spec : {M : Type 1} → statement M
-refresh-order-spec = tie.close (tie.spec enum-told reorder-requires returns returns-2)
+refresh-order-spec = tie.close (tie.spec (λ c. search needs) (λ c κs. search needs) (λ c. search needs) returns-2)

@@ -1,80 +1,75 @@
+-- The call is judged; its number is tried; then the rest, the numbers and the order are brought up to date. TurnLaws tells what that asks for and what it
+-- comes to. `x` is what is known when the call is judged, `g` when its number is.
+use native.Mathlib.Omega.{arith}
+use mathlib.Core.Path.{refl}
+use Rattle.basics.proofs.Loops.{was-true, was-false}
+use Rattle.unbounded.proofs.TurnLaws.{turn-low, turn-place, turn-prepared, turn-unfit, turn-before, turn-kept, turn-served, turn-runnable}
 use borrow.Author.Needs.{needs}
 use Rattle.unbounded.proofs.take_turn.Statement.{statement}
 use Rattle.unbounded.proofs.take_turn.Tie as tie
-use Rattle.unbounded.proofs.take_turn.Reads as reads
-use Rattle.unbounded.proofs.take_turn.Lts as lts
-use Rattle.engine.proofs.carry_rest.Reads as carry-rest-reads
-use Rattle.engine.proofs.judge.Reads as judge-reads
-use Rattle.unbounded.proofs.given_to.Reads as given-to-reads
-use Rattle.unbounded.proofs.numbers.renumber.Reads as renumber-reads
-use Rattle.unbounded.proofs.refresh_order.Reads as refresh-order-reads
 
--- src/lib.rt:125:19
-sub-z : tie.Need-sub-z
-sub-z c = search needs
+abbrev start : tie.After-judge → tie.Start
+start x = x .before .before .before .before .before
 
--- src/lib.rt:125:13
-mul-z : tie.Need-mul-z
-mul-z c = search needs
+abbrev judged : tie.After-given-to → tie.After-judge
+judged g = g .before .before
 
--- src/lib.rt:125:13
-element-copy-out-z : tie.Need-element-copy-out-z
-element-copy-out-z c = search needs
-
--- src/lib.rt:126:9
-judge-requires : tie.Need-judge-requires
-judge-requires c κs = search needs
-
--- src/lib.rt:129:39
-index-1-given-to : tie.Need-index-1-given-to
-index-1-given-to c = search needs
-
--- src/lib.rt:129:9
 given-to-requires : tie.Need-given-to-requires
-given-to-requires c κs = ?
+given-to-requires c κs = let s = start (c .before) in (turn-low (s .pre .0), s .pre .1)
 
--- src/lib.rt:131:9
 returns : tie.Need-returns
-returns c = ?
+returns c =
+    let g = c .before .before in
+    let x = judged g in
+    let f = start x .pre .0 in
+    (turn-unfit f (x .judge .ensures) (g .given-to .ensures) (was-false refl (c .if1 .taken)) refl, f)
 
--- src/lib.rt:138:9
 carry-rest-requires : tie.Need-carry-rest-requires
-carry-rest-requires c κs = ?
+carry-rest-requires c κs =
+    let x = judged (c .before .before .before .before .before .before) in
+    turn-prepared (start x .pre .0) (x .judge .ensures)
 
--- src/lib.rt:139:5
 renumber-requires : tie.Need-renumber-requires
-renumber-requires c κs = ?
+renumber-requires c κs =
+    let x = judged (c .before .before .before .before .before .before .before .before) in
+    let f = start x .pre .0 in
+    omega (arith, turn-place f (x .judge .ensures), f .high)
 
--- src/lib.rt:140:29
-index-1-refresh-order : tie.Need-index-1-refresh-order
-index-1-refresh-order c = search needs
-
--- src/lib.rt:140:5
 refresh-order-requires : tie.Need-refresh-order-requires
-refresh-order-requires c κs = ?
+refresh-order-requires c κs =
+    let k = c .before .before .before .before in
+    let i = k .before .before .before .before .before in
+    let g = i .before .before in
+    let x = judged g in
+    let f = start x .pre .0 in
+    let j = x .judge .ensures in
+    let l = c .before .before .renumber .ensures in (
+      (turn-place f j, f .high),
+      (
+        turn-before f j (g .given-to .ensures) (was-true refl (i .if1 .left)) (k .carry-rest .ensures) l,
+        turn-kept f j (g .given-to .ensures) (was-true refl (i .if1 .left)) (k .carry-rest .ensures) l,
+      ),
+    )
 
--- src/lib.rt:143:15
 add-t16 : tie.Need-add-t16
-add-t16 c = ?
+add-t16 c =
+    let g = c .before .before .before .before .before .before .before .before .before .before .before .before .before in
+    omega (arith, g .given-to .ensures .inside, start (judged g) .good)
 
--- src/lib.rt:107:1
 returns-2 : tie.Need-returns-2
-returns-2 c = ?
+returns-2 c =
+    let k = c .before .before .before .before .before .before in
+    let i = k .before .before .before .before .before in
+    let g = i .before .before in
+    let x = judged g in
+    let f = start x .pre .0 in
+    let j = x .judge .ensures in
+    let l = c .before .before .before .before .renumber .ensures in (
+      turn-served f j (g .given-to .ensures) (was-true refl (i .if1 .left)) (k .carry-rest .ensures) l refl refl refl refl,
+      turn-runnable f j (g .given-to .ensures) (was-true refl (i .if1 .left)) (k .carry-rest .ensures) l (c .before .refresh-order .ensures),
+    )
 
 pub take-turn-spec : {M : Type 1} → statement M
-take-turn-spec =
-    tie.close
-    (tie.spec
-    sub-z
-    mul-z
-    element-copy-out-z
-    judge-requires
-    index-1-given-to
-    given-to-requires
-    returns
-    carry-rest-requires
-    renumber-requires
-    index-1-refresh-order
-    refresh-order-requires
-    add-t16
-    returns-2)
+take-turn-spec = tie.close (tie.spec (λ c. search needs) (λ c. search needs) (λ c. search needs)
+    (λ c κs. search needs) (λ c. search needs) given-to-requires returns carry-rest-requires renumber-requires
+    (λ c. search needs) refresh-order-requires add-t16 returns-2)
