@@ -1,15 +1,14 @@
 -- The numbers of a whole file: it is refused before any step is run, or its numbers are those of its lines.
-use Prim.Native.Nat.{ℕ, _≤_, _<_}
+use Prim.Native.Nat.{ℕ, _≤_}
 use native.Mathlib.Omega.{arith}
 use mathlib.Core.Path.{_≡_, refl, sym, ap, subst, _∙_}
 use mathlib.Core.Logic.{_≢_}
 use mathlib.Core.Bool.{Bool, true, false, cond}
 use mathlib.Core.List as Lists
-use mathlib.Core.List.{[], _++_, map}
-use lib.ListN.{length, take, drop, length-drop}
-use lib.Seq.{take-at, drop-at}
+use mathlib.Core.List.{[], map}
+use lib.ListN.{length, take, drop}
 use lib.Dec.{eqb, ltb}
-use borrow.Author.Tests.{eq-eqb, ne-eqb, eqb-true, ltb-false, lt-ltb}
+use borrow.Author.Tests.{eq-eqb, ne-eqb, eqb-true, ltb-false}
 use Rattle.basics.proofs.Facts.{tf}
 use Rattle.simulation.specs.Machine.{original}
 use Rattle.simulation.specs.Numbering.{numbersOf}
@@ -22,12 +21,10 @@ use Rattle.arrays.proofs.States.{lent-lawful}
 use Rattle.schedule.specs.Lines.{headerRead}
 use Rattle.schedule.specs.Files.{stepLines}
 use Rattle.schedule.specs.Demand.{stepCalls, ending, roomy, fileCalls}
-use Rattle.schedule.specs.Numbers.{finalAfter, finalOf, snapCalls, FileNumbers, givenIn, Surveys}
+use Rattle.schedule.specs.Numbers.{finalAfter, snapCalls, FileNumbers, givenIn, Surveys}
 use Rattle.schedule.proofs.Runs.{rest-after, over-short}
 use Rattle.schedule.proofs.SessionLaws.{header-refused}
 use Rattle.schedule.proofs.Numbers.{file-numbers}
-use Rattle.schedule.proofs.Cuts.{joined, Whole}
-use Rattle.schedule.proofs.Surveys.{all-lines, surveyParts, survey-parts}
 use Rattle.schedule.specs.declared.Survey.{Survey}
 use Rattle.schedule.specs.declared.Header.{Header}
 use Rattle.schedule.specs.declared.Header.the-variants as Headers
@@ -123,20 +120,3 @@ module _ (bs list : Lists.List ℕ) where
 pub numbers-fit : {bs list list′ : Lists.List ℕ} {refusal written : ℕ} → NumbersFile bs list refusal written list′ → length list′ ≡ length list
     → written ≤ length list
 numbers-fit {bs} {list} {list′} f e = omega (arith, f .count, over-short (fileNumbers bs (length list)) list list′ (f .left) e)
-
--- A LONG FILE, of a header and 4,097 lines or more: it is refused by a final refusal, which the program finds part by part, or by 16
-pub long-file : (bs : Lists.List ℕ) (room : ℕ) → 73764 ≤ length bs → refusalNumber (finalOf bs) ≡ 0 → numberingRefusal bs room ≡ TooManySteps
-unfolding numberingRefusal
-long-file bs room h z = rw (eq-eqb _ 0 z) (go (headerRead (take 18 bs)) refl)
-  where
-    go : (x : Header) → headerRead (take 18 bs) ≡ x
-        → cond (ltb 4096 (length (fileCalls bs))) TooManySteps (cond (ltb room (snapCalls (fileCalls bs))) ListTooShort Accepted) ≡ TooManySteps
-    go (Headers.Refused r) e = absurd (header-refused (take 18 bs) r e (rw e at z))
-    go (Stations n) e =
-        let many : 4096 < length (fileCalls bs) = omega (arith, all-lines (drop 18 bs) 1 (omega arith) (rw e at z), length-drop 18 bs) in
-        rw (lt-ltb 4096 (length (fileCalls bs)) many) refl
-
--- part by part: the header, and then the first refusal of the parts behind it
-pub parts-final : (h : Lists.List ℕ) (ps : Lists.List (Lists.List ℕ)) → length h ≡ 18 → Whole ps → (n : ℕ) → headerRead h ≡ Stations n
-    → finalOf (h ++ joined ps) ≡ surveyParts 1 ps
-parts-final h ps e w n q = rw (take-at h (joined ps) 18 e, drop-at h (joined ps) 18 e, q) (survey-parts ps 1 w)

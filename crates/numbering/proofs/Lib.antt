@@ -3,4 +3,5 @@ pub mod Slots
 pub mod Renumbering
 pub mod Lines
 pub mod Printing
+pub mod Reading
 pub mod Files

@@ -33,7 +33,7 @@ number-written out y v h e =
     = drop-cons out 11 0 (omega arith) ∙ ap (λ l. getD out 11 0 ∷ l) (drop-of-length-le out {i = 12} (omega arith)) in
     ap (λ l. set (y ++ l) 11 10) last ∙ set-at y (getD out 11 0) [] 10 11 long ∙ ap (λ l. l ++ (10 ∷ [])) column-is
 
-numbers-append : (l m : List ℕ) → numberLines (l ++ m) ≡ numberLines l ++ numberLines m
+pub numbers-append : (l m : List ℕ) → numberLines (l ++ m) ≡ numberLines l ++ numberLines m
 unfolding numberLines
 numbers-append [] m = refl
 numbers-append (v ∷ l) m = ap (λ t. numberLine v ++ t) (numbers-append l m) ∙ sym (append-assoc (numberLine v) (numberLines l) (numberLines m))

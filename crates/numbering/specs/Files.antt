@@ -13,11 +13,11 @@ use Rattle.simulation.specs.Numbering.{numbersOf}
 use Rattle.transition.specs.Forms.{over}
 use Rattle.moves.specs.Moves.{refusalNumber}
 use Rattle.moves.specs.declared.Refusal.{Refusal}
-use Rattle.moves.specs.declared.Refusal.the-variants.{Accepted, TooManySteps, ListTooShort}
+use Rattle.moves.specs.declared.Refusal.the-variants.{Accepted, ListTooShort}
 use Rattle.arrays.specs.Form.{lent}
 use Rattle.schedule.specs.Lines.{headerRead}
 use Rattle.schedule.specs.Demand.{fileCalls}
-use Rattle.schedule.specs.Numbers.{finalOf, snapCalls, FileNumbers}
+use Rattle.schedule.specs.Numbers.{finalOf, surveyed, snapCalls, FileNumbers}
 use Rattle.schedule.specs.declared.Header.{Header}
 use Rattle.schedule.specs.declared.Header.the-variants as Headers
 use Rattle.schedule.specs.declared.Header.the-variants.{Stations}
@@ -27,15 +27,10 @@ abbrev pub chosenBehind : Header → Lists.List Call → Lists.List ℕ
 chosenBehind (Headers.Refused r) cs = []
 chosenBehind (Stations n) cs = numbersOf original n cs
 
--- REFUSALS, before any step is run: the final refusal of the file; then 16 for more than 4,096 step lines; then 17 where the lent list has room for fewer
--- numbers than there are lines of step 3
+-- REFUSALS, before any step is run: the final refusal of the file; then 16; then 17 where the lent list has room for fewer numbers than there are lines of
+-- step 3
 abbrev pub refusedBy : Refusal → ℕ → ℕ → ℕ → Refusal
-refusedBy final steps snaps room =
-    cond (eqb (refusalNumber final) 0)
-    (cond (ltb 4096 steps) TooManySteps
-    (cond (ltb room snaps) ListTooShort
-    Accepted))
-    final
+refusedBy final steps snaps room = surveyed final steps (cond (ltb room snaps) ListTooShort Accepted)
 
 unfoldable pub numberingRefusal : Lists.List ℕ → ℕ → Refusal
 numberingRefusal bs room = refusedBy (finalOf bs) (length (fileCalls bs)) (snapCalls (fileCalls bs)) room

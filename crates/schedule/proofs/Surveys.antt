@@ -6,25 +6,29 @@ use mathlib.Core.Path.{_≡_, refl, sym, ap, _∙_}
 use mathlib.Core.Bool.{Bool, true, false, cond}
 use mathlib.Core.List as Lists
 use mathlib.Core.List.{[], _∷_, _++_, map, map-append, append-nil}
-use lib.ListN.{length, take, drop, length-map}
-use lib.Dec.{eqb}
-use borrow.Author.Tests.{ne-eqb, eqb-true}
+use lib.ListN.{length, take, drop, length-map, length-drop}
+use lib.Seq.{take-at, drop-at}
+use lib.Dec.{eqb, ltb}
+use borrow.Author.Tests.{eq-eqb, ne-eqb, eqb-true, lt-ltb}
 use Rattle.basics.specs.Tests.{passing}
 use Rattle.basics.proofs.Passing.{passing-cons}
 use Rattle.simulation.specs.Calls.{Call, Buffer}
 use Rattle.moves.specs.Moves.{refusalNumber, called}
 use Rattle.moves.proofs.MoveLaws.{accepted}
 use Rattle.moves.specs.declared.Refusal.{Refusal}
-use Rattle.moves.specs.declared.Refusal.the-variants.{Accepted}
-use Rattle.schedule.specs.Lines.{nextLine}
+use Rattle.moves.specs.declared.Refusal.the-variants.{Accepted, TooManySteps}
+use Rattle.schedule.specs.Lines.{nextLine, headerRead}
 use Rattle.schedule.specs.Files.{cut, pieces}
-use Rattle.schedule.specs.Demand.{Given, callThen, stepCalls, endThen, ending, roomy}
-use Rattle.schedule.specs.Numbers.{snapCalls, givenIn, Surveys}
-use Rattle.schedule.proofs.SessionLaws.{Numbered, next-numbered, next-refused, next-within}
+use Rattle.schedule.specs.Demand.{Given, callThen, stepCalls, endThen, ending, roomy, fileCalls}
+use Rattle.schedule.specs.Numbers.{finalOf, surveyed, snapCalls, givenIn, Surveys}
+use Rattle.schedule.proofs.SessionLaws.{Numbered, next-numbered, next-refused, next-within, header-refused}
 use Rattle.schedule.proofs.Cuts.{lines-append, joined, Whole}
 use Rattle.schedule.proofs.Places.{linesFrom, lines-none, line-within, lines-next}
 use Rattle.schedule.specs.declared.Line.{Line}
 use Rattle.schedule.specs.declared.Line.the-variants.{Step, Refused}
+use Rattle.schedule.specs.declared.Header.{Header}
+use Rattle.schedule.specs.declared.Header.the-variants as Headers
+use Rattle.schedule.specs.declared.Header.the-variants.{Stations}
 use Rattle.schedule.specs.declared.Survey.{Survey}
 
 -- the lines from a place on, each with room for a whole scan result; and as calls, behind `lines` others
@@ -153,10 +157,22 @@ survey-on {lines} {chunk} {r} f h some z =
     let u = all-lines chunk lines h (ap refusalNumber (sym (f .refusal)) ∙ z) in
     (omega (arith, f .steps, u .0), omega (arith, f .steps, u .0, u .1))
 
+-- A LONG FILE, of a header and 4,097 lines or more: it is refused by a final refusal or by 16
+pub long-file : (bs : Lists.List ℕ) (next : Refusal) → 73764 ≤ length bs → refusalNumber (finalOf bs) ≡ 0
+    → surveyed (finalOf bs) (length (fileCalls bs)) next ≡ TooManySteps
+long-file bs next h z = rw (eq-eqb _ 0 z) (go (headerRead (take 18 bs)) refl)
+  where
+    go : (x : Header) → headerRead (take 18 bs) ≡ x → cond (ltb 4096 (length (fileCalls bs))) TooManySteps next ≡ TooManySteps
+    go (Headers.Refused r) e = absurd (header-refused (take 18 bs) r e (rw e at z))
+    go (Stations n) e =
+        let many : 4096 < length (fileCalls bs) = omega (arith, all-lines (drop 18 bs) 1 (omega arith) (rw e at z), length-drop 18 bs) in
+        rw (lt-ltb 4096 (length (fileCalls bs)) many) refl
+
 -- A FILE THAT IS ONLY READ, IN PARTS, each but the last of whole lines: its final refusal is that of the first part that has one, where each part goes on
 -- with the count of lines that the one before it left
 
-abbrev firstOf : Refusal → Refusal → Refusal
+-- a refusal, or another where there is none
+abbrev pub firstOf : Refusal → Refusal → Refusal
 firstOf r s = cond (eqb (refusalNumber r) 0) s r
 
 abbrev pub surveyParts : ℕ → Lists.List (Lists.List ℕ) → Refusal
@@ -193,3 +209,18 @@ survey-parts (p ∷ (q ∷ ps)) lines w =
     ap (λ ls. ending lines (map roomy ls)) (lines-append (w .0 .0) p b (w .0 .1)) ∙ ap (ending lines) (map-append roomy (cut (pieces p) p) (cut (pieces b) b))
     ∙ ending-append (givenIn p) (givenIn b) lines
     ∙ ap (firstOf (ending lines (givenIn p))) (survey-parts (q ∷ ps) (lines + length (stepCalls lines (givenIn p))) (w .1))
+
+-- the header before such parts
+pub parts-final : (h : Lists.List ℕ) (ps : Lists.List (Lists.List ℕ)) → length h ≡ 18 → Whole ps → (n : ℕ) → headerRead h ≡ Stations n
+    → finalOf (h ++ joined ps) ≡ surveyParts 1 ps
+parts-final h ps e w n q = rw (take-at h (joined ps) 18 e, drop-at h (joined ps) 18 e, q) (survey-parts ps 1 w)
+
+-- what comes after 16 comes where nothing before it refuses
+pub surveyed-next : (final : Refusal) (steps : ℕ) (next : Refusal) → surveyed final steps next ≡ firstOf (surveyed final steps Accepted) next
+surveyed-next final steps next = go (eqb (refusalNumber final) 0) (ltb 4096 steps) refl
+  where
+    go : (a b : Bool) → eqb (refusalNumber final) 0 ≡ a
+        → cond a (cond b TooManySteps next) final ≡ firstOf (cond a (cond b TooManySteps Accepted) final) next
+    go true true e = refl
+    go true false e = refl
+    go false b e = rw e refl

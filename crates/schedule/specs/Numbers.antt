@@ -1,16 +1,19 @@
--- What numbers owe to a schedule file, and the lines of a file that are only read, not run; all of it stated over the bytes of the file (02, Card 6).
+-- What numbers owe to a schedule file, and the lines of a file that are only read, not run; all of it stated over the bytes of the file (02, Cards 6 and 7).
 use Prim.Native.Nat.{ℕ}
 use mathlib.Core.Path.{_≡_}
+use mathlib.Core.Bool.{cond}
 use mathlib.Core.List as Lists
 use mathlib.Core.List.{map}
 use lib.ListN.{length, take}
-use lib.Dec.{eqb}
+use lib.Dec.{eqb, ltb}
 use Rattle.basics.specs.Tests.{passing}
 use Rattle.simulation.specs.Calls.{Call}
 use Rattle.simulation.specs.Machine as Machine
 use Rattle.transition.specs.Forms.{Form}
 use Rattle.transition.specs.Numbers.{withNumbers, Numbers}
+use Rattle.moves.specs.Moves.{refusalNumber}
 use Rattle.moves.specs.declared.Refusal.{Refusal}
+use Rattle.moves.specs.declared.Refusal.the-variants.{Accepted, TooManySteps}
 use Rattle.schedule.specs.Lines.{headerRead}
 use Rattle.schedule.specs.Files.{cut, pieces, stepLines, fileReport}
 use Rattle.schedule.specs.Demand.{Given, stepCalls, ending, roomy, fileCalls, printedCalls}
@@ -26,6 +29,15 @@ finalAfter (Stations n) gs = ending 1 gs
 
 abbrev pub finalOf : Lists.List ℕ → Refusal
 finalOf bs = finalAfter (headerRead (take 18 bs)) (map roomy (stepLines bs))
+
+-- REFUSALS of a file that is read before any step is run: the final one; then 16 for more than 4,096 step lines; then `next`, which Card 6 and Card 7 have
+-- of their own
+abbrev pub surveyed : Refusal → ℕ → Refusal → Refusal
+surveyed final steps next = cond (eqb (refusalNumber final) 0) (cond (ltb 4096 steps) TooManySteps next) final
+
+-- those of Card 7, which has no other
+unfoldable pub readingRefusal : Lists.List ℕ → Refusal
+readingRefusal bs = surveyed (finalOf bs) (length (fileCalls bs)) Accepted
 
 -- how many of some calls are of step 3, whatever they are answered
 abbrev pub snapCalls : Lists.List Call → ℕ

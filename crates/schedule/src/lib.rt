@@ -4,8 +4,9 @@ ghost use mathlib.Core.Bool.{cond};
 ghost use Prim.Native.Nat.{_+_, _≤_};
 ghost use lib.ListN.{length, take, drop};
 ghost use lib.Dec.{eqb};
+ghost use Rattle.moves.specs.declared.Refusal.the-variants.{Accepted};
 ghost use Rattle.schedule.specs.Lines.{lineRead, nextLine, headerRead};
-ghost use Rattle.schedule.specs.Numbers.{Surveys};
+ghost use Rattle.schedule.specs.Numbers.{surveyed, Surveys};
 use columns::Column;
 use columns::read_column;
 use columns::read_three;
@@ -147,4 +148,18 @@ pub fn survey_lines(lines: u32, chunk: &[u8]) -> Survey
         steps,
         snaps,
     }
+}
+
+// The refusal of a file whose lines after the header come to this: their final one, or 16 for more than 4,096 steps.
+pub fn refusal_of(s: Survey) -> Refusal
+    ensures { λ r. ⌜ r ≡ surveyed (s .refusal) (s .steps) Accepted ⌝ }
+{
+    let refusal = s.refusal;
+    if refusal.number() != 0 {
+        return refusal;
+    }
+    if 4096 < s.steps {
+        return Refusal::TooManySteps;
+    }
+    Refusal::Accepted
 }
