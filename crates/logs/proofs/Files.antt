@@ -5,7 +5,6 @@ use mathlib.Core.Logic.{_≢_}
 use mathlib.Core.Bool.{Bool, true, false}
 use mathlib.Core.List as Lists
 use lib.ListN.{length, take, drop}
-use borrow.Author.Tests.{ne-eqb}
 use Rattle.simulation.specs.Machine.{original, fresh}
 use Rattle.transition.specs.Logs.{Right, right}
 use Rattle.transition.proofs.Logs.{right-exactly}
@@ -13,11 +12,10 @@ use Rattle.moves.specs.Moves.{refusalNumber}
 use Rattle.moves.specs.declared.Refusal.{Refusal}
 use Rattle.moves.specs.declared.Refusal.the-variants.{Accepted}
 use Rattle.schedule.specs.Lines.{headerRead}
-use Rattle.schedule.specs.Demand.{stepCalls, ending, fileCalls}
+use Rattle.schedule.specs.Demand.{stepCalls, fileCalls}
 use Rattle.schedule.specs.Numbers.{surveyed, readingRefusal, givenIn, Surveys}
 use Rattle.schedule.specs.Logs.{RightLog}
-use Rattle.schedule.proofs.Runs.{rest-after}
-use Rattle.schedule.proofs.SessionLaws.{header-refused}
+use Rattle.schedule.proofs.Surveys.{surveyed-header, header-told, calls-told, final-told, steps-told}
 use Rattle.schedule.specs.declared.Survey.{Survey}
 use Rattle.schedule.specs.declared.Header.{Header}
 use Rattle.schedule.specs.declared.Header.the-variants as Headers
@@ -36,26 +34,14 @@ module _ (bs ns report : Lists.List ℕ) where
   -- by its header
   pub header-refuses : {l : Lists.List ℕ} → l ≡ take 18 bs → {r : Refusal} → headerRead l ≡ Headers.Refused r → ChecksLog bs ns report (refusalNumber r) false
   unfolding readingRefusal
-  header-refuses p {r} e =
-      let e′ = ap headerRead (sym p) ∙ e in
-      let d = header-refused (take 18 bs) r e′ in
-      refused-file r (rw (e′, ne-eqb (refusalNumber r) 0 d) refl) d
+  header-refuses p {r} e = let h = surveyed-header bs p e (length (fileCalls bs)) Accepted in refused-file r (h .0) (h .1)
 
   -- BEHIND AN ACCEPTED HEADER
   module _ {l : Lists.List ℕ} (p : l ≡ take 18 bs) {n : ℕ} (e : headerRead l ≡ Stations n) {rest : Lists.List ℕ} (q : rest ≡ drop (length l) bs)
       {s : Survey} (f : Surveys 1 rest s) {r : Refusal} (g : r ≡ surveyed (s .refusal) (s .steps) Accepted) where
-    rest-is : rest ≡ drop 18 bs
-    rest-is = q ∙ rest-after bs l p
-
-    same-calls : stepCalls 1 (givenIn rest) ≡ fileCalls bs
-    same-calls = ap (λ x. stepCalls 1 (givenIn x)) rest-is
-
-    accepted : headerRead (take 18 bs) ≡ Stations n
-    accepted = ap headerRead (sym p) ∙ e
-
     told : readingRefusal bs ≡ r
     unfolding readingRefusal
-    told = rw accepted (sym (g ∙ (λ i. surveyed ((f .refusal ∙ ap (λ x. ending 1 (givenIn x)) rest-is) i) ((f .steps ∙ ap length same-calls) i) Accepted)))
+    told = sym (g ∙ (λ i. surveyed (final-told bs p e q f i) (steps-told bs p e q f i) Accepted))
 
     pub lines-refuse : refusalNumber r ≢ 0 → ChecksLog bs ns report (refusalNumber r) false
     lines-refuse d = refused-file r told d
@@ -64,7 +50,8 @@ module _ (bs ns report : Lists.List ℕ) where
         → ChecksLog bs ns report (refusalNumber r) yes
     lines-checked z {yes} h =
         let exact = right-exactly original n (fileCalls bs) ns report in
-        let h′ = h ∙ ap (right original n (fresh 0) ns report) same-calls in record {
+        let h′ = h ∙ ap (right original n (fresh 0) ns report) (calls-told bs p e q) in
+        let accepted = header-told bs p e q in record {
           number = ap refusalNumber (sym told);
           refused = λ d. absurd (d z);
           exactly = λ _. (

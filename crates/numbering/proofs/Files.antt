@@ -20,13 +20,12 @@ use Rattle.arrays.specs.Form.{lent}
 use Rattle.arrays.proofs.States.{lent-lawful}
 use Rattle.schedule.specs.Lines.{headerRead}
 use Rattle.schedule.specs.Files.{stepLines}
-use Rattle.schedule.specs.Demand.{stepCalls, ending, roomy, fileCalls}
+use Rattle.schedule.specs.Demand.{stepCalls, roomy, fileCalls}
 use Rattle.schedule.specs.Numbers.{finalAfter, snapCalls, FileNumbers, givenIn, Surveys}
-use Rattle.schedule.proofs.Runs.{rest-after, over-short}
-use Rattle.schedule.proofs.SessionLaws.{header-refused}
+use Rattle.schedule.proofs.Runs.{over-short}
+use Rattle.schedule.proofs.Surveys.{surveyed-none, surveyed-header, header-told, calls-told, final-told, steps-told, snaps-told}
 use Rattle.schedule.proofs.Numbers.{file-numbers}
 use Rattle.schedule.specs.declared.Survey.{Survey}
-use Rattle.schedule.specs.declared.Header.{Header}
 use Rattle.schedule.specs.declared.Header.the-variants as Headers
 use Rattle.schedule.specs.declared.Header.the-variants.{Stations}
 use Rattle.numbering.specs.Files.{refusedBy, numberingRefusal, fileNumbers, NumbersFile}
@@ -46,36 +45,18 @@ module _ (bs list : Lists.List ℕ) where
       none : [] ≡ fileNumbers bs (length list)
       none = rw (e, ne-eqb (refusalNumber r) 0 d) refl
 
-  -- what comes of the header and of the lines after it
-  by-header : (h : Header) → headerRead (take 18 bs) ≡ h
-      → numberingRefusal bs (length list)
-      ≡ refusedBy (finalAfter h (map roomy (stepLines bs))) (length (fileCalls bs)) (snapCalls (fileCalls bs)) (length list)
-  unfolding numberingRefusal
-  by-header h e = rw e refl
-
   -- by its header
   pub header-refuses : {l : Lists.List ℕ} → l ≡ take 18 bs → {r : Refusal} → headerRead l ≡ Headers.Refused r → NumbersFile bs list (refusalNumber r) 0 list
-  header-refuses p {r} e =
-      let e′ = ap headerRead (sym p) ∙ e in
-      let d = header-refused (take 18 bs) r e′ in
-      refused-file r (by-header (Headers.Refused r) e′ ∙ rw (ne-eqb (refusalNumber r) 0 d) refl) d
+  unfolding numberingRefusal
+  header-refuses p {r} e = let h = surveyed-header bs p e (length (fileCalls bs)) (cond (ltb (length list) (snapCalls (fileCalls bs))) ListTooShort Accepted) in
+      refused-file r (h .0) (h .1)
 
   -- BEHIND AN ACCEPTED HEADER
   module _ {l : Lists.List ℕ} (p : l ≡ take 18 bs) {n : ℕ} (e : headerRead l ≡ Stations n) {rest : Lists.List ℕ} (q : rest ≡ drop (length l) bs)
       {s : Survey} (f : Surveys 1 rest s) {r : Refusal} (g : r ≡ refusedBy (s .refusal) (s .steps) (s .snaps) (length list)) where
-    rest-is : rest ≡ drop 18 bs
-    rest-is = q ∙ rest-after bs l p
-
-    same-calls : stepCalls 1 (givenIn rest) ≡ fileCalls bs
-    same-calls = ap (λ x. stepCalls 1 (givenIn x)) rest-is
-
-    accepted-header : headerRead (take 18 bs) ≡ Stations n
-    accepted-header = ap headerRead (sym p) ∙ e
-
     told : numberingRefusal bs (length list) ≡ r
-    told = by-header (Stations n) accepted-header
-        ∙ sym (g ∙ (λ i. refusedBy ((f .refusal ∙ ap (λ x. ending 1 (givenIn x)) rest-is) i) ((f .steps ∙ ap length same-calls) i)
-        ((f .snaps ∙ ap snapCalls same-calls) i) (length list)))
+    unfolding numberingRefusal
+    told = sym (g ∙ (λ i. refusedBy (final-told bs p e q f i) (steps-told bs p e q f i) (snaps-told bs p e q f i) (length list)))
 
     pub lines-refuse : refusalNumber r ≢ 0 → NumbersFile bs list (refusalNumber r) 0 list
     lines-refuse d = refused-file r told d
@@ -83,15 +64,13 @@ module _ (bs list : Lists.List ℕ) where
     module _ (z : refusalNumber r ≡ 0) where
       -- no line is refused for good, and there is room for a number for each line of step 3
       passed : (refusalNumber (s .refusal) ≡ 0) × (s .snaps ≤ length list)
-      passed = go (eqb (refusalNumber (s .refusal)) 0) (ltb 4096 (s .steps)) (ltb (length list) (s .snaps)) refl refl (sym (ap refusalNumber g) ∙ z)
+      passed =
+          let h = surveyed-none (s .refusal) (s .steps) (cond (ltb (length list) (s .snaps)) ListTooShort Accepted) (sym (ap refusalNumber g) ∙ z) in
+          (h .0, enough (ltb (length list) (s .snaps)) refl (h .1))
         where
-          go : (a b c : Bool) → eqb (refusalNumber (s .refusal)) 0 ≡ a → ltb (length list) (s .snaps) ≡ c
-              → refusalNumber (cond a (cond b TooManySteps (cond c ListTooShort Accepted)) (s .refusal)) ≡ 0
-              → (refusalNumber (s .refusal) ≡ 0) × (s .snaps ≤ length list)
-          go true true c u v w = absurd (omega arith)
-          go true false true u v w = absurd (omega arith)
-          go true false false u v w = (eqb-true _ 0 u, ltb-false (length list) (s .snaps) v)
-          go false b c u v w = absurd (tf (eq-eqb _ 0 w) u)
+          enough : (c : Bool) → ltb (length list) (s .snaps) ≡ c → refusalNumber (cond c ListTooShort Accepted) ≡ 0 → s .snaps ≤ length list
+          enough true u w = absurd (omega arith)
+          enough false u w = ltb-false (length list) (s .snaps) u
 
       pub lines-room : snapCalls (stepCalls 1 (givenIn rest)) ≤ length list
       lines-room = omega (arith, passed .1, f .snaps)
@@ -107,14 +86,18 @@ module _ (bs list : Lists.List ℕ) where
         served = λ _. (
           n,
           accepted-header,
-          subst (FileNumbers lent bs n) (ap (numbersOf original n) (sym same-calls) ∙ chosen)
+          subst (FileNumbers lent bs n) (ap (numbersOf original n) (sym (calls-told bs p e q)) ∙ chosen)
               (file-numbers lent lent-lawful bs n accepted-header
-              (ap (λ x. refusalNumber (ending 1 (givenIn x))) (sym rest-is) ∙ ap refusalNumber (sym (f .refusal)) ∙ passed .0)),
+              (sym (ap (λ h. refusalNumber (finalAfter h (map roomy (stepLines bs)))) accepted-header)
+              ∙ sym (ap refusalNumber (final-told bs p e q f)) ∙ passed .0)),
         );
       }
         where
+          accepted-header : headerRead (take 18 bs) ≡ Stations n
+          accepted-header = header-told bs p e q
+
           chosen : numbersOf original n (stepCalls 1 (givenIn rest)) ≡ fileNumbers bs (length list)
-          chosen = ap (numbersOf original n) same-calls ∙ rw (told, eq-eqb (refusalNumber r) 0 z, accepted-header) refl
+          chosen = ap (numbersOf original n) (calls-told bs p e q) ∙ rw (told, eq-eqb (refusalNumber r) 0 z, accepted-header) refl
 
 -- a list that keeps its length has room for the numbers written
 pub numbers-fit : {bs list list′ : Lists.List ℕ} {refusal written : ℕ} → NumbersFile bs list refusal written list′ → length list′ ≡ length list

@@ -5,3 +5,4 @@ pub mod Lines
 pub mod Printing
 pub mod Reading
 pub mod Files
+pub mod Logs

@@ -11,6 +11,7 @@ use lib.Seq.{take-at, drop-at}
 use lib.Dec.{eqb, ltb}
 use borrow.Author.Tests.{eq-eqb, ne-eqb, eqb-true, lt-ltb}
 use Rattle.basics.specs.Tests.{passing}
+use Rattle.basics.proofs.Facts.{tf}
 use Rattle.basics.proofs.Passing.{passing-cons}
 use Rattle.simulation.specs.Calls.{Call, Buffer}
 use Rattle.moves.specs.Moves.{refusalNumber, called}
@@ -18,11 +19,12 @@ use Rattle.moves.proofs.MoveLaws.{accepted}
 use Rattle.moves.specs.declared.Refusal.{Refusal}
 use Rattle.moves.specs.declared.Refusal.the-variants.{Accepted, TooManySteps}
 use Rattle.schedule.specs.Lines.{nextLine, headerRead}
-use Rattle.schedule.specs.Files.{cut, pieces}
+use Rattle.schedule.specs.Files.{cut, pieces, stepLines}
 use Rattle.schedule.specs.Demand.{Given, callThen, stepCalls, endThen, ending, roomy, fileCalls}
-use Rattle.schedule.specs.Numbers.{finalOf, surveyed, snapCalls, givenIn, Surveys}
+use Rattle.schedule.specs.Numbers.{finalAfter, finalOf, surveyed, snapCalls, givenIn, Surveys}
 use Rattle.schedule.proofs.SessionLaws.{Numbered, next-numbered, next-refused, next-within, header-refused}
 use Rattle.schedule.proofs.Cuts.{lines-append, joined, Whole}
+use Rattle.schedule.proofs.Runs.{rest-after}
 use Rattle.schedule.proofs.Places.{linesFrom, lines-none, line-within, lines-next}
 use Rattle.schedule.specs.declared.Line.{Line}
 use Rattle.schedule.specs.declared.Line.the-variants.{Step, Refused}
@@ -224,3 +226,42 @@ surveyed-next final steps next = go (eqb (refusalNumber final) 0) (ltb 4096 step
     go true true e = refl
     go true false e = refl
     go false b e = rw e refl
+
+-- and all of them pass only where none refuses
+pub surveyed-none : (final : Refusal) (steps : ℕ) (next : Refusal) → refusalNumber (surveyed final steps next) ≡ 0
+    → (refusalNumber final ≡ 0) × (refusalNumber next ≡ 0)
+surveyed-none final steps next = go (eqb (refusalNumber final) 0) (ltb 4096 steps) refl
+  where
+    go : (a b : Bool) → eqb (refusalNumber final) 0 ≡ a → refusalNumber (cond a (cond b TooManySteps next) final) ≡ 0
+        → (refusalNumber final ≡ 0) × (refusalNumber next ≡ 0)
+    go true true e z = absurd (omega arith)
+    go true false e z = (eqb-true (refusalNumber final) 0 e, z)
+    go false b e z = absurd (tf (eq-eqb (refusalNumber final) 0 z) e)
+
+-- a refused header refuses the file, whatever its lines
+pub surveyed-header : (bs : Lists.List ℕ) {l : Lists.List ℕ} → l ≡ take 18 bs → {r : Refusal} → headerRead l ≡ Headers.Refused r → (steps : ℕ) (next : Refusal)
+    → (surveyed (finalOf bs) steps next ≡ r) × (refusalNumber r ≡ 0 → ⊥)
+surveyed-header bs p {r} e steps next =
+    let e′ = ap headerRead (sym p) ∙ e in
+    let d = header-refused (take 18 bs) r e′ in
+    (rw (e′, ne-eqb (refusalNumber r) 0 d) refl, d)
+
+-- A FILE behind an accepted header: its lines are read as one part
+module _ (bs : Lists.List ℕ) {l : Lists.List ℕ} (p : l ≡ take 18 bs) {n : ℕ} (e : headerRead l ≡ Stations n) {rest : Lists.List ℕ}
+    (q : rest ≡ drop (length l) bs) where
+  pub header-told : headerRead (take 18 bs) ≡ Stations n
+  header-told = ap headerRead (sym p) ∙ e
+
+  pub calls-told : stepCalls 1 (givenIn rest) ≡ fileCalls bs
+  calls-told = ap (λ x. stepCalls 1 (givenIn x)) (q ∙ rest-after bs l p)
+
+  module _ {s : Survey} (f : Surveys 1 rest s) where
+    pub final-told : s .refusal ≡ finalOf bs
+    final-told = f .refusal ∙ ap (λ x. ending 1 (givenIn x)) (q ∙ rest-after bs l p)
+        ∙ sym (ap (λ h. finalAfter h (map roomy (stepLines bs))) header-told)
+
+    pub steps-told : s .steps ≡ length (fileCalls bs)
+    steps-told = f .steps ∙ ap length calls-told
+
+    pub snaps-told : s .snaps ≡ snapCalls (fileCalls bs)
+    snaps-told = f .snaps ∙ ap snapCalls calls-told
