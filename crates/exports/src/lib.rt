@@ -1,7 +1,8 @@
 // The functions exported to programs in C and Rust: step calls on a table in four arrays, which its owner lends, a question to it, and whole schedule files,
-// their reports and their numbers.
+// their reports, their numbers and their logs.
 ghost use mathlib.Core.Path.{_≡_};
 ghost use mathlib.Core.Logic.{_≢_};
+ghost use mathlib.Core.Bool.{cond};
 ghost use mathlib.Core.List.{map};
 ghost use lib.ListN.{length};
 ghost use Rattle.simulation.specs.Calls.{Buffer, Panel, Bytes, Records};
@@ -13,7 +14,7 @@ ghost use Rattle.arrays.specs.Form.{lent};
 ghost use Rattle.engine.specs.Contracts.{recordOf};
 ghost use Rattle.file.specs.Contracts.{ReportsFile};
 ghost use Rattle.numbering.specs.Files.{NumbersFile};
-ghost use Rattle.exports.specs.Contracts.{Starts};
+ghost use Rattle.exports.specs.Contracts.{Starts, Judges};
 use arrays::Control;
 use arrays::Jobs;
 use arrays::Labels;
@@ -161,5 +162,35 @@ pub extern "C" fn tickets_numbers(schedule: &[u8], numbers: &mut [u32]) -> Answe
     Answer {
         refusal: refusal.number(),
         written: found.written as u64,
+    }
+}
+
+// What is told of a log: the documents' number, 0 if its schedule is served; and 1 if the log is right, else 0.
+#[repr(C)]
+pub struct Verdict {
+    pub refusal: u64,
+    pub right: u64,
+}
+
+// Yes as 1, no as 0.
+fn flag(yes: bool) -> u64
+    ensures { λ r. ⌜ r ≡ cond yes 1 0 ⌝ }
+{
+    if yes {
+        return 1;
+    }
+    0
+}
+
+// Checks the log of a whole schedule file, its numbers and its report, against the unbounded table. A refusal is answered before any step is run.
+#[no_mangle]
+pub extern "C" fn tickets_check_log(schedule: &[u8], numbers: &[u64], report: &[u8]) -> Verdict
+    ensures { λ r. ⌜ Judges (now (schedule .entry)) (now (numbers .entry)) (now (report .entry)) (r .refusal) (r .right) ⌝ }
+{
+    let verdict = logs::check(schedule, numbers, report);
+    let refusal = verdict.refusal;
+    Verdict {
+        refusal: refusal.number(),
+        right: flag(verdict.right),
     }
 }

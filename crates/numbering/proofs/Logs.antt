@@ -11,9 +11,9 @@ use Rattle.arrays.specs.Form.{lent}
 use Rattle.arrays.proofs.States.{lent-lawful}
 use Rattle.schedule.specs.Files.{stepLines, fileReport}
 use Rattle.schedule.specs.Demand.{roomy, fileCalls}
-use Rattle.schedule.specs.Numbers.{finalAfter, finalOf, snapCalls}
+use Rattle.schedule.specs.Numbers.{finalAfter, finalOf, readingRefusal}
 use Rattle.schedule.specs.Logs.{RightLog, listLines}
-use Rattle.schedule.proofs.Surveys.{surveyed-none}
+use Rattle.schedule.proofs.Surveys.{surveyed-none, surveyed-served}
 use Rattle.schedule.proofs.Logs.{right-log, lists-struck}
 use Rattle.numbering.specs.Files.{numberingRefusal, fileNumbers, NumbersFile}
 
@@ -21,6 +21,11 @@ use Rattle.numbering.specs.Files.{numberingRefusal, fileNumbers, Numbers
 served-final : (bs : Lists.List ℕ) (room : ℕ) → refusalNumber (numberingRefusal bs room) ≡ 0 → refusalNumber (finalOf bs) ≡ 0
 unfolding numberingRefusal
 served-final bs room z = surveyed-none (finalOf bs) (length (fileCalls bs)) _ z .0
+
+-- nor is it refused as the file of a log
+pub served-reading : (bs : Lists.List ℕ) (room : ℕ) → refusalNumber (numberingRefusal bs room) ≡ 0 → refusalNumber (readingRefusal bs) ≡ 0
+unfolding numberingRefusal readingRefusal
+served-reading bs room z = surveyed-served (finalOf bs) (length (fileCalls bs)) _ z
 
 pub numbered-log : {bs list list′ : Lists.List ℕ} {written : ℕ} → NumbersFile bs list 0 written list′
     → RightLog bs (take written list′) (listLines (fileReport lent bs))

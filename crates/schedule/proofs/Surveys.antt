@@ -238,6 +238,15 @@ surveyed-none final steps next = go (eqb (refusalNumber final) 0) (ltb 4096 step
     go true false e z = (eqb-true (refusalNumber final) 0 e, z)
     go false b e z = absurd (tf (eq-eqb (refusalNumber final) 0 z) e)
 
+pub surveyed-served : (final : Refusal) (steps : ℕ) (next : Refusal) → refusalNumber (surveyed final steps next) ≡ 0
+    → refusalNumber (surveyed final steps Accepted) ≡ 0
+surveyed-served final steps next = go (eqb (refusalNumber final) 0) (ltb 4096 steps)
+  where
+    go : (a b : Bool) → refusalNumber (cond a (cond b TooManySteps next) final) ≡ 0 → refusalNumber (cond a (cond b TooManySteps Accepted) final) ≡ 0
+    go true true z = z
+    go true false z = refl
+    go false b z = z
+
 -- a refused header refuses the file, whatever its lines
 pub surveyed-header : (bs : Lists.List ℕ) {l : Lists.List ℕ} → l ≡ take 18 bs → {r : Refusal} → headerRead l ≡ Headers.Refused r → (steps : ℕ) (next : Refusal)
     → (surveyed (finalOf bs) steps next ≡ r) × (refusalNumber r ≡ 0 → ⊥)
