@@ -78,7 +78,9 @@ module _ {bs list₀ list : List ℕ} {count : ℕ} (f : ReadSoFar bs list₀ li
         room = omega arith;
         size = length-set list count v ∙ f .size;
         read = record {
-          lines = lines ∙ ap₂ _++_ (f .read .lines) (sym (ap (λ k. take k (drop (count * 12) bs)) e) ∙ g .line ∙ sym (append-nil (numberLine v))) ∙ sym (numbers-append (take count list) (v ∷ []))
+          lines = lines
+              ∙ ap₂ _++_ (f .read .lines) (sym (ap (λ k. take k (drop (count * 12) bs)) e) ∙ g .line ∙ sym (append-nil (numberLine v)))
+              ∙ sym (numbers-append (take count list) (v ∷ []))
               ∙ ap numberLines (sym more);
           fit = rw more (fit-more (take count list) v (f .read .fit) (g .fits));
         };
@@ -115,7 +117,8 @@ line-of [] i h = absurd (omega arith)
 line-of (v ∷ ns) zero h = take-at (numberLine v) (numberLines ns) 12 (length-number v)
 line-of (v ∷ ns) (suc i) h =
     let same : suc i * 12 ≡ length (numberLine v) + i * 12 = omega (arith, length-number v) in
-    ap (take 12) (ap (λ k. drop k (numberLine v ++ numberLines ns)) same ∙ drop-append-add (numberLine v) (numberLines ns) (i * 12)) ∙ line-of ns i (omega arith)
+    ap (take 12) (ap (λ k. drop k (numberLine v ++ numberLines ns)) same ∙ drop-append-add (numberLine v) (numberLines ns) (i * 12))
+    ∙ line-of ns i (omega arith)
 
 -- in all of it the list has so many entries
 module _ (bs : List ℕ) (entries : ℕ) where

@@ -7,7 +7,7 @@ use mathlib.Core.Bool.{Bool, true, false, not, _&&_, cond, true≢false}
 use mathlib.Core.List as Lists
 use lib.ListN.{length, getD, take, drop}
 use lib.Dec.{eqb, ltb}
-use borrow.Author.Tests.{eq-eqb, ne-eqb, ltb-false}
+use borrow.Author.Tests.{eq-eqb, ne-eqb, eqb-true, ltb-false}
 use Rattle.basics.specs.Tests.{within}
 use Rattle.basics.proofs.Facts.{within-true}
 use Rattle.columns.specs.Reading.{columnRead}
@@ -100,6 +100,18 @@ module _ (l : Lists.List ℕ) where
 
   pub header-stations : (n : ℕ) → headerRead l ≡ Stations n → (2 ≤ n) × (n ≤ 32)
   header-stations n e = subst Sound e header-sound
+
+  -- and it is a whole line
+  pub header-length : (n : ℕ) → headerRead l ≡ Stations n → length l ≡ 18
+  unfolding headerRead lineRead
+  header-length n = go (eqb (length l) 18) refl
+    where
+      columns : Line
+      columns = stepRead (columnRead (take 3 l)) (columnRead (take 3 (drop 3 l))) (columnRead (take 11 (drop 6 l)))
+
+      go : (b : Bool) → eqb (length l) 18 ≡ b → headerSaid (cond (b && eqb (getD l 17 0) 10) columns (Refused IncompleteLine)) ≡ Stations n → length l ≡ 18
+      go true e h = eqb-true (length l) 18 e
+      go false e h = let z : _≡_ {A = ℕ} 0 1 = cc in absurd (omega arith)
 
   -- a session that goes on behind its header has an accepted one
   pub header-accepted : (F : Form) → isFinal (headerOf F l) ≡ false → (n : ℕ) × (headerRead l ≡ Stations n)

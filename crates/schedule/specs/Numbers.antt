@@ -30,8 +30,8 @@ finalAfter (Stations n) gs = ending 1 gs
 abbrev pub finalOf : Lists.List ℕ → Refusal
 finalOf bs = finalAfter (headerRead (take 18 bs)) (map roomy (stepLines bs))
 
--- REFUSALS of a file that is read before any step is run: the final one; then 16 for more than 4,096 step lines; then `next`, which Card 6 and Card 7 have
--- of their own
+-- REFUSALS of a file that is read before any step is run (02, Cards 6 and 7): the final one; then 16 for more than 4,096 step lines; then `next`, what a card
+-- has of its own
 abbrev pub surveyed : Refusal → ℕ → Refusal → Refusal
 surveyed final steps next = cond (eqb (refusalNumber final) 0) (cond (ltb 4096 steps) TooManySteps next) final
 

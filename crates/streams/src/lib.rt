@@ -1,9 +1,8 @@
-// Standard input and output for programs that end with a line on standard error where one of them fails.
+// Input and output for programs that end with a line on standard error where one of them fails.
 ghost use mathlib.Core.Path.{_≡_};
 ghost use mathlib.Core.Bool.{true};
 ghost use Rattle.io.specs.Counts.{Counts};
 use libc::STDERR_FILENO;
-use libc::STDIN_FILENO;
 use libc::STDOUT_FILENO;
 
 // How many bytes were read, and whether that failed; then there are none.
@@ -12,14 +11,30 @@ pub struct Input {
     pub failed: bool,
 }
 
-// Reads until `buf` is full or the input ends; complains if it cannot be read.
-pub fn read_input(buf: &mut [u8], complaint: &[u8]) -> Input
+// Opens the file that argument i names for reading, and hands back its descriptor; complains if there is no such argument, or it names no file that can be
+// opened, and hands back a negative number.
+pub fn open_argument(i: usize, complaint: &[u8]) -> i32 {
+    let mut path = io::buffer();
+    let k = os::arg(i, &mut path);
+    if os::errno() != 0 {
+        io::write_all(STDERR_FILENO, complaint);
+        return -1;
+    }
+    let fd = os::open_read(&path[..k]);
+    if fd < 0 {
+        io::write_all(STDERR_FILENO, complaint);
+    }
+    fd
+}
+
+// Reads from a descriptor until `buf` is full or the input ends; complains if it cannot be read.
+pub fn read_input(fd: i32, buf: &mut [u8], complaint: &[u8]) -> Input
     ensures { λ r. ⌜ (r .failed ≡ true → r .count ≡ 0) ⌝ }
     ensures { λ r. ⌜ Counts (r .count) (now (buf .exit)) ⌝ }
 {
     let mut count = 0;
     while count < buf.len() {
-        let got = libc::read(STDIN_FILENO, &mut buf[count..]);
+        let got = libc::read(fd, &mut buf[count..]);
         if got < 0 {
             io::write_all(STDERR_FILENO, complaint);
             return Input {

@@ -152,7 +152,7 @@ module _ (a : Arrays) (g : Shaped a) (known : (i : ℕ) → i < 32 → (cell (a 
 module _ (n : ℕ) (s : State Labels.Label) where
   written-shaped : Shaped (arraysOf n s)
   unfolding arraysOf row
-  written-shaped = made-shaped n (λ x i. row 31 (s .labels x i)) (jobsOf s) (controlOf s)
+  written-shaped = made-shaped n (λ x i. row 31 (s .labels x i)) (jobsOf (s .rest)) (controlOf (s .rest))
       (λ i y q. let e = getD (s .rest .result i) q (Calls.entry 0 0) in cond y (e .job) (e .station)) (λ x i h. length-tabulate 31 0 _)
 
   written-known : (i : ℕ) → i < 32 → (cell (arraysOf n s .control) 0 i 0 ≤ 4) × (cell (arraysOf n s .control) 1 i 0 ≤ 1)

@@ -12,6 +12,7 @@ use arrays::Control;
 use arrays::Jobs;
 use arrays::Labels;
 use arrays::Results;
+use libc::STDIN_FILENO;
 use schedule::Header;
 use streams::Input;
 
@@ -25,7 +26,11 @@ struct Turn {
 fn read_schedule(buf: &mut [u8]) -> Input
     ensures { λ r. ⌜ Counts (r .count) (now (buf .exit)) ⌝ }
 {
-    streams::read_input(buf, b"tickets: the schedule could not be read\n")
+    streams::read_input(
+        STDIN_FILENO,
+        buf,
+        b"tickets: the schedule could not be read\n",
+    )
 }
 
 // Writes a part of the report, and answers whether it could.

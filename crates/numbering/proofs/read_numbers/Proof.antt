@@ -19,7 +19,9 @@ returns : tie.Need-returns Inv-loop μ-loop
 returns c = let a = c .before .before .before .args in read-broken (read-start _ _) (broken-length (a .bytes .now) (length (a .list .now)) (c .if1 .taken))
 
 returns-2 : tie.Need-returns-2 Inv-loop μ-loop
-returns-2 c = let a = c .before .before .before .before .args in read-broken (read-start _ _) (broken-room (a .bytes .now) (length (a .list .now)) (c .if2 .taken))
+returns-2 c =
+    let a = c .before .before .before .before .args in
+    read-broken (read-start _ _) (broken-room (a .bytes .now) (length (a .list .now)) (c .if2 .taken))
 
 -- the next line lies within the bytes, and there is room for its number
 room : (x : tie.In-loop Inv-loop μ-loop) → let l = x .before .loop in let a = x .before .before .before .before .before .before .args in
@@ -48,7 +50,10 @@ loop-again c =
     let test = c .before .before .before .before .before in
     let l = test .before .loop in
     let read = c .before .before .before .read-number in
-    (read-more (l .inv .0) _ (l .count * 12 + 12 - l .count * 12) (omega (arith, room test, l .inv .0 .size)) (omega arith) (read .ensures _ .0 (c .before .v .given .1)), omega (arith, test .loop-test .taken))
+    let k = l .count * 12 + 12 - l .count * 12 in (
+      read-more (l .inv .0) _ k (omega (arith, room test, l .inv .0 .size)) (omega arith) (read .ensures _ .0 (c .before .v .given .1)),
+      omega (arith, test .loop-test .taken),
+    )
 
 returns-4 : tie.Need-returns-4 Inv-loop μ-loop
 returns-4 c =

@@ -35,10 +35,10 @@ array-share-prefix-out c =
     let wrote = c .before .print-numbers in
     omega (arith, wrote .ensures .0, wrote .kept .1 .0, f .1, f .2)
 
-slice-aggregate-write-numbers : tie.Need-slice-aggregate-write-numbers
-slice-aggregate-write-numbers c = sym (length-take-le _ _ (array-share-prefix-out (c .before)))
+slice-aggregate-write-output : tie.Need-slice-aggregate-write-output
+slice-aggregate-write-output c = sym (length-take-le _ _ (array-share-prefix-out (c .before)))
 
 pub number-file-spec : {M : Type 1} → statement M
 number-file-spec = tie.close (tie.spec (λ c. search needs) (λ c κs. search needs) (λ c κs. search needs) (λ c κs. search needs) (λ c. search needs)
-    array-share-prefix-list slice-aggregate-print-numbers (λ c. search needs) print-numbers-requires array-share-prefix-out slice-aggregate-write-numbers
+    array-share-prefix-list slice-aggregate-print-numbers (λ c. search needs) print-numbers-requires array-share-prefix-out slice-aggregate-write-output
     (λ c κs. search needs) (λ c. search needs))

@@ -12,10 +12,10 @@ use Rattle.streams.proofs.read_input.Statement.{statement}
 use Rattle.streams.proofs.read_input.Tie as tie
 
 abbrev Inv-loop : tie.InvT-loop
-Inv-loop buf₀ complaint count₀ buf count = (length buf ≡ length buf₀) × (count ≤ length buf₀)
+Inv-loop fd buf₀ complaint count₀ buf count = (length buf ≡ length buf₀) × (count ≤ length buf₀)
 
 abbrev μ-loop : tie.MeasureT-loop
-μ-loop buf₀ complaint count₀ buf count = length buf₀ - count
+μ-loop fd buf₀ complaint count₀ buf count = length buf₀ - count
 
 loop-holds : tie.Need-loop-holds Inv-loop μ-loop
 loop-holds c = (refl, omega arith)
@@ -63,7 +63,8 @@ inside y =
     omega (arith, kept x, l .inv, y .count .ensures .0 .0, length-take (length buf - l .count) (drop (l .count) buf), length-drop (l .count) buf)
 
 add-count : tie.Need-add-count Inv-loop μ-loop
-add-count c = omega (arith, inside (c .before), c .before .before .before .before .before .before .before .before .before .before .before .before .before .good .0 .0)
+add-count c =
+    omega (arith, inside (c .before), c .before .before .before .before .before .before .before .before .before .before .before .before .before .good .1 .0 .0)
 
 loop-less : tie.Need-loop-less Inv-loop μ-loop
 loop-less c = omega (arith, inside (c .before), c .if2 .left)
