@@ -1,7 +1,9 @@
 // Logs of schedule files (document 02, Card 7: the old books): the numbers and the report of a log held against the unbounded table, which is fed with them.
 ghost use mathlib.Core.Path.{_≡_};
+ghost use mathlib.Core.Bool.{_&&_};
 ghost use Prim.Native.Nat.{_≤_};
 ghost use lib.ListN.{length, drop};
+ghost use lib.Dec.{eqb};
 ghost use Rattle.simulation.specs.Calls.{Buffer};
 ghost use Rattle.simulation.specs.Machine.{original, fresh};
 ghost use Rattle.transition.specs.Logs.{atFront, right};
@@ -103,6 +105,13 @@ fn check_line(
     }
 }
 
+// Whether nothing is left of the numbers and of the report.
+fn nothing_left(log: &[u64], used: usize, report: &[u8], shown: usize) -> bool
+    ensures { λ r. ⌜ r ≡ (eqb used (length (now (log .entry))) && eqb shown (length (now (report .entry)))) ⌝ }
+{
+    (used == log.len()) & (shown == report.len())
+}
+
 // Runs the lines after a header of n stations, up to one that ends the reading, on the unbounded table: whether the numbers and the report are just theirs.
 fn check_lines(n: usize, rest: &[u8], log: &[u64], report: &[u8]) -> bool
     requires { ⌜ (2 ≤ n) × (n ≤ 32) ⌝ }
@@ -130,7 +139,7 @@ fn check_lines(n: usize, rest: &[u8], log: &[u64], report: &[u8]) -> bool
         let line = schedule::line_at(rest, at);
         match schedule::next_line(count, line) {
             Line::Refused(_) => {
-                return (used == log.len()) & (shown == report.len());
+                return nothing_left(log, used, report, shown);
             }
             Line::Step { station, code, job } => {
                 let request = Request {
@@ -163,7 +172,7 @@ fn check_lines(n: usize, rest: &[u8], log: &[u64], report: &[u8]) -> bool
             }
         }
     }
-    (used == log.len()) & (shown == report.len())
+    nothing_left(log, used, report, shown)
 }
 
 // What is told of a log: the refusal of its schedule, and, if there is none, whether it is right.

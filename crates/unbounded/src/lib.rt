@@ -129,7 +129,7 @@ pub fn take_turn(
     let given = given_to(m, place, z, &numbers[CURRENT], log, used);
     if !given.fits {
         return Turn {
-            fits: false,
+            fits: given.fits,
             used,
             place,
             entries: 0,

@@ -35,10 +35,10 @@ here x =
 
 returns : tie.Need-returns Inv-loop μ-loop
 returns c =
-    let x = c .before .before .before in
+    let x = c .before .before .before .before in
     let l = x .before .before .loop in
-    let said = sym (c .before .before .next-line .ensures) ∙ c .enum-told .given .1 in
-    sofar-end (l .inv .0) (calls-refused _ _ (x .before .loop-test .taken) (x .line-at .ensures) _ said .0)
+    let said = sym (c .before .before .before .next-line .ensures) ∙ c .before .enum-told .given .1 in
+    c .nothing-left .ensures ∙ sofar-end (l .inv .0) (calls-refused _ _ (x .before .loop-test .taken) (x .line-at .ensures) _ said .0)
 
 check-line-requires : tie.Need-check-line-requires Inv-loop μ-loop
 check-line-requires c κs =
@@ -72,12 +72,12 @@ loop-again c =
     )
 
 returns-3 : tie.Need-returns-3 Inv-loop μ-loop
-returns-3 c = sofar-end (c .before .loop .inv .0) (calls-none _ _ _ (c .loop-test .left) .0)
+returns-3 c = c .nothing-left2 .ensures ∙ sofar-end (c .before .before .loop .inv .0) (calls-none _ _ _ (c .before .loop-test .left) .0)
 
 pub check-lines-spec : {M : Type 1} → statement M
 check-lines-spec = tie.close (tie.spec Inv-loop μ-loop (λ c κs. search needs) loop-holds (λ c κs. c .before .loop .inv .0 .within) (λ c κs. search needs)
-    (λ c. search needs) returns (λ c. search needs) (λ c. search needs)
+    (λ c. search needs) (λ c κs. search needs) returns (λ c. search needs) (λ c. search needs)
     (λ c. let l = c .before .before .before .before .before .before .loop in omega (arith, l .inv .0 .few)) (λ c. sym (c .before .before .before .before .before .before .before .before .before .before .before .before .loop .inv .2)) check-line-requires returns-2
     (λ c. let l = c .before .before .before .before .before .before .before .before .before .before .before .before .before .before .before .before .loop in
     omega (arith, l .inv .0 .few))
-    (λ c. omega (arith, here (found (c .before .before .before)))) (λ c. omega (arith, here (found (c .before .before .before)))) loop-again returns-3)
+    (λ c. omega (arith, here (found (c .before .before .before)))) (λ c. omega (arith, here (found (c .before .before .before)))) loop-again (λ c κs. search needs) returns-3)

@@ -22,7 +22,7 @@ returns c =
     let g = c .before .before in
     let x = judged g in
     let f = start x .pre .0 in
-    (turn-unfit f (x .judge .ensures) (g .given-to .ensures) (was-false refl (c .if1 .taken)) refl, f)
+    (turn-unfit f (x .judge .ensures) (g .given-to .ensures) (was-false refl (c .if1 .taken)) (was-false refl (c .if1 .taken)), f)
 
 carry-rest-requires : tie.Need-carry-rest-requires
 carry-rest-requires c κs =
