@@ -163,7 +163,7 @@ fn check_lines(n: usize, rest: &[u8], log: &[u64], report: &[u8]) -> bool
                     &mut lines,
                 );
                 if !r.right {
-                    return false;
+                    return r.right;
                 }
                 used = r.used;
                 shown = r.shown;

@@ -57,8 +57,8 @@ returns-2 c =
     let k = c .before .before .before in
     let x = found k in
     let said = sym (read k .before .before .next-line .ensures) ∙ read k .station .given .1 in
-    sofar-stop (x .before .before .loop .inv .0) (x .before .loop-test .taken) (x .line-at .ensures) said (k .check-line .ensures .0)
-    (was-false refl (c .if1 .taken))
+    let wrong = was-false refl (c .if1 .taken) in
+    wrong ∙ sofar-stop (x .before .before .loop .inv .0) (x .before .loop-test .taken) (x .line-at .ensures) said (k .check-line .ensures .0) wrong
 
 loop-again : tie.Need-loop-again Inv-loop μ-loop
 loop-again c =
