@@ -266,9 +266,10 @@ pub fn carry_out(
         (arrays n (now (labels .exit)) (now (jobs .exit)) (now (control .exit)) (now (results .exit))) r ⌝ }
 {
     arrays::shaped(*labels, *jobs, *control, *results);
+    let h = carry_rest(n, task, order, jobs, control, results);
     let m = task.action;
     relabel(m, task.place, task.newest, n, labels);
-    carry_rest(n, task, order, jobs, control, results)
+    h
 }
 
 // How many entries a station whose phase has this number may hand out: none but at the end of a scan.
