@@ -3,11 +3,11 @@
 use intake::Intake;
 use moves::Refusal;
 
-// The bytes of 4,096 numbers and one more, which no whole lines have: what fills this is too long.
+// A right log has at most 4,096 numbers and a report of 1,900,544 bytes (`log-bounds` in schedule/proofs/Logs.antt). Each buffer holds one byte more, and what
+// fills it is too long, whatever was cut off: numbers of so many bytes are not whole lines, and with a report of so many no log is right.
 const NUMBERS: usize = 49153;
 
-// The bytes of 4,096 scan results of 32 report lines, and one more likewise. No log that is right has as many.
-const REPORT: usize = 3801089;
+const REPORT: usize = 1900545;
 
 // Writes the answer.
 fn write_answer(bytes: &[u8]) {

@@ -85,7 +85,7 @@ module _ (F : Form) (L : Lawful F) (n : ℕ) (low : 2 ≤ n) (high : n ≤ 32) w
       enough : (k : ℕ) → k ≤ n → holds (c .room) k ≡ true
       enough k l = ap (λ r. holds r k) (h .0) ∙ le-leb (k * 29) 928 (omega arith)
 
-lines-roomy : (lines : ℕ) (ls : Lists.List (Lists.List ℕ)) → All (λ c. c .room ≡ Buffer 928) (stepCalls lines (map roomy ls))
+pub lines-roomy : (lines : ℕ) (ls : Lists.List (Lists.List ℕ)) → All (λ c. c .room ≡ Buffer 928) (stepCalls lines (map roomy ls))
 unfolding stepCalls
 lines-roomy lines [] = tt
 lines-roomy lines (l ∷ ls) = go (nextLine lines l) (lines-roomy (lines + 1) ls)

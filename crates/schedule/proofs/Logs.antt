@@ -24,15 +24,17 @@ use Rattle.transition.specs.Forms.{Form, TableAnswer, freshTable, stepOf}
 use Rattle.transition.specs.Demand.{run, seen}
 use Rattle.transition.specs.Logs.{lists, Right}
 use Rattle.transition.proofs.Theorem.{Lawful, ReachedTable, table-fresh, table-count, table-refusals, table-step, step-report, step-kept, reached-held}
-use Rattle.transition.proofs.Logs.{logged}
+use Rattle.transition.proofs.Logs.{numbers-few, report-half, logged}
 use Rattle.moves.specs.Moves.{refusalNumber}
+use Rattle.moves.specs.declared.Refusal.the-variants.{Accepted}
 use Rattle.schedule.specs.Lines.{nextLine, headerRead}
 use Rattle.schedule.specs.Files.{stepLines, refusalLine, printed, fileReport}
 use Rattle.schedule.specs.Demand.{Given, callThen, stepCalls, ending, roomy, fileCalls, printedCalls, endPrinted, FileDemand}
-use Rattle.schedule.specs.Numbers.{FileNumbers}
+use Rattle.schedule.specs.Numbers.{finalOf, readingRefusal, FileNumbers}
 use Rattle.schedule.specs.Logs.{fileLists, RightLog, ofScan, linesOfScans, listLines}
 use Rattle.schedule.proofs.SessionLaws.{next-within, header-stations}
-use Rattle.schedule.proofs.FileTheorem.{file-demand}
+use Rattle.schedule.proofs.FileTheorem.{lines-roomy, file-demand}
+use Rattle.schedule.proofs.Surveys.{surveyed-none}
 use Rattle.schedule.specs.declared.Line.{Line}
 use Rattle.schedule.specs.declared.Line.the-variants.{Step, Refused}
 use Rattle.schedule.specs.declared.Header.the-variants.{Stations}
@@ -58,6 +60,18 @@ pub right-log : {F : Form} {bs : Lists.List ℕ} {n : ℕ} {ns : Lists.List ℕ}
     → RightLog bs ns (fileLists F n bs)
 right-log {F} {bs} {n} {ns} b e N =
     record { stations = n; header = e; log = subst (λ B. Right B n (fileCalls bs) ns (fileLists F n bs)) b (file-log N) }
+
+-- HOW LONG a right log is: of no more numbers than steps, and of a report of half of the room for their lines
+pub log-short : {bs ns bytes : Lists.List ℕ} → RightLog bs ns bytes → (length ns ≤ length (fileCalls bs)) × (length bytes ≤ 464 * length (fileCalls bs))
+log-short {bs} R = (numbers-few (R .log), omega (arith, report-half 928 (lines-roomy 1 (stepLines bs)) (R .log)))
+
+-- of a file that is not refused: 4,096 numbers at most, and 2,048 scan results of 32 report lines
+pub log-bounds : {bs ns bytes : Lists.List ℕ} → RightLog bs ns bytes → refusalNumber (readingRefusal bs) ≡ 0 → (length ns ≤ 4096) × (length bytes ≤ 1900544)
+unfolding readingRefusal
+log-bounds {bs} R z =
+    let few = surveyed-none (finalOf bs) (length (fileCalls bs)) Accepted z .2 in
+    let short = log-short R in
+    (omega (arith, few, short .0), omega (arith, few, short .1))
 
 -- A REPORT WITHOUT ITS REFUSALS
 

@@ -9,7 +9,7 @@ use mathlib.Core.List.{[], _∷_, _++_, map, map-append, append-nil}
 use lib.ListN.{length, take, drop, length-map, length-drop}
 use lib.Seq.{take-at, drop-at}
 use lib.Dec.{eqb, ltb}
-use borrow.Author.Tests.{eq-eqb, ne-eqb, eqb-true, lt-ltb}
+use borrow.Author.Tests.{eq-eqb, ne-eqb, eqb-true, lt-ltb, ltb-false}
 use Rattle.basics.specs.Tests.{passing}
 use Rattle.basics.proofs.Facts.{tf}
 use Rattle.basics.proofs.Passing.{passing-cons}
@@ -229,14 +229,14 @@ surveyed-next final steps next = go (eqb (refusalNumber final) 0) (ltb 4096 step
 
 -- and all of them pass only where none refuses
 pub surveyed-none : (final : Refusal) (steps : ℕ) (next : Refusal) → refusalNumber (surveyed final steps next) ≡ 0
-    → (refusalNumber final ≡ 0) × (refusalNumber next ≡ 0)
-surveyed-none final steps next = go (eqb (refusalNumber final) 0) (ltb 4096 steps) refl
+    → (refusalNumber final ≡ 0) × (refusalNumber next ≡ 0) × (steps ≤ 4096)
+surveyed-none final steps next = go (eqb (refusalNumber final) 0) (ltb 4096 steps) refl refl
   where
-    go : (a b : Bool) → eqb (refusalNumber final) 0 ≡ a → refusalNumber (cond a (cond b TooManySteps next) final) ≡ 0
-        → (refusalNumber final ≡ 0) × (refusalNumber next ≡ 0)
-    go true true e z = absurd (omega arith)
-    go true false e z = (eqb-true (refusalNumber final) 0 e, z)
-    go false b e z = absurd (tf (eq-eqb (refusalNumber final) 0 z) e)
+    go : (a b : Bool) → eqb (refusalNumber final) 0 ≡ a → ltb 4096 steps ≡ b → refusalNumber (cond a (cond b TooManySteps next) final) ≡ 0
+        → (refusalNumber final ≡ 0) × (refusalNumber next ≡ 0) × (steps ≤ 4096)
+    go true true e f z = absurd (omega arith)
+    go true false e f z = (eqb-true (refusalNumber final) 0 e, z, ltb-false 4096 steps f)
+    go false b e f z = absurd (tf (eq-eqb (refusalNumber final) 0 z) e)
 
 pub surveyed-served : (final : Refusal) (steps : ℕ) (next : Refusal) → refusalNumber (surveyed final steps next) ≡ 0
     → refusalNumber (surveyed final steps Accepted) ≡ 0

@@ -1,6 +1,6 @@
 -- The test of a log is exact; tables of labels write right logs; and how long a right log is (02, Card 7).
-use Prim.Native.Nat.{ℕ, suc, _*_, _≤_, _<_}
-use native.Mathlib.Nat.{mul-suc}
+use Prim.Native.Nat.{ℕ, suc, _+_, _*_, _≤_, _<_}
+use native.Mathlib.Nat.{mul-suc, mul-le-mul-left}
 use native.Mathlib.Omega.{arith}
 use mathlib.Core.Path.{_≡_, refl, sym, ap, ap₂, _∙_}
 use mathlib.Core.Logic.{_↔_}
@@ -10,16 +10,17 @@ use mathlib.Core.List.{[], _∷_, _++_, map, map-map}
 use lib.ListN.{length, getD, take, drop, length-append, take-append-drop, drop-of-length-le}
 use lib.Seq.{drop-cons, take-append-seam, drop-append-seam}
 use lib.Dec.{eqb, ltb, leb}
-use borrow.Author.Tests.{eqb-true, eq-eqb, ltb-true, lt-ltb, leb-true, le-leb}
-use Rattle.basics.specs.Tests.{newest, ordered, All}
-use Rattle.basics.proofs.Facts.{tf, and-both, both, is-false, all-weaken}
-use Rattle.simulation.specs.Calls.{Call, place, Label, Scan, Buffer, Phase, Rest, Move, judge, bytesOf, written}
+use borrow.Author.Tests.{eqb-true, eq-eqb, ne-eqb, ltb-true, lt-ltb, leb-true, le-leb}
+use Rattle.basics.specs.Tests.{count, newest, ordered, All}
+use Rattle.basics.proofs.Facts.{tf, and-both, both, is-false, all-weaken, bit-one}
+use Rattle.basics.proofs.Counts.{count-none, count-but}
+use Rattle.simulation.specs.Calls.{Call, place, Label, Scan, Buffer, Phase, Idle, Update, Snap, End, Process, Rest, Move, judge, bytesOf, written}
 use Rattle.simulation.specs.Machine as Machine
 use Rattle.simulation.specs.Machine.{Board, original, Labelling, Rules, stands, LabelStep, stay, snap, update, labelStep, labelSnap, carryOut, State, fresh}
-use Rattle.simulation.specs.Machine.{Answer, step, snapsOf, Seen}
+use Rattle.simulation.specs.Machine.{inPhase, begun, updated, setOut, changed, Answer, step, snapsOf, Seen}
 use Rattle.simulation.specs.Numbered.{numbered, LabelSnap, met, labelSnaps, Fit, Fits}
 use Rattle.simulation.proofs.Advances.{met-length, fit-weaken}
-use Rattle.simulation.proofs.Judged.{Verdict, turned, begins, scans, updates, snaps, ends, service, verdict-in}
+use Rattle.simulation.proofs.Judged.{Own, own-place, Verdict, turned, begins, scans, updates, snaps, ends, service, verdict-in}
 use Rattle.simulation.proofs.Reports.{lines-length}
 use Rattle.transition.specs.Forms.{Form, TableAnswer, freshTable}
 use Rattle.transition.specs.Demand.{run, seen}
@@ -172,7 +173,7 @@ right-exactly B n calls ns bytes =
     let e = exactly B n calls (fresh 0) ns bytes in
     ((λ h. let t = e .0 h in record { fits = t .0; report = t .1 }), λ r. e .1 (r .fits, r .report))
 
--- HOW LONG a right log is: as many numbers as calls at most, and what the buffers hold
+-- HOW LONG a right log is: as many numbers as calls at most, and a report that fills half of their buffers at most
 
 met-few : (B : Board) (n : ℕ) (cs : Lists.List Call) (s : State ℕ) (ns : Lists.List ℕ) → length (labelSnaps B n s ns cs) ≤ length cs
 unfolding labelSnaps
@@ -192,48 +193,80 @@ met-few B n (c ∷ cs) s ns =
 pub numbers-few : {B : Board} {n : ℕ} {calls : Lists.List Call} {ns bytes : Lists.List ℕ} → Right B n calls ns bytes → length ns ≤ length calls
 numbers-few {B} {n} {calls} {ns} R = omega (arith, R .fits .one, met-few B n calls (fresh 0) ns)
 
--- what a call hands out fits the buffer that is lent: an end without room is refused
-handed-fits : (n b : ℕ) (c : Call) (order : Lists.List ℕ) (o : Rest) → c .room ≡ Buffer b → length (carryOut order o (judge false n o c) .handed) * 29 ≤ b
-unfolding carryOut
-handed-fits n b c order o e = go (verdict-in n o c)
-  where
-    go : {out : Bool} {ph : Phase} {w : Move} → Verdict n (length (o .result (place c))) c out ph w → length (carryOut order o w .handed) * 29 ≤ b
-    go (turned x d) = omega arith
-    go (begins own q) = omega arith
-    go (scans own q) = omega arith
-    go (updates own q) = omega arith
-    go (snaps own Label q t) = omega arith
-    go (snaps own Scan q t) = omega arith
-    go (ends own Label q h) = omega arith
-    go (ends own Scan q h) = leb-true _ b (rw e at h)
-    go (service own x q) = omega arith
+-- A report fills half of the buffers at most: a call that hands out ends a scan, and another has begun it. So what counts is how many processes are due to
+-- end a scan; each call makes one more of them at most, and one that hands out one fewer.
+abbrev endsScan : Phase → Bool
+endsScan Idle = false
+endsScan Update = false
+endsScan (Snap o) = false
+endsScan (End Label) = false
+endsScan (End Scan) = true
 
-pub step-short : {A : Type 0} (n b : ℕ) (r : Rules A) (s : State A) (c : Call) → c .room ≡ Buffer b → length (bytesOf (step original n r s c .report)) ≤ b
-unfolding step
-step-short n b r s c e =
+abbrev endings : ℕ → Rest → ℕ
+endings n o = count n (λ i. endsScan (o .process i .phase))
+
+-- what is handed out fits the buffer that is lent: an end without room is refused
+handed-half : (n b : ℕ) (c : Call) (order : Lists.List ℕ) (o : Rest) → c .room ≡ Buffer b → let a = carryOut order o (judge false n o c) in
+    2 * (length (a .handed) * 29) + b * endings n (a .rest) ≤ b + b * endings n o
+unfolding carryOut
+handed-half n b c order o e = go (verdict-in n o c)
+  where
+    k : ℕ
+    k = place c
+
+    after : (Process → Process) → ℕ → Bool
+    after f i = endsScan (changed o k f .process i .phase)
+
+    one : Own n c → (f : Process → Process)
+        → cond (endsScan (o .process k .phase)) 1 0 + count n (after f) ≡ cond (endsScan (f (o .process k) .phase)) 1 0 + endings n o
+    one own f =
+        let p = count-but n k (λ i. endsScan (o .process i .phase)) (after f) (own-place own) (λ j d. rw (ne-eqb j k d) refl) in
+        rw (eq-eqb k k refl) at p
+
+    more : Own n c → (f : Process → Process) → b * count n (after f) ≤ b + b * endings n o
+    more own f =
+        let up : count n (after f) ≤ suc (endings n o) = omega (arith, one own f, bit-one (endsScan (f (o .process k) .phase))) in
+        omega (arith, mul-le-mul-left b up, mul-suc b (endings n o))
+
+    go : {w : Move} → Verdict n (length (o .result k)) c (o .process k .out) (o .process k .phase) w → let a = carryOut order o w in
+        2 * (length (a .handed) * 29) + b * endings n (a .rest) ≤ b + b * endings n o
+    go (turned x d) = omega arith
+    go (begins own q) = omega (arith, more own (begun (c .job)))
+    go (scans own q) = omega (arith, more own (inPhase (End Scan)))
+    go (updates own q) = omega (arith, more own updated)
+    go (snaps own Label q t) = omega (arith, more own (inPhase Update))
+    go (snaps own Scan q t) = omega (arith, more own (inPhase (End Scan)))
+    go (ends own Label q h) = omega (arith, more own (inPhase Idle))
+    go (ends own Scan q h) =
+        let fewer = one own (inPhase Idle) in
+        let left = count n (after (inPhase Idle)) in
+        let due : endings n o ≡ suc left = omega (arith, rw q at fewer) in
+        omega (arith, leb-true _ b (rw e at h), ap (λ p. b * p) due, mul-suc b left)
+    go (service own x q) = omega (arith, more own (setOut x))
+
+writes-half : (n b : ℕ) (cs : Lists.List Call) → All (λ c. c .room ≡ Buffer b) cs → (s : State ℕ) (ns : Lists.List ℕ)
+    → 2 * length (writes original n s ns cs) ≤ b * length cs + b * endings n (s .rest)
+unfolding lists Machine.run step
+writes-half n b [] h s ns = omega arith
+writes-half n b (c ∷ cs) h s ns =
+    let r = numbered (getD ns 0 0) in
+    let a = step original n r s c in
+    let ns′ = drop (snapsOf original n s c) ns in
     let order = ordered n (stands r (s .labels)) in
     let l = carryOut order (s .rest) (judge false n (s .rest) c) .handed in
-    omega (arith, ap (λ r. length (bytesOf (written (c .line) r l))) e ∙ lines-length (c .line) 1 l, handed-fits n b c order (s .rest) e)
-
-writes-few : (n b : ℕ) (cs : Lists.List Call) → All (λ c. c .room ≡ Buffer b) cs → (s : State ℕ) (ns : Lists.List ℕ)
-    → length (writes original n s ns cs) ≤ b * length cs
-unfolding lists Machine.run
-writes-few n b [] h s ns = omega arith
-writes-few n b (c ∷ cs) h s ns =
-    let a = step original n (numbered (getD ns 0 0)) s c in
-    let ns′ = drop (snapsOf original n s c) ns in
-    let short = step-short n b (numbered (getD ns 0 0)) s c (h .0) in
     omega (
       arith,
       length-append (bytesOf (a .report)) (writes original n (a .state) ns′ cs),
-      short,
-      writes-few n b cs (h .1) (a .state) ns′,
+      ap (λ r. length (bytesOf (written (c .line) r l))) (h .0) ∙ lines-length (c .line) 1 l,
+      handed-half n b c order (s .rest) (h .0),
+      writes-half n b cs (h .1) (a .state) ns′,
       mul-suc b (length cs),
     )
 
-pub report-few : (b : ℕ) {n : ℕ} {calls : Lists.List Call} {ns bytes : Lists.List ℕ} → All (λ c. c .room ≡ Buffer b) calls → Right original n calls ns bytes
-    → length bytes ≤ b * length calls
-report-few b {n} {calls} {ns} h R = omega (arith, ap length (R .report), writes-few n b calls h (fresh 0) ns)
+pub report-half : (b : ℕ) {n : ℕ} {calls : Lists.List Call} {ns bytes : Lists.List ℕ} → All (λ c. c .room ≡ Buffer b) calls → Right original n calls ns bytes
+    → 2 * length bytes ≤ b * length calls
+report-half b {n} {calls} {ns} h R =
+    omega (arith, ap length (R .report), writes-half n b calls h (fresh 0) ns, ap (λ p. b * p) (count-none n (λ i. false) (λ j l. refl)))
 
 -- RIGHT LOGS: numbers that do for the calls (02, Card 6), with the lists of the table of labels
 pub logged : {F : Form} {n : ℕ} {calls : Lists.List Call} {ns : Lists.List ℕ} → Numbers F n calls ns → length calls ≤ 4294967295
