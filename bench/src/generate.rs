@@ -229,3 +229,17 @@ pub fn scans(n: u64, lines: u64, seed: u64) -> Vec<u8> {
     bytes.truncate((lines as usize + 1) * LINE);
     bytes
 }
+
+/// Schedules with the most lines that are numbered, by their kind and n; one without a step line, and one of 1,000,000, which is refused.
+pub fn longest(seed: u64) -> Vec<(String, Vec<u8>)> {
+    let steps = crate::numbers::MAX_STEPS as u64;
+    let all = u64::from(crate::plain::MAX_STEPS);
+    let mut schedules =
+        vec![("no step line".to_string(), schedule(2, 0, seed, Ending::Plain)), (format!("{all} lines"), schedule(2, all, seed, Ending::Plain))];
+    for n in [2, 4, 8, 16, 32] {
+        schedules.push((format!("mixed, n = {n}"), schedule(n, steps, seed, Ending::Plain)));
+        schedules.push((format!("stalled, n = {n}"), stalled(n, steps, seed)));
+        schedules.push((format!("crowded, n = {n}"), crowded(n, steps, seed)));
+    }
+    schedules
+}

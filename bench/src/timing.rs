@@ -1,7 +1,7 @@
 //! The time that programs take.
 
 use std::fs::{self, File};
-use std::path::Path;
+use std::path::{Path, PathBuf};
 use std::process::{Command, Stdio};
 use std::time::Instant;
 
@@ -57,4 +57,29 @@ pub fn run(program: &Path, input: &Path, output: Stdio) -> Time {
 pub fn report(program: &Path, input: &Path, output: &Path) -> Vec<u8> {
     run(program, input, File::create(output).expect("a report file").into());
     fs::read(output).expect("the report")
+}
+
+/// What `NAME [--runs K] [PROGRAM]` is asked for: so many runs, 100 if it is not said, of the plain program, which is built with this one, and of the program
+/// in target/bin or at the path that is given.
+pub fn asked(name: &str, plain: &str, program: &str) -> (usize, [PathBuf; 2]) {
+    let usage = || -> ! {
+        eprintln!("{name} [--runs K] [{}]", program.to_uppercase());
+        std::process::exit(2);
+    };
+    let mut runs = 100;
+    let mut ours = Path::new(env!("CARGO_MANIFEST_DIR")).join("../target/bin").join(program);
+    let mut arguments = std::env::args().skip(1);
+    while let Some(argument) = arguments.next() {
+        match argument.as_str() {
+            "--runs" => runs = arguments.next().and_then(|a| a.parse().ok()).filter(|&k| k > 0).unwrap_or_else(|| usage()),
+            _ if argument.starts_with('-') => usage(),
+            _ => ours = PathBuf::from(argument),
+        }
+    }
+    let programs = [std::env::current_exe().expect("this program's path").with_file_name(plain), ours];
+    if let Some(missing) = programs.iter().find(|program| !program.exists()) {
+        eprintln!("{} is not built", missing.display());
+        std::process::exit(2);
+    }
+    (runs, programs)
 }

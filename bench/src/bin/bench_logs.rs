@@ -1,21 +1,15 @@
 //! bench_logs [--runs K] [CHECK_LOG]: times `check_log` and the plain program for logs on the same logs. README.md says what it prints.
 
 use std::fs;
-use std::path::{Path, PathBuf};
+use std::path::PathBuf;
 use std::process::{Command, Stdio};
-use ticket_bench::generate::{crowded, scans, schedule, stalled, Ending};
+use ticket_bench::generate::{longest, scans};
 use ticket_bench::numbers::{numbers, print, MAX_STEPS};
 use ticket_bench::plain;
 use ticket_bench::reports;
-use ticket_bench::timing::{time, Time};
+use ticket_bench::timing::{asked, time, Time};
 
-const COUNTS: [u64; 5] = [2, 4, 8, 16, 32];
 const SEED: u64 = 1995;
-
-fn usage() -> ! {
-    eprintln!("bench_logs [--runs K] [CHECK_LOG]");
-    std::process::exit(2);
-}
 
 /// A log in its three files, the bytes of its report, what is answered, and the best times of the plain program and of `check_log`.
 struct Trial {
@@ -27,16 +21,8 @@ struct Trial {
 }
 
 fn schedules() -> Vec<(String, Vec<u8>)> {
-    let steps = MAX_STEPS as u64;
-    let all = u64::from(plain::MAX_STEPS);
-    let mut schedules =
-        vec![("no step line".to_string(), schedule(2, 0, SEED, Ending::Plain)), (format!("{all} lines"), schedule(2, all, SEED, Ending::Plain))];
-    for n in COUNTS {
-        schedules.push((format!("mixed, n = {n}"), schedule(n, steps, SEED, Ending::Plain)));
-        schedules.push((format!("stalled, n = {n}"), stalled(n, steps, SEED)));
-        schedules.push((format!("crowded, n = {n}"), crowded(n, steps, SEED)));
-    }
-    schedules.push(("scans, n = 32".to_string(), scans(32, steps, SEED)));
+    let mut schedules = longest(SEED);
+    schedules.push(("scans, n = 32".to_string(), scans(32, MAX_STEPS as u64, SEED)));
     schedules
 }
 
@@ -53,21 +39,7 @@ fn log(schedule: &[u8]) -> Option<(Vec<u8>, Vec<u8>)> {
 }
 
 fn main() {
-    let mut runs = 100;
-    let mut check_log = Path::new(env!("CARGO_MANIFEST_DIR")).join("../target/bin/check_log");
-    let mut arguments = std::env::args().skip(1);
-    while let Some(argument) = arguments.next() {
-        match argument.as_str() {
-            "--runs" => runs = arguments.next().and_then(|a| a.parse().ok()).filter(|&k| k > 0).unwrap_or_else(|| usage()),
-            _ if argument.starts_with('-') => usage(),
-            _ => check_log = PathBuf::from(argument),
-        }
-    }
-    let programs = [std::env::current_exe().expect("this program's path").with_file_name("plain_check_log"), check_log];
-    if let Some(missing) = programs.iter().find(|program| !program.exists()) {
-        eprintln!("{} is not built", missing.display());
-        std::process::exit(2);
-    }
+    let (runs, programs) = asked("bench_logs", "plain_check_log", "check_log");
     let folder = std::env::temp_dir().join(format!("ticket-bench-logs-{}", std::process::id()));
     fs::create_dir(&folder).expect("a temporary folder");
 

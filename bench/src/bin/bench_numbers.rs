@@ -1,20 +1,13 @@
 //! bench_numbers [--runs K] [NUMBERS]: times `numbers` and the plain program for numbers on the same schedules. README.md says what it prints.
 
 use std::fs;
-use std::path::{Path, PathBuf};
+use std::path::PathBuf;
 use std::process::Stdio;
-use ticket_bench::generate::{crowded, schedule, stalled, Ending};
+use ticket_bench::generate::longest;
 use ticket_bench::numbers::MAX_STEPS;
-use ticket_bench::plain;
-use ticket_bench::timing::{report, run, Time};
+use ticket_bench::timing::{asked, report, run, Time};
 
-const COUNTS: [u64; 5] = [2, 4, 8, 16, 32];
 const SEED: u64 = 1995;
-
-fn usage() -> ! {
-    eprintln!("bench_numbers [--runs K] [NUMBERS]");
-    std::process::exit(2);
-}
 
 /// A schedule, the lines that are printed of it, and the best times of the plain program and of `numbers`.
 struct Trial {
@@ -24,41 +17,14 @@ struct Trial {
     best: [Time; 2],
 }
 
-fn schedules() -> Vec<(String, Vec<u8>)> {
-    let steps = MAX_STEPS as u64;
-    let all = u64::from(plain::MAX_STEPS);
-    let mut schedules =
-        vec![("no step line".to_string(), schedule(2, 0, SEED, Ending::Plain)), (format!("{all} lines"), schedule(2, all, SEED, Ending::Plain))];
-    for n in COUNTS {
-        schedules.push((format!("mixed, n = {n}"), schedule(n, steps, SEED, Ending::Plain)));
-        schedules.push((format!("stalled, n = {n}"), stalled(n, steps, SEED)));
-        schedules.push((format!("crowded, n = {n}"), crowded(n, steps, SEED)));
-    }
-    schedules
-}
-
 fn main() {
-    let mut runs = 100;
-    let mut numbers = Path::new(env!("CARGO_MANIFEST_DIR")).join("../target/bin/numbers");
-    let mut arguments = std::env::args().skip(1);
-    while let Some(argument) = arguments.next() {
-        match argument.as_str() {
-            "--runs" => runs = arguments.next().and_then(|a| a.parse().ok()).filter(|&k| k > 0).unwrap_or_else(|| usage()),
-            _ if argument.starts_with('-') => usage(),
-            _ => numbers = PathBuf::from(argument),
-        }
-    }
-    let programs = [std::env::current_exe().expect("this program's path").with_file_name("plain_numbers"), numbers];
-    if let Some(missing) = programs.iter().find(|program| !program.exists()) {
-        eprintln!("{} is not built", missing.display());
-        std::process::exit(2);
-    }
+    let (runs, programs) = asked("bench_numbers", "plain_numbers", "numbers");
     let folder = std::env::temp_dir().join(format!("ticket-bench-numbers-{}", std::process::id()));
     fs::create_dir(&folder).expect("a temporary folder");
 
     let mut differ = false;
     let mut trials = Vec::new();
-    for (at, (what, bytes)) in schedules().into_iter().enumerate() {
+    for (at, (what, bytes)) in longest(SEED).into_iter().enumerate() {
         let input = folder.join(format!("schedule-{at}"));
         fs::write(&input, bytes).expect("a schedule file");
         let [plain, ours] = programs.each_ref().map(|program| report(program, &input, &folder.join("printed")));
