@@ -7,17 +7,16 @@ use mathlib.Core.Logic.{_≢_}
 use mathlib.Core.Bool.{Bool, true, false, cond}
 use mathlib.Core.List as Lists
 use mathlib.Core.List.{[], _∷_}
-use lib.ListN.{length, getD, take, set, replicate}
+use lib.ListN.{getD, take, set, replicate}
 use lib.Seq.{take-at}
-use lib.Dec.{eqb}
 use borrow.Author.Tests.{ne-eqb}
 use Rattle.basics.specs.Tests.{newest, ordered, tabulate}
 use Rattle.basics.proofs.Facts.{by-here, tabulate-same, getD-tabulate, set-tabulate, ordered-length}
 use native.Mathlib.Nat.{zero-add}
 use Rattle.label.specs.Labels as Labels
 use Rattle.label.specs.Labels.{newLabel}
-use Rattle.label.specs.Rows.{digit, row}
-use Rattle.rows.specs.Held.{standsIn, pendingIn}
+use Rattle.label.specs.Rows.{row}
+use Rattle.rows.specs.Held.{pendingIn}
 use Rattle.simulation.specs.Calls as Calls
 use Rattle.simulation.specs.Calls.{Label, Scan, Idle, Update, End, Process, Rest}
 use Rattle.simulation.specs.Machine.{Labelling, digits, stands, pendingAfter, LabelStep, stay, snap, update, labelStep, relabelled, inPhase, begun, updated}
@@ -31,16 +30,16 @@ use Rattle.moves.specs.declared.Move.the-variants as Moves
 use Rattle.moves.specs.declared.Move.the-variants.{Refused, BeginLabel, SnapLabel, SnapScan, EndLabel, EndScan, LeaveService, ReturnToService}
 use Rattle.moves.specs.declared.Refusal.{Refusal}
 use Rattle.moves.specs.declared.Refusal.the-variants.{Accepted}
-use Rattle.arrays.specs.Arrays.{Rows, Planes, Arrays, arrays, cell, planes, phaseNumber, outNumber, resultRows, entriesIn, shownIn, restIn, restOf, labelsIn}
-use Rattle.arrays.specs.Arrays.{stateOf, jobsOf, controlOf, resultsOf, labelsOf, arraysOf, Holds}
+use Rattle.arrays.specs.Arrays.{Rows, Planes, Arrays, arrays, cell, planes, phaseNumber, outNumber, resultRows, entriesIn, restIn, restOf, labelsIn}
+use Rattle.arrays.specs.Arrays.{jobsOf, controlOf, resultsOf, labelsOf, arraysOf, Holds}
 use Rattle.arrays.specs.Sizes.{Shaped}
 use Rattle.arrays.proofs.Passed.{passed}
 use Rattle.arrays.proofs.Results.{station-most}
 use Rattle.arrays.proofs.States.{labels-back, passed-holds}
-use Rattle.engine.specs.Scans.{orderOf, found, scanRows}
+use Rattle.engine.specs.Scans.{found, scanRows}
 use Rattle.engine.proofs.Scanned.{put}
 use Rattle.engine.proofs.Served.{orderly, order-long, order-inside}
-use Rattle.engine.specs.Contracts.{actionOf, Prepared, PreparedRest, PreparedLabels, handsOut, Performs, Named, restAfter, CarriesRest, Carries}
+use Rattle.engine.specs.Contracts.{Prepared, PreparedRest, PreparedLabels, handsOut, Named, restAfter, CarriesRest, Carries}
 use Rattle.engine.specs.declared.Handed.{Handed}
 use Rattle.engine.specs.declared.Task.{Task}
 

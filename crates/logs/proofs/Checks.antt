@@ -1,25 +1,23 @@
 -- A log, held line by line against the unbounded table: bytes that come next, one call, and the loop over the lines.
 use Prim.Native.Nat.{ℕ, suc, _+_, _*_, _≤_, _<_}
-use native.Mathlib.Nat.{add-suc}
 use native.Mathlib.Numerals.{add-one}
 use native.Mathlib.Omega.{arith}
 use native.Mathlib.Decide.{ℕ-discrete}
 use mathlib.Core.Path.{_≡_, refl, sym, ap, ap₂, subst, _∙_}
-use mathlib.Core.Logic.{_≢_, by-cases}
+use mathlib.Core.Logic.{by-cases}
 use mathlib.Core.Bool.{Bool, true, false, _&&_, and-assoc, and-true}
 use mathlib.Core.List as Lists
-use mathlib.Core.List.{[], _∷_, _++_}
+use mathlib.Core.List.{[], _∷_}
 use lib.ListN.{length, getD, take, drop, length-drop, length-append}
 use lib.Seq.{drop-drop, take-at}
 use lib.Dec.{eqb}
 use borrow.Author.Tests.{eq-eqb, ne-eqb}
 use Rattle.basics.proofs.Facts.{tf, and-both}
-use Rattle.simulation.specs.Calls.{Call, Buffer, judge, reportLines, bytesOf}
-use Rattle.simulation.specs.Machine.{original, labelStep, fresh, State, step, snapsOf}
-use Rattle.simulation.specs.Numbered.{numbered}
+use Rattle.simulation.specs.Calls.{Call, Buffer, judge, reportLines}
+use Rattle.simulation.specs.Machine.{original, labelStep, fresh, step, snapsOf}
 use Rattle.transition.specs.Forms.{over}
 use Rattle.transition.specs.Logs.{fitsNext, atFront, right}
-use Rattle.transition.proofs.Logs.{front-from, front-end, front-split, front-short}
+use Rattle.transition.proofs.Logs.{front-from, front-end, front-split}
 use Rattle.moves.specs.Moves.{called}
 use Rattle.arrays.specs.Arrays.{entriesIn}
 use Rattle.arrays.specs.Planes.{beside}

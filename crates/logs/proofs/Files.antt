@@ -2,7 +2,7 @@
 use Prim.Native.Nat.{ℕ}
 use mathlib.Core.Path.{_≡_, refl, sym, ap, subst, _∙_}
 use mathlib.Core.Logic.{_≢_}
-use mathlib.Core.Bool.{Bool, true, false}
+use mathlib.Core.Bool.{Bool, false}
 use mathlib.Core.List as Lists
 use lib.ListN.{length, take, drop}
 use Rattle.simulation.specs.Machine.{original, fresh}
@@ -14,7 +14,6 @@ use Rattle.moves.specs.declared.Refusal.the-variants.{Accepted}
 use Rattle.schedule.specs.Lines.{headerRead}
 use Rattle.schedule.specs.Demand.{stepCalls, fileCalls}
 use Rattle.schedule.specs.Numbers.{surveyed, readingRefusal, givenIn, Surveys}
-use Rattle.schedule.specs.Logs.{RightLog}
 use Rattle.schedule.proofs.Surveys.{surveyed-header, header-told, calls-told, final-told, steps-told}
 use Rattle.schedule.specs.declared.Survey.{Survey}
 use Rattle.schedule.specs.declared.Header.{Header}

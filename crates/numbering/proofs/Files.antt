@@ -7,15 +7,14 @@ use mathlib.Core.Bool.{Bool, true, false, cond}
 use mathlib.Core.List as Lists
 use mathlib.Core.List.{[], map}
 use lib.ListN.{length, take, drop}
-use lib.Dec.{eqb, ltb}
-use borrow.Author.Tests.{eq-eqb, ne-eqb, eqb-true, ltb-false}
-use Rattle.basics.proofs.Facts.{tf}
+use lib.Dec.{ltb}
+use borrow.Author.Tests.{eq-eqb, ne-eqb, ltb-false}
 use Rattle.simulation.specs.Machine.{original}
 use Rattle.simulation.specs.Numbering.{numbersOf}
 use Rattle.transition.specs.Forms.{over}
 use Rattle.moves.specs.Moves.{refusalNumber}
 use Rattle.moves.specs.declared.Refusal.{Refusal}
-use Rattle.moves.specs.declared.Refusal.the-variants.{Accepted, TooManySteps, ListTooShort}
+use Rattle.moves.specs.declared.Refusal.the-variants.{Accepted, ListTooShort}
 use Rattle.arrays.specs.Form.{lent}
 use Rattle.arrays.proofs.States.{lent-lawful}
 use Rattle.schedule.specs.Lines.{headerRead}

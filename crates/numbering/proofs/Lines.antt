@@ -13,7 +13,7 @@ use Rattle.basics.specs.Tests.{newest}
 use Rattle.label.specs.Labels as Labels
 use Rattle.label.specs.Valid.{Valid}
 use Rattle.rows.specs.Held.{held}
-use Rattle.simulation.specs.Calls.{Call, Buffer, Move, judge}
+use Rattle.simulation.specs.Calls.{Call, Buffer, judge}
 use Rattle.simulation.specs.Machine.{original, Labelling, digits, LabelStep, snap, labelStep, labelSnap, relabelled, State, step, snapsOf}
 use Rattle.simulation.specs.Numbering.{slotOf, Renumbering, renumber, renumbered, numbersOf}
 use Rattle.simulation.proofs.Judged.{Inside, inside, snaps-by-3}

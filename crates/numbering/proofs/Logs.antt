@@ -5,7 +5,6 @@ use mathlib.Core.List as Lists
 use mathlib.Core.List.{map}
 use lib.ListN.{length, take, drop}
 use lib.Seq.{take-at}
-use Rattle.transition.specs.Forms.{over}
 use Rattle.moves.specs.Moves.{refusalNumber}
 use Rattle.arrays.specs.Form.{lent}
 use Rattle.arrays.proofs.States.{lent-lawful}

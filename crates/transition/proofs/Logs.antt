@@ -7,8 +7,8 @@ use mathlib.Core.Logic.{_↔_}
 use mathlib.Core.Bool.{Bool, true, false, _&&_, cond, true≢false}
 use mathlib.Core.List as Lists
 use mathlib.Core.List.{[], _∷_, _++_, map, map-map}
-use lib.ListN.{length, getD, take, drop, length-append, take-append-drop, drop-of-length-le}
-use lib.Seq.{drop-cons, take-append-seam, drop-append-seam}
+use lib.ListN.{length, getD, drop, length-append, drop-of-length-le}
+use lib.Seq.{drop-cons, drop-append-seam}
 use lib.Dec.{eqb, ltb, leb}
 use borrow.Author.Tests.{eqb-true, eq-eqb, ne-eqb, ltb-true, lt-ltb, leb-true, le-leb}
 use Rattle.basics.specs.Tests.{count, newest, ordered, All}
@@ -16,7 +16,7 @@ use Rattle.basics.proofs.Facts.{tf, and-both, both, is-false, all-weaken, bit-o
 use Rattle.basics.proofs.Counts.{count-none, count-but}
 use Rattle.simulation.specs.Calls.{Call, place, Label, Scan, Buffer, Phase, Idle, Update, Snap, End, Process, Rest, Move, judge, bytesOf, written}
 use Rattle.simulation.specs.Machine as Machine
-use Rattle.simulation.specs.Machine.{Board, original, Labelling, Rules, stands, LabelStep, stay, snap, update, labelStep, labelSnap, carryOut, State, fresh}
+use Rattle.simulation.specs.Machine.{Board, original, Labelling, stands, LabelStep, stay, snap, update, labelStep, labelSnap, carryOut, State, fresh}
 use Rattle.simulation.specs.Machine.{inPhase, begun, updated, setOut, changed, Answer, step, snapsOf, Seen}
 use Rattle.simulation.specs.Numbered.{numbered, LabelSnap, met, labelSnaps, Fit, Fits}
 use Rattle.simulation.proofs.Advances.{met-length, fit-weaken}
@@ -48,16 +48,6 @@ pub front-rest : (l m rest : Lists.List ℕ) → ((atFront l m ≡ true) × (dro
 front-rest l m rest = (
   (λ h. front-split l m (h .0) ∙ ap (λ x. l ++ x) (h .1)),
   (λ e. (ap (atFront l) e ∙ front-append l rest, ap (drop (length l)) e ∙ drop-append-seam l rest)),
-)
-
-pub front-exactly : (l m : Lists.List ℕ) → (atFront l m ≡ true) ↔ ((rest : Lists.List ℕ) × (m ≡ l ++ rest))
-front-exactly l m = ((λ h. (drop (length l) m, front-split l m h)), λ e. front-rest l m (e .0) .1 (e .1) .0)
-
--- by the part of its length
-pub front-taken : (l m : Lists.List ℕ) → (atFront l m ≡ true) ↔ (take (length l) m ≡ l)
-front-taken l m = (
-  (λ h. ap (take (length l)) (front-split l m h) ∙ take-append-seam l (drop (length l) m)),
-  (λ e. front-rest l m (drop (length l) m) .1 (sym (take-append-drop (length l) m) ∙ ap (λ x. x ++ drop (length l) m) e) .0),
 )
 
 -- not in a shorter one

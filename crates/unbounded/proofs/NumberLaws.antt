@@ -3,19 +3,19 @@ use Prim.Native.Nat.{ℕ, _+_, _-_, _≤_, _<_}
 use native.Mathlib.Omega.{arith}
 use mathlib.Core.Path.{_≡_, refl, sym, ap, ap₂, _∙_, fun-ext}
 use mathlib.Core.Logic.{_≢_, _⊎_, inl, inr}
-use mathlib.Core.Bool.{Bool, true, false, _&&_, cond}
+use mathlib.Core.Bool.{Bool, true, false, cond}
 use mathlib.Core.List.{List, [], _++_}
 use lib.ListN.{length, getD, set, take, replicate}
 use lib.Seq.{getD-take}
-use lib.Dec.{eqb, ltb, leb}
-use borrow.Author.Tests.{eqb-true, ltb-true, leb-true, lt-ltb, le-ltb, le-leb, eq-eqb, ne-eqb}
+use lib.Dec.{ltb}
+use borrow.Author.Tests.{ltb-true, lt-ltb, le-ltb, eq-eqb, ne-eqb}
 use Rattle.basics.specs.Tests.{newest, inserted, ordered}
-use Rattle.basics.proofs.Facts.{tf, both, and-both, by-here, ordered-length}
+use Rattle.basics.proofs.Facts.{tf, by-here, ordered-length}
 use Rattle.label.proofs.Digits.{Tri, lt, eq, gt, compare}
 use Rattle.label.proofs.Total.{Total}
 use Rattle.rows.proofs.OrderLaws.{putIn, inserted-at, shift-starts, shift-ends, listed-below, orderIn, order-front, order-turns, Displaced, last-newest}
 use Rattle.simulation.specs.Machine.{Labelling, numberBefore, stands, put, pendingAfter, labelStep, snap, relabelled}
-use Rattle.simulation.specs.Numbered.{numbered, Fit}
+use Rattle.simulation.specs.Numbered.{numbered}
 use Rattle.simulation.proofs.Sync.{number-less, number-more, number-same}
 use Rattle.moves.specs.Moves.{moveOf}
 use Rattle.moves.specs.declared.Move.{Move}
@@ -106,33 +106,16 @@ renumbered {n} {k} {numbers} lk high was = record {
   listed = was .listed;
 }
 
--- the order by the current plane is the machine's, and its last station the newest
-pub order-stands : (n v : ℕ) (numbers : Rows) → orderBy n (getD numbers 0 []) ≡ ordered n (stands (numbered v) (beside numbers)) ++ replicate (32 - n) 0
-order-stands n v numbers = refl
-
+-- the order of fresh numbers
 pub order-first : (n : ℕ) → ordered n level ++ replicate (32 - n) 0 ≡ orderBy n (replicate 32 0)
 order-first n = ap (λ b. ordered n b ++ replicate (32 - n) 0)
     (fun-ext (λ i. fun-ext (λ j. ap₂ (λ u v. numberBefore u i v j) (sym (getD-none 32 i)) (sym (getD-none 32 j)))))
 
+-- its last station is the newest
 pub order-newest : (n v : ℕ) (numbers : Rows) (order : List ℕ) → order ≡ orderBy n (getD numbers 0 []) → 1 ≤ n
     → getD order (n - 1) 0 ≡ newest n (stands (numbered v) (beside numbers))
 order-newest n v numbers order e h = last-newest n (standsBy (getD numbers 0 [])) order (row-total n (getD numbers 0 [])) h
     (order-front 32 (standsBy (getD numbers 0 [])) n order e)
-
--- NUMBERS THAT FIT
-
--- those that pass the test are those that fit
-pub passes-fits : (b : Bool) (top v : ℕ) → cond b (eqb v 0) (ltb top v && leb v 4294967295) ≡ true
-    → Fit 4294967295 (record { byNewest = b; top = top; number = v })
-passes-fits true top v e = record { newest = λ _. eqb-true v 0 e; other = λ f. absurd (tf refl f) }
-passes-fits false top v e =
-    let h = and-both (ltb top v) (leb v 4294967295) e in
-    record { newest = λ f. absurd (tf f refl); other = λ _. (ltb-true top v (h .0), leb-true v 4294967295 (h .1)) }
-
-pub fits-passes : (b : Bool) (top v : ℕ) → Fit 4294967295 (record { byNewest = b; top = top; number = v })
-    → cond b (eqb v 0) (ltb top v && leb v 4294967295) ≡ true
-fits-passes true top v f = eq-eqb v 0 (f .newest refl)
-fits-passes false top v f = let h = f .other refl in both (lt-ltb top v (h .0)) (le-leb v 4294967295 (h .1))
 
 -- A MOVE
 

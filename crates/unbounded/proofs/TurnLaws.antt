@@ -1,13 +1,13 @@
 -- A turn of the unbounded table: what a move is given of the log's numbers; and a call, judged and carried out by the engine on what is not numbers, and by
 -- them on the numbers, is the machine's step.
-use Prim.Native.Nat.{ℕ, suc, _+_, _-_, _≤_, _<_}
+use Prim.Native.Nat.{ℕ, _+_, _-_, _≤_, _<_}
 use native.Mathlib.Nat.{zero-add}
 use native.Mathlib.Omega.{arith}
 use mathlib.Core.Path.{_≡_, refl, sym, ap, ap₂, subst, _∙_}
 use mathlib.Core.Logic.{_≢_}
 use mathlib.Core.Bool.{Bool, true, false, _&&_, cond}
 use mathlib.Core.List as Lists
-use mathlib.Core.List.{[], _∷_, _++_}
+use mathlib.Core.List.{[], _++_}
 use lib.ListN.{length, getD, take, drop, replicate, drop-of-length-le}
 use lib.Seq.{drop-cons}
 use lib.Dec.{eqb, ltb, leb}
@@ -16,8 +16,8 @@ use Rattle.basics.specs.Tests.{newest, ordered, All}
 use Rattle.basics.proofs.Facts.{tf, and-both, all-at, all-weaken, length-tabulate, getD-tabulate, ordered-length}
 use Rattle.rows.proofs.OrderLaws.{listed-below, order-front, order-long}
 use Rattle.simulation.specs.Calls.{Call, Buffer, Entry, Rest, judge, reportLines}
-use Rattle.simulation.specs.Machine.{original, Labelling, numberBefore, stands, LabelStep, stay, snap, update, labelStep, labelSnap, relabelled, scanOf, Outcome, carryOut}
-use Rattle.simulation.specs.Machine.{freshRest, fresh, State, step, snapsOf}
+use Rattle.simulation.specs.Machine.{Labelling, numberBefore, stands, snap, labelStep, labelSnap, relabelled, scanOf, Outcome, carryOut}
+use Rattle.simulation.specs.Machine.{freshRest, fresh, step, snapsOf}
 use Rattle.simulation.specs.Numbered.{numbered}
 use Rattle.simulation.proofs.Touched.{results-all}
 use Rattle.transition.specs.Logs.{fitsNext}
@@ -27,18 +27,18 @@ use Rattle.moves.specs.Moves.{moveOf}
 use Rattle.moves.proofs.MoveLaws.{by-move}
 use Rattle.moves.specs.declared.Move.{Move}
 use Rattle.moves.specs.declared.Move.the-variants.{SnapLabel, Update}
-use Rattle.arrays.specs.Arrays.{Rows, Planes, cell, entriesIn, shownIn, restIn, Holds}
+use Rattle.arrays.specs.Arrays.{Rows, Planes, cell, entriesIn, Holds}
 use Rattle.arrays.specs.Planes.{beside}
 use Rattle.arrays.proofs.Results.{entries-listed}
 use Rattle.arrays.proofs.States.{number-kept, held-phases, rest-held}
 use Rattle.arrays.proofs.Planes.{none-beside}
-use Rattle.engine.specs.Contracts.{callOf, actionOf, PreparedRest, handsOut, restAfter, CarriesRest, Judges, Named}
+use Rattle.engine.specs.Contracts.{callOf, actionOf, PreparedRest, restAfter, CarriesRest, Judges, Named}
 use Rattle.engine.proofs.Served.{place-inside, judged-few, rest-ready, rest-judged}
 use Rattle.engine.specs.declared.Handed.{Handed}
 use Rattle.engine.specs.declared.Request.{Request}
 use Rattle.engine.specs.declared.Task.{Task}
 use Rattle.unbounded.specs.Numbers.{orderBy, NumberedBefore, Renumbers}
-use Rattle.unbounded.specs.Tables.{Table, table, restOf, stateOf, Runnable, GivenTo, answered, Served, Turns}
+use Rattle.unbounded.specs.Tables.{Table, table, restOf, stateOf, Runnable, GivenTo, Turns}
 use Rattle.unbounded.specs.declared.Given.{Given}
 use Rattle.unbounded.specs.declared.Turn.{Turn}
 use Rattle.unbounded.proofs.NumberLaws.{order-first, order-newest, order-stays, order-before}

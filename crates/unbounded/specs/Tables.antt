@@ -6,7 +6,7 @@ use mathlib.Core.List as Lists
 use mathlib.Core.List.{[]}
 use lib.ListN.{length, getD, drop}
 use Rattle.basics.specs.Tests.{newest, All}
-use Rattle.simulation.specs.Calls.{Call, Buffer, Entry, Rest, judge, bytesOf, reportLines}
+use Rattle.simulation.specs.Calls.{Call, Entry, Rest, judge, bytesOf, reportLines}
 use Rattle.simulation.specs.Machine.{original, Labelling, stands, labelStep, labelSnap, freshRest, State, Answer, step, snapsOf}
 use Rattle.simulation.specs.Numbered.{numbered}
 use Rattle.transition.specs.Logs.{fitsNext}

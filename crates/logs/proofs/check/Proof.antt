@@ -1,6 +1,5 @@
 -- The header is read, then the lines after it, and only then they are run; `x` is what is known when the lines have been judged.
 use mathlib.Core.Path.{_≡_, sym, _∙_}
-use Rattle.moves.specs.Moves.{refusalNumber}
 use Rattle.schedule.specs.Lines.{headerRead}
 use Rattle.schedule.proofs.SessionLaws.{header-stations}
 use Rattle.schedule.proofs.Runs.{header-within}

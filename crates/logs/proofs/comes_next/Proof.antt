@@ -8,7 +8,6 @@ use lib.ListN.{length, drop, length-drop}
 use Rattle.transition.specs.Logs.{atFront}
 use Rattle.transition.proofs.Logs.{front-short}
 use Rattle.logs.proofs.Checks.{bytes-more, bytes-end}
-use borrow.Author.Needs.{needs}
 use Rattle.logs.proofs.comes_next.Statement.{statement}
 use Rattle.logs.proofs.comes_next.Tie as tie
 
