@@ -22,6 +22,11 @@ pub type Control = [[u8; 32]; 2];
 // The stations, from 1, and the jobs of each station's scan result.
 pub type Results = [[[u32; 32]; 2]; 32];
 
+// The planes of what is current and of what is pending.
+pub const CURRENT: usize = 0;
+
+pub const PENDING: usize = 1;
+
 // The numbers of the phases.
 pub const IDLE: u8 = 0;
 

@@ -21,6 +21,7 @@ ghost use Rattle.arrays.specs.Form.{lent};
 ghost use Rattle.engine.specs.Scans.{orderOf, found, scanRows};
 ghost use Rattle.engine.specs.Contracts.{directly, callOf, Prepared, PreparedRest, PreparedLabels, restAfter, CarriesRest};
 ghost use Rattle.engine.specs.Contracts.{due, Named, Carries, Judges, Hands, rowOf, recordOf};
+use arrays::CURRENT;
 use arrays::Control;
 use arrays::END_LABEL;
 use arrays::END_SCAN;
@@ -29,6 +30,7 @@ use arrays::IN_SERVICE;
 use arrays::Jobs;
 use arrays::Labels;
 use arrays::OUT_OF_SERVICE;
+use arrays::PENDING;
 use arrays::Results;
 use arrays::SNAP;
 use arrays::UPDATE;
@@ -37,11 +39,7 @@ use moves::Refusal;
 use moves::Room;
 use moves::Standing;
 
-// The planes.
-const CURRENT: usize = 0;
-
-const PENDING: usize = 1;
-
+// The planes of control bytes.
 const PHASE: usize = 0;
 
 const SERVICE: usize = 1;

@@ -26,9 +26,11 @@ ghost use Rattle.file.specs.Contracts.{Runnable};
 ghost use Rattle.numbering.specs.Contracts.{slotFor, slotIn, renumberIn, Renumbered, Counted, NumbersCall};
 ghost use Rattle.numbering.specs.Contracts.{numberLine, numberLines, NumberLine, NumbersRead};
 ghost use Rattle.numbering.specs.Files.{refusedBy, NumbersFile};
+use arrays::CURRENT;
 use arrays::Control;
 use arrays::Jobs;
 use arrays::Labels;
+use arrays::PENDING;
 use arrays::Results;
 use columns::Column;
 use engine::Reply;
@@ -38,11 +40,6 @@ use moves::Refusal;
 use schedule::Header;
 use schedule::Line;
 use schedule::Survey;
-
-// The planes.
-const CURRENT: usize = 0;
-
-const PENDING: usize = 1;
 
 // Where the number of a new label goes among those in use: it is one of them, or it comes right after one.
 enum Slot {

@@ -11,6 +11,7 @@ ghost use Rattle.moves.specs.declared.Move.the-variants.{Update};
 ghost use Rattle.engine.specs.Contracts.{callOf};
 ghost use Rattle.unbounded.specs.Numbers.{orderBy, NumberedBefore};
 ghost use Rattle.unbounded.specs.Tables.{table, stateOf, Runnable, GivenTo, Turns};
+use arrays::CURRENT;
 use arrays::Control;
 use arrays::Jobs;
 use arrays::Results;
@@ -20,9 +21,6 @@ use moves::Room;
 
 // Current and pending numbers.
 pub type Numbers = [[u32; 32]; 2];
-
-// The plane of current numbers.
-const CURRENT: usize = 0;
 
 // Writes the fresh table of n stations, and its scan order, over what is lent.
 pub fn refresh(

@@ -9,12 +9,9 @@ ghost use lib.Dec.{eqb, ltb, leb};
 ghost use Rattle.basics.specs.Tests.{ordered};
 ghost use Rattle.simulation.specs.Machine.{numberBefore};
 ghost use Rattle.unbounded.specs.Numbers.{standsBy, orderBy, NumberedBefore, Renumbers};
+use arrays::CURRENT;
+use arrays::PENDING;
 use moves::Move;
-
-// The planes.
-const CURRENT: usize = 0;
-
-const PENDING: usize = 1;
 
 // Whether station i with the number u stands before station j with the number v.
 fn before(u: u32, i: usize, v: u32, j: usize) -> bool
