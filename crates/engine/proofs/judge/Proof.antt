@@ -1,13 +1,13 @@
 -- `y` is what is known of the place.
 use native.Mathlib.Omega.{arith}
 use Prim.Native.Nat.{_≤_, _<_}
-use mathlib.Core.Path.{refl, sym, ap, ap₂, subst, _∙_}
+use mathlib.Core.Path.{_≡_, refl, sym, ap, ap₂, subst, _∙_}
 use mathlib.Core.Bool.{false}
 use mathlib.Core.List.{[]}
 use Rattle.simulation.specs.Calls.{judgeIn}
 use Rattle.moves.specs.Moves.{roomOf, moveOf}
 use Rattle.moves.proofs.MoveLaws.{place-below}
-use Rattle.arrays.specs.Arrays.{cell}
+use Rattle.arrays.specs.Arrays.{cell, outFor, phaseFor}
 use Rattle.engine.specs.Contracts.{callOf}
 use Rattle.engine.proofs.Served.{due-few}
 use borrow.Author.Needs.{needs}
@@ -39,20 +39,37 @@ judge-requires c κs =
     (due-few (cell (a .control .now) 0 (y .place-of .result) 0) (a .n) (cell (a .results .now) (y .place-of .result) 0 []) (y .before .pre .1)) in
     omega (arith, few, y .before .pre .1)
 
-returns : tie.Need-returns
-returns c =
+-- what the move comes to
+abbrev Acts : tie.After-judge → Type 0
+Acts c =
     let d = c .before in
     let y = d .before .before .before .before .before .before in
     let a = y .before .args in
-    record {
-      place = y .place-of .ensures;
-      shown = d .due-entries .ensures;
-      action = ap (λ i. moveOf i (a .q .job) (c .judge .result)) (y .place-of .ensures) ∙ c .judge .ensures (a .q .line)
-          ∙ ap₂ (λ o p. judgeIn false (a .n) (d .due-entries .result) o p (callOf (a .q) (roomOf (a .room)))) (d .before .before .is-out .ensures)
-          (d .before .before .before .before .phase-of .ensures);
-      job = refl;
-      newest = refl;
-    }
+    let i = y .place-of .result in
+    moveOf i (a .q .job) (c .judge .result) ≡ judgeIn false (a .n) (d .due-entries .result) (outFor (cell (a .control .now) 1 i 0))
+    (phaseFor (cell (a .control .now) 0 i 0)) (callOf (a .q) (roomOf (a .room)))
+
+acts : (c : tie.After-judge) → Acts c
+acts c =
+    let d = c .before in
+    let y = d .before .before .before .before .before .before in
+    let a = y .before .args in
+    ap (λ i. moveOf i (a .q .job) (c .judge .result)) (y .place-of .ensures) ∙ c .judge .ensures (a .q .line)
+    ∙ ap₂ (λ o p. judgeIn false (a .n) (d .due-entries .result) o p (callOf (a .q) (roomOf (a .room)))) (d .before .before .is-out .ensures)
+    (d .before .before .before .before .phase-of .ensures)
+
+-- by the move: so a wrong move and another wrong field are errors of two names
+task : ((c : tie.After-judge) → Acts c) → tie.Need-returns
+task h c = record {
+  place = c .before .before .before .before .before .before .before .place-of .ensures;
+  shown = c .before .due-entries .ensures;
+  action = h c;
+  job = refl;
+  newest = refl;
+}
+
+returns : tie.Need-returns
+returns = task acts
 
 pub judge-spec : {M : Type 1} → statement M
 judge-spec = tie.close (tie.spec (λ c κs. search needs) (λ c. search needs) index-2-number (λ c κs. search needs) (λ c. search needs)

@@ -1,9 +1,11 @@
 -- After p turns the rows have the k entries of a scan of the first p stations of the order.
 use mathlib.Core.Path.{_≡_, ap, _∙_}
 use mathlib.Core.Logic.{⊎-elim}
+use mathlib.Core.Bool.{Bool, true, false}
 use Prim.Native.Nat.{_-_, _≤_}
 use native.Mathlib.Omega.{arith}
 use lib.ListN.{getD}
+use Rattle.simulation.specs.Machine.{shows}
 use Rattle.engine.specs.Scans.{found, scanRows}
 use Rattle.engine.proofs.Scanned.{found-shows, Filled, none-yet, shown-next, struck-next}
 use borrow.Author.Needs.{needs}
@@ -34,18 +36,31 @@ add-rows c = let l = c .before .before .before .before .before in omega (arith, 
 cast-rows : tie.Need-cast-rows Inv-loop μ-loop
 cast-rows c = let l = c .before .before .before .before .before in omega (arith, l .before .before .pre .1 (l .loop .p) (omega arith))
 
-loop-again : tie.Need-loop-again Inv-loop μ-loop
-loop-again c =
-    let l = c .before .before .before .before .before in
-    let f = l .loop .inv .2 in
-    let a = l .before .before .args in
-    let j = a .jobs .now in
-    let v = a .service .now in
-    let i = getD (a .order .now) (l .loop .p) 0 in
+-- whether a scan shows the station at hand
+abbrev Shows : tie.After-if12 Inv-loop μ-loop → Bool → Type 0
+Shows x b = let l = x .before .before .before .before in let a = l .before .before .args in
+    shows (found (a .jobs .now) (a .service .now) (getD (a .order .now) (l .loop .p) 0)) ≡ b
+
+tested : (t : tie.Then1 Inv-loop μ-loop) → Shows (t .before) true
+tested t = let l = t .before .before .before .before .before in let a = l .before .before .args in
+    found-shows (a .jobs .now) (a .service .now) (getD (a .order .now) (l .loop .p) 0) (t .if1 .taken)
+
+passed : (t : tie.Else1 Inv-loop μ-loop) → Shows (t .before) false
+passed t = let l = t .before .before .before .before .before in let a = l .before .before .args in
+    found-shows (a .jobs .now) (a .service .now) (getD (a .order .now) (l .loop .p) 0) (t .if1 .left)
+
+-- by the test: so a wrong test and a wrong entry are errors of two names
+turn : ((t : tie.Then1 Inv-loop μ-loop) → Shows (t .before) true) → ((t : tie.Else1 Inv-loop μ-loop) → Shows (t .before) false)
+    → tie.Need-loop-again Inv-loop μ-loop
+turn hit miss c =
+    let f = c .before .before .before .before .before .loop .inv .2 in
     ⊎-elim
-    (λ x. (search needs, omega (arith, x .2), shown-next _ _ _ _ f (omega arith) (omega arith) (found-shows j v i (x .0 .taken)) (x .1) (x .2)))
-    (λ x. (search needs, omega (arith, x .2), struck-next _ _ _ _ f (omega arith) (found-shows j v i (x .0 .left)) (x .1) (x .2)))
+    (λ x. (search needs, omega (arith, x .2), shown-next _ _ _ _ f (omega arith) (omega arith) (hit record { before = c .before; if1 = x .0 }) (x .1) (x .2)))
+    (λ x. (search needs, omega (arith, x .2), struck-next _ _ _ _ f (omega arith) (miss record { before = c .before; if1 = x .0 }) (x .1) (x .2)))
     (c .if1 .came)
+
+loop-again : tie.Need-loop-again Inv-loop μ-loop
+loop-again = turn tested passed
 
 returns : tie.Need-returns Inv-loop μ-loop
 returns c =
