@@ -1,4 +1,5 @@
 pub mod LineLaws
 pub mod ChunkLaws
+pub mod FeedLaws
 pub mod FileLaws
 pub mod Demand

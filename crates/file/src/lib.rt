@@ -2,7 +2,7 @@
 ghost use mathlib.Core.Path.{_≡_};
 ghost use mathlib.Core.Logic.{_≢_};
 ghost use mathlib.Core.List.{[], _++_};
-ghost use Prim.Native.Nat.{_+_, _≤_, _<_};
+ghost use Prim.Native.Nat.{_+_, _*_, _/_, _≤_, _<_};
 ghost use lib.ListN.{length, take};
 ghost use Rattle.rows.specs.Held.{Orderly, OrderedBefore};
 ghost use Rattle.simulation.specs.Calls.{Buffer};
@@ -16,6 +16,8 @@ ghost use Rattle.engine.specs.Scans.{orderOf};
 ghost use Rattle.engine.specs.Contracts.{callOf};
 ghost use Rattle.schedule.specs.Sessions.{session};
 ghost use Rattle.schedule.specs.Files.{cut, pieces, printed, runLines};
+ghost use mathlib.Core.Bool.{cond};
+ghost use Rattle.file.specs.Feeds.{Standing, Feeds, fedOf};
 ghost use Rattle.file.specs.Contracts.{Runnable, Turns, Prints, Reports, Follows, ReportsAll, Sizes, ReportsFile};
 use arrays::Control;
 use arrays::Jobs;
@@ -207,6 +209,174 @@ pub fn report_lines(
         refusal: Refusal::Accepted,
         read: at,
         written,
+    }
+}
+
+// A file in its run: how many lines are counted, 0 before the header; how many stations its table has; and its final refusal, if there is one.
+pub struct Run {
+    pub lines: u32,
+    pub count: usize,
+    pub refusal: Refusal,
+}
+
+// What a part of the file leaves beside the table and the output buffer: the run, the bytes of the part that were read, the bytes that were printed, and
+// whether more can be served of the part, for which there is no room.
+pub struct Fed {
+    pub run: Run,
+    pub read: usize,
+    pub written: usize,
+    pub more: bool,
+}
+
+// Writes the fresh table of n stations, and its scan order.
+fn refresh(
+    n: usize,
+    order: &mut [usize; 32],
+    labels: &mut Labels,
+    jobs: &mut Jobs,
+    control: &mut Control,
+    results: &mut Results,
+)
+    requires { ⌜ (2 ≤ n) × (n ≤ 32) ⌝ }
+    ensures { λ _. ⌜ arrays n (now (labels .exit)) (now (jobs .exit)) (now (control .exit)) (now (results .exit)) ≡ freshTable lent n ⌝ }
+    ensures { λ _. ⌜ Runnable (arrays n (now (labels .exit)) (now (jobs .exit)) (now (control .exit)) (now (results .exit))) (now (order .exit)) ⌝ }
+{
+    arrays::refresh(n, labels, jobs, control, results);
+    *order = rows::order::order(&labels[0], n);
+}
+
+// A run before its first line.
+pub fn start(
+    order: &mut [usize; 32],
+    labels: &mut Labels,
+    jobs: &mut Jobs,
+    control: &mut Control,
+    results: &mut Results,
+) -> Run
+    ensures { λ r. ⌜ r ≡ record { lines = 0; count = 2; refusal = Accepted } ⌝ }
+    ensures { λ _. ⌜ arrays 2 (now (labels .exit)) (now (jobs .exit)) (now (control .exit)) (now (results .exit)) ≡ freshTable lent 2 ⌝ }
+    ensures { λ r. ⌜ Standing r (arrays (r .count) (now (labels .exit)) (now (jobs .exit)) (now (control .exit)) (now (results .exit)))
+        (now (order .exit)) ⌝ }
+{
+    refresh(2, order, labels, jobs, control, results);
+    Run {
+        lines: 0,
+        count: 2,
+        refusal: Refusal::Accepted,
+    }
+}
+
+// Where the lines of a part end that can be served: behind the whole ones, and at the end of the last part.
+fn end_of(len: usize, last: bool) -> usize
+    ensures { λ r. ⌜ r ≡ cond last len (18 * (len / 18)) ⌝ }
+{
+    if last {
+        return len;
+    }
+    len / 18 * 18
+}
+
+// What a part leaves whose lines were served from one place up to another.
+fn fed_by(n: usize, at: usize, r: Progress, end: usize) -> Fed
+    requires { ⌜ at + r .read ≤ end ⌝ }
+    ensures { λ x. ⌜ x ≡ fedOf n at r end ⌝ }
+{
+    let refusal = r.refusal;
+    Fed {
+        run: Run {
+            lines: r.lines,
+            count: n,
+            refusal,
+        },
+        read: at + r.read,
+        written: r.written,
+        more: (refusal.number() == 0) & (at + r.read < end),
+    }
+}
+
+// Serves a part of the file, the header first where it is still to come, and writes what the lines print. What is left unread of the part, a line that is
+// not whole or lines for whose report there is no room, stands at the front of the next one.
+pub fn feed(
+    run: Run,
+    last: bool,
+    order: &mut [usize; 32],
+    labels: &mut Labels,
+    jobs: &mut Jobs,
+    control: &mut Control,
+    results: &mut Results,
+    part: &[u8],
+    out: &mut [u8],
+) -> Fed
+    requires { ⌜ Standing run (arrays (run .count) (now labels) (now jobs) (now control) (now results)) (now order) ⌝ }
+    requires { ⌜ 928 ≤ length (now out) ⌝ }
+    ensures { λ r. ⌜ Feeds run (arrays (run .count) (now (labels .entry)) (now (jobs .entry)) (now (control .entry)) (now (results .entry))) last
+        (now (part .entry)) r (arrays (r .run .count) (now (labels .exit)) (now (jobs .exit)) (now (control .exit)) (now (results .exit)))
+        (now (out .entry)) (now (out .exit)) ⌝ }
+    ensures { λ r. ⌜ Standing (r .run) (arrays (r .run .count) (now (labels .exit)) (now (jobs .exit)) (now (control .exit)) (now (results .exit)))
+        (now (order .exit)) ⌝ }
+{
+    let refusal = run.refusal;
+    if refusal.number() != 0 {
+        return Fed {
+            run,
+            read: 0,
+            written: 0,
+            more: false,
+        };
+    }
+    let end = end_of(part.len(), last);
+    if run.lines != 0 {
+        let r = report_lines(
+            run.lines,
+            run.count,
+            order,
+            labels,
+            jobs,
+            control,
+            results,
+            &part[..end],
+            out,
+        );
+        return fed_by(run.count, 0, r, end);
+    }
+    if (part.len() < 18) & !last {
+        return Fed {
+            run,
+            read: 0,
+            written: 0,
+            more: false,
+        };
+    }
+    let header = schedule::line_at(part, 0);
+    match schedule::read_header(header) {
+        Header::Refused(refusal) => {
+            let written = print_refusal(1, refusal, out);
+            Fed {
+                run: Run {
+                    lines: 0,
+                    count: run.count,
+                    refusal,
+                },
+                read: header.len(),
+                written,
+                more: false,
+            }
+        }
+        Header::Stations(n) => {
+            refresh(n, order, labels, jobs, control, results);
+            let r = report_lines(
+                1,
+                n,
+                order,
+                labels,
+                jobs,
+                control,
+                results,
+                &part[18..end],
+                out,
+            );
+            fed_by(n, 18, r, end)
+        }
     }
 }
 
