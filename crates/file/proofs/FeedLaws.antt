@@ -1,16 +1,17 @@
 -- A file that is served part by part: what a part leaves goes on as the file does, and all parts together come to its report.
 use Prim.Native.Nat.{ℕ, zero, suc, _+_, _-_, _*_, _/_, _≤_, _<_, min}
 use native.Mathlib.Decide.{decLt, ℕ-discrete}
+use native.Mathlib.Nat.{zero-add}
 use native.Mathlib.Omega.{arith}
 use mathlib.Core.Path.{_≡_, refl, sym, ap, subst, _∙_}
 use mathlib.Core.Logic.{_≢_, _⊎_, inl, inr, ⊎-elim, by-cases}
-use mathlib.Core.Bool.{Bool, true, false, not, _&&_, cond, true≢false}
+use mathlib.Core.Bool.{Bool, true, false, not, _&&_, cond, true≢false, and-true}
 use mathlib.Core.List as Lists
 use mathlib.Core.List.{[], _∷_, _++_, append-assoc, append-nil}
 use lib.ListN.{length, take, drop, length-append, length-take, length-drop, take-append-drop, drop-of-length-le}
 use lib.Seq.{take-at, take-all, take-take, take-add, take-append-le, drop-append-le, drop-drop, length-take-le}
 use lib.Dec.{eqb, ltb}
-use borrow.Author.Tests.{eq-eqb, ne-eqb, lt-ltb, le-ltb, eqb-true, ltb-true, ltb-false}
+use borrow.Author.Tests.{eq-eqb, ne-eqb, lt-ltb, le-ltb, eqb-true, ltb-true, ltb-false, not-true}
 use Rattle.basics.proofs.Facts.{and-both}
 use Rattle.transition.specs.Forms.{over, freshTable}
 use Rattle.moves.specs.Moves.{refusalNumber}
@@ -325,7 +326,7 @@ module _ (run : Run) (a : Arrays) (last : Bool) (part buffer : Lists.List ℕ) (
   pub feeds-refused : {x : Refusal} {w : ℕ} {buffer′ : Lists.List ℕ} → headerRead l ≡ Headers.Refused x → let told = printed 1 (refusalNumber x) [] in
       w ≡ length told → buffer′ ≡ over told buffer
       → Feeds run a last part (record { run = record { lines = 0; count = run .count; refusal = x }; read = length l; written = w; more = false }) a
-          buffer buffer′
+      buffer buffer′
   unfolding cut runLines
   feeds-refused {x} h p q =
       let told = printed 1 (refusalNumber x) [] in
@@ -353,6 +354,19 @@ module _ (run : Run) (a : Arrays) (last : Bool) (part buffer : Lists.List ℕ) (
         bytes = append-nil (printed 1 (refusalNumber x) []) i;
       })
 
+-- WHERE THE LINES END that can be served of n bytes
+pub end-within : (last : Bool) (n : ℕ) {end : ℕ} → end ≡ cond last n (18 * (n / 18)) → end ≤ n
+end-within true n q = omega arith
+end-within false n q = omega arith
+
+-- there is no line yet, or a header
+pub header-waits : (n : ℕ) (last : Bool) → (ltb n 18 && not last) ≡ true → (n < 18) × (last ≡ false)
+header-waits n last t = let b = and-both (ltb n 18) (not last) t in (ltb-true n 18 (b .0), not-true last (b .1))
+
+pub header-there : (n : ℕ) (last : Bool) → (ltb n 18 && not last) ≡ false → (18 ≤ n) ⊎ (last ≡ true)
+header-there n true t = inr refl
+header-there n false t = inl (ltb-false n 18 (sym (and-true (ltb n 18)) ∙ t))
+
 -- LINES FROM A PLACE ON: behind h lines, none or the header, the others are served as those of a part of their own
 module _ (run : Run) (a : Arrays) (last : Bool) (part buffer : Lists.List ℕ) (h : ℕ) (s₁ : Session Arrays)
     (opens : (k : ℕ) → runFrom (sessionOf run a) (cut (h + k) part) ≡ runLines lent s₁ (cut k (drop (18 * h) part)))
@@ -364,16 +378,16 @@ module _ (run : Run) (a : Arrays) (last : Bool) (part buffer : Lists.List ℕ) (
   abbrev k : ℕ
   k = readLines (p .read)
 
-  -- the end lies within the part, at its end or behind whole lines
-  ends : (end ≤ length part) × ((end ≡ length part) ⊎ ((q : ℕ) × (end ≡ 18 * q)))
+  -- they end at the end of the part, or behind whole lines
+  ends : (end ≡ length part) ⊎ ((q : ℕ) × (end ≡ 18 * q))
   ends = go last isEnd
     where
-      go : (b : Bool) → end ≡ cond b (length part) (18 * (length part / 18)) → (end ≤ length part) × ((end ≡ length part) ⊎ ((q : ℕ) × (end ≡ 18 * q)))
-      go true q = (omega arith, inl q)
-      go false q = (omega arith, inr (length part / 18, q))
+      go : (b : Bool) → end ≡ cond b (length part) (18 * (length part / 18)) → (end ≡ length part) ⊎ ((q : ℕ) × (end ≡ 18 * q))
+      go true q = inl q
+      go false q = inr (length part / 18, q)
 
   long : length chunk ≡ end - 18 * h
-  long = ap length e ∙ length-take (end - 18 * h) (drop (18 * h) part) ∙ omega (arith, length-drop (18 * h) part, ends .0)
+  long = ap length e ∙ length-take (end - 18 * h) (drop (18 * h) part) ∙ omega (arith, length-drop (18 * h) part, end-within last (length part) isEnd)
 
   -- its first lines are those behind the h
   lines-same : (j : ℕ) → j ≤ k → cut j (drop (18 * h) part) ≡ cut j chunk
@@ -383,7 +397,7 @@ module _ (run : Run) (a : Arrays) (last : Bool) (part buffer : Lists.List ℕ) (
       ⊎-elim
       (λ q. ap (cut j) (sym (e ∙ take-all m rest (omega (arith, length-drop (18 * h) part)))))
       (λ q. ap (cut j) (sym (take-append-drop m rest)) ∙ cut-front j (take m rest) (drop m rest) (few (q .0) (q .1)) ∙ ap (cut j) (sym e))
-      (ends .1)
+      ends
     where
       few : (q : ℕ) → end ≡ 18 * q → 18 * j ≤ length (take (end - 18 * h) (drop (18 * h) part))
       few q w = omega (arith, ap length e, long, g .whole)
@@ -398,7 +412,7 @@ module _ (run : Run) (a : Arrays) (last : Bool) (part buffer : Lists.List ℕ) (
   feeds-lines = record {
     served = h + k;
     most = omega (arith, due, g .whole, long);
-    read = ⊎-elim (λ q. omega (arith, g .whole, long, q)) (λ q. omega (arith, g .whole, long, q .1, ends .0)) (ends .1);
+    read = ⊎-elim (λ q. omega (arith, g .whole, long, q)) (λ q. omega (arith, g .whole, long, q .1, end-within last (length part) isEnd)) ends;
     bytes = g .bytes;
     runs = opens k ∙ ap (runLines lent s₁) (lines-same k (omega arith)) ∙ g .runs;
     written = g .written;
@@ -418,3 +432,85 @@ module _ (run : Run) (a : Arrays) (last : Bool) (part buffer : Lists.List ℕ) (
       no-room : (eqb (refusalNumber (p .refusal)) 0 ≡ true) × (ltb (18 * h + p .read) end ≡ true) → length buffer < p .written + 928
       no-room t = ⊎-elim (λ d. absurd (d (eqb-true _ 0 (t .0))))
           (⊎-elim (λ q. absurd (omega (arith, q, long, ltb-true (18 * h + p .read) end (t .1)))) (λ l. l)) (g .stops)
+
+-- a run whose header was served before
+module _ (run : Run) (a : Arrays) (last : Bool) (part buffer : Lists.List ℕ) (going : refusalNumber (run .refusal) ≡ 0) (some : run .lines ≢ 0)
+    {end : ℕ} (isEnd : end ≡ cond last (length part) (18 * (length part / 18))) {chunk : Lists.List ℕ} (e : chunk ≡ take end part)
+    {a′ : Arrays} {p : Progress} {buffer′ : Lists.List ℕ} (g : Reports (session (run .lines) Accepted a) chunk a′ p buffer buffer′) where
+  pub steps-within : 0 + p .read ≤ end
+  steps-within = omega (arith, g .whole, ap length e ∙ length-take end part)
+
+  pub feeds-steps : (n : ℕ) → Feeds run a last part (fedOf n 0 p end) a′ buffer buffer′
+  feeds-steps n = feeds-lines run a last part buffer 0 (session (run .lines) Accepted a) opens (λ k l. absurd (omega (arith, l))) (omega arith) end isEnd
+      (omega arith) (due last isEnd) n (e ∙ ap (λ m. take m part) whole) g
+    where
+      whole : end ≡ end - 18 * 0
+      whole = omega arith
+
+      opened : awaits (sessionOf run a) ≡ false
+      opened = lines-opened (sessionOf run a) some
+
+      opens : (k : ℕ) → runFrom (sessionOf run a) (cut (0 + k) part) ≡ runLines lent (session (run .lines) Accepted a) (cut k part)
+      opens k = ap (λ i. runFrom (sessionOf run a) (cut i part)) (zero-add k) ∙ run-opened (sessionOf run a) opened (cut k part)
+          ∙ ap (λ x. runLines lent (session (run .lines) x a) (cut k part)) (accepted (run .refusal) going)
+
+      due : (b : Bool) → end ≡ cond b (length part) (18 * (length part / 18)) → ready (sessionOf run a) b part ≡ 0 + (end - 18 * 0 + 17) / 18
+      due true q = rw opened (omega arith)
+      due false q = omega arith
+
+-- a run whose header is accepted: the lines behind it are served from the fresh table of its stations
+module _ (last : Bool) (part : Lists.List ℕ) {l : Lists.List ℕ} (q : l ≡ take 18 part) {n : ℕ} (h : headerRead l ≡ Stations n)
+    {end : ℕ} (isEnd : end ≡ cond last (length part) (18 * (length part / 18))) where
+  pub header-inside : (18 ≤ end) × (end ≤ length part)
+  header-inside = (go (omega (arith, header-length l n h, ap length q ∙ length-take 18 part)) last isEnd, end-within last (length part) isEnd)
+    where
+      go : 18 ≤ length part → (b : Bool) → end ≡ cond b (length part) (18 * (length part / 18)) → 18 ≤ end
+      go g true i = omega arith
+      go g false i = omega arith
+
+  module _ {chunk : Lists.List ℕ} (e : chunk ≡ take (end - 18) (drop 18 part)) {a₁ a′ : Arrays} {p : Progress} {buffer buffer′ : Lists.List ℕ}
+      (g : Reports (session 1 Accepted a₁) chunk a′ p buffer buffer′) where
+    pub headed-within : 18 + p .read ≤ end
+    headed-within = omega (arith, header-inside, g .whole, ap length e ∙ length-take (end - 18) (drop 18 part))
+
+    pub feeds-headed : (run : Run) (a : Arrays) → refusalNumber (run .refusal) ≡ 0 → run .lines ≡ 0 → 928 ≤ length buffer → a₁ ≡ freshTable lent n
+        → Feeds run a last part (fedOf n 18 p end) a′ buffer buffer′
+    unfolding cut
+    feeds-headed run a going first room fresh = feeds-lines run a last part buffer 1 (session 1 Accepted a₁) opens
+        (λ k b. let z : k ≡ 0 = omega (arith, b) in rw z (going, omega (arith, room))) (omega (arith, first)) end isEnd (header-inside .0) (due last isEnd)
+        n e g
+      where
+        waits : awaits (sessionOf run a) ≡ true
+        waits = rw (eq-eqb _ 0 going, eq-eqb _ 0 first) refl
+
+        opens : (j : ℕ) → runFrom (sessionOf run a) (cut (1 + j) part) ≡ runLines lent (session 1 Accepted a₁) (cut j (drop 18 part))
+        opens j =
+            let one : 1 + j ≡ suc j = omega arith in
+            ap (λ i. runFrom (sessionOf run a) (cut i part)) one ∙ rw (waits, ← q, h, fresh) refl
+
+        due : (b : Bool) → end ≡ cond b (length part) (18 * (length part / 18)) → ready (sessionOf run a) b part ≡ 1 + (end - 18 * 1 + 17) / 18
+        due true i = rw waits (omega (arith, length-drop 18 part, header-inside))
+        due false i = omega (arith, header-inside)
+
+-- THE STATE THAT IS LEFT
+
+module _ {s₁ : Session Arrays} {chunk : Lists.List ℕ} {a′ : Arrays} {p : Progress} {buffer buffer′ : Lists.List ℕ}
+    (g : Reports s₁ chunk a′ p buffer buffer′) where
+  pub standing-lines : s₁ .lines ≢ 0 → s₁ .lines ≤ 1000001 → (n : ℕ) {order : Lists.List ℕ} → Runnable a′ order
+      → Standing (record { lines = p .lines; count = n; refusal = p .refusal }) a′ order
+  standing-lines d b n f = record {
+    runnable = f;
+    few = λ z. g .counted z .1 b;
+    fresh = λ w. absurd (true≢false (sym w ∙ opened));
+  }
+    where
+      opened : awaits (session (p .lines) (p .refusal) a′) ≡ false
+      opened = by-cases (ℕ-discrete (refusalNumber (p .refusal)) 0)
+          (λ z. lines-opened (session (p .lines) (p .refusal) a′) (λ e. d (omega (arith, g .counted z .0, e))))
+          (λ n. refused-opened (session (p .lines) (p .refusal) a′) n)
+
+pub standing-refused : {a : Arrays} {order : Lists.List ℕ} → Runnable a order → (n : ℕ) (l : Lists.List ℕ) (x : Refusal) → headerRead l ≡ Headers.Refused x
+    → Standing (record { lines = 0; count = n; refusal = x }) a order
+standing-refused {a} f n l x h =
+    let d = header-refused l x h in
+    record { runnable = f; few = λ z. absurd (d z); fresh = λ w. absurd (true≢false (sym w ∙ refused-opened (session 0 x a) d)) }
