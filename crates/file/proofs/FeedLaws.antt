@@ -56,7 +56,7 @@ run-opened s e (l ∷ ls) = rw e refl
 ahead-none : (s : Session Arrays) → refusalNumber (s .refusal) ≢ 0 → (rest : Lists.List ℕ) → ahead s rest ≡ standing s
 ahead-none s d rest = let ls = cut (ready s true rest) rest in run-opened s (refused-opened s d) ls ∙ final-run lent s ls d
 
-behind-twice : {T : Type 0} (a b : Lists.List ℕ) (o : Served T) → behind a (behind b o) ≡ behind (a ++ b) o
+pub behind-twice : {T : Type 0} (a b : Lists.List ℕ) (o : Served T) → behind a (behind b o) ≡ behind (a ++ b) o
 behind-twice a b o = ap (λ x. record { session = o .session; refusal = o .refusal; bytes = x }) (sym (append-assoc a b (o .bytes)))
 
 -- lines in two groups
@@ -103,6 +103,12 @@ module _ {run : Run} {a : Arrays} {last : Bool} {part : Lists.List ℕ} {r : Fed
 
   pub feeds-shown : take (r .written) buffer′ ≡ f .bytes
   feeds-shown = rw (f .report, f .written) (take-at (f .bytes) (drop (length (f .bytes)) buffer) (length (f .bytes)) refl)
+
+  -- another could be served
+  pub feeds-more : r .more ≡ true → (refusalNumber (r .run .refusal) ≡ 0) × (f .served < ready s last part)
+  feeds-more m =
+      let b = and-both (eqb (refusalNumber (r .run .refusal)) 0) (ltb (f .served) (ready s last part)) (sym (f .more) ∙ m) in
+      (eqb-true _ 0 (b .0), ltb-true (f .served) (ready s last part) (b .1))
 
   -- nothing is served: all stays
   none-served : f .served ≡ 0 → (s′ ≡ s) × (f .bytes ≡ []) × (r .read ≡ 0)
