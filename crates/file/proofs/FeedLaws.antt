@@ -29,7 +29,7 @@ use Rattle.schedule.proofs.Cuts.{run-append, cut-add}
 use Rattle.schedule.specs.declared.Header.the-variants as Headers
 use Rattle.schedule.specs.declared.Header.the-variants.{Stations}
 use Rattle.file.specs.Contracts.{Runnable, readLines, Reports}
-use Rattle.file.specs.Feeds.{sessionOf, awaits, runFrom, ready, ahead, Standing, Feeds, fedOf, Feeding, FedBy, Ends, output}
+use Rattle.file.specs.Feeds.{sessionOf, awaits, runFrom, readyIn, ready, ahead, Standing, Feeds, fedOf, Feeding, FedBy, Ends, output}
 use Rattle.file.specs.declared.Run.{Run}
 use Rattle.file.specs.declared.Fed.{Fed}
 use Rattle.file.specs.declared.Progress.{Progress}
@@ -109,6 +109,30 @@ module _ {run : Run} {a : Arrays} {last : Bool} {part : Lists.List ℕ} {r : Fed
   feeds-more m =
       let b = and-both (eqb (refusalNumber (r .run .refusal)) 0) (ltb (f .served) (ready s last part)) (sym (f .more) ∙ m) in
       (eqb-true _ 0 (b .0), ltb-true (f .served) (ready s last part) (b .1))
+
+  -- none could be, and none is refused for good
+  feeds-all : r .more ≡ false → refusalNumber (r .run .refusal) ≡ 0 → f .served ≡ ready s last part
+  feeds-all m z =
+      let none : ltb (f .served) (ready s last part) ≡ false = sym (ap (λ b. b && ltb (f .served) (ready s last part)) (eq-eqb _ 0 z)) ∙ sym (f .more) ∙ m in
+      omega (arith, f .most, ltb-false (f .served) (ready s last part) none)
+
+  -- whole lines were then, and with room for one there is one
+  pub feeds-on : r .more ≡ true → 928 ≤ length buffer → (0 < r .read) × (r .read ≡ 18 * f .served) × (r .run .lines ≡ run .lines + f .served)
+  feeds-on m room =
+      let l = go last (awaits s) (feeds-more m .1) in
+      (omega (arith, f .read, l, f .stops m, f .short, room), omega (arith, f .read, l), f .counted (feeds-more m .0))
+    where
+      go : (b w : Bool) → f .served < readyIn w b part → 18 * f .served ≤ length part
+      go true true l = omega (arith, length-drop 18 part)
+      go true false l = omega arith
+      go false w l = omega arith
+
+  -- of a part that is not the last, less than a line is left where no other could be served
+  pub feeds-left : r .more ≡ false → last ≡ false → refusalNumber (r .run .refusal) ≡ 0
+      → (length part < r .read + 18) × (r .read ≡ 18 * f .served) × (r .run .lines ≡ run .lines + f .served)
+  feeds-left m e z =
+      let all : f .served ≡ length part / 18 = feeds-all m z ∙ ap (λ b. ready s b part) e in
+      (omega (arith, f .read, all), omega (arith, f .read, all), f .counted z)
 
   -- nothing is served: all stays
   none-served : f .served ≡ 0 → (s′ ≡ s) × (f .bytes ≡ []) × (r .read ≡ 0)
@@ -201,9 +225,7 @@ module _ {run : Run} {a : Arrays} {last : Bool} {part : Lists.List ℕ} {r : Fed
 
       ended : last ≡ true → refusalNumber (r .run .refusal) ≡ 0 → ahead s′ (drop (r .read) part ++ more) ≡ standing s′
       ended e z =
-          let none : ltb (f .served) (ready s last part) ≡ false = sym (ap (λ b. b && ltb (f .served) (ready s last part)) (eq-eqb _ 0 z)) ∙ sym (f .more) ∙ m in
-          let all : f .served ≡ ready s last part = omega (arith, f .most, ltb-false (f .served) (ready s last part) none) in
-          let whole = all ∙ ap (λ b. ready s b part) e in
+          let whole = feeds-all m z ∙ ap (λ b. ready s b part) e in
           let z : drop (r .read) part ++ more ≡ [] = (λ i. drop-of-length-le part {i = r .read} (long (awaits s) whole) i ++ over e i) in
           ap (ahead s′) z ∙ rw (opened whole) refl
         where

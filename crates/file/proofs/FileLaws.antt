@@ -20,7 +20,7 @@ use Rattle.schedule.specs.Sessions.{Session, Served, standing}
 use Rattle.schedule.specs.Files.{pieces, behind, fileRun, fileReport}
 use Rattle.file.specs.Contracts.{RunsFile, ReportsFile}
 use Rattle.file.specs.Feeds.{sessionOf, awaits, ready, ahead, Feeds}
-use Rattle.file.proofs.FeedLaws.{run-started, behind-twice, feeds-within, feeds-shown, feeds-more, feeds-rest, feeds-done}
+use Rattle.file.proofs.FeedLaws.{run-started, behind-twice, feeds-within, feeds-shown, feeds-more, feeds-on, feeds-rest, feeds-done}
 use Rattle.file.specs.declared.Run.{Run}
 use Rattle.file.specs.declared.Fed.{Fed}
 use Rattle.file.specs.declared.Ending.{Ending}
@@ -60,14 +60,6 @@ ready-few s rest = go (awaits s)
     go : (w : Bool) → cond w (suc (pieces (drop 18 rest))) (pieces rest) ≤ length rest / 18 + 1
     go true = omega (arith, length-drop 18 rest)
     go false = omega arith
-
--- where one more could be served, whole lines were
-whole-served : (s : Session Arrays) (rest : Lists.List ℕ) {k : ℕ} → k < ready s true rest → 18 * k ≤ length rest
-whole-served s rest {k} h = go (awaits s) h
-  where
-    go : (w : Bool) → k < cond w (suc (pieces (drop 18 rest))) (pieces rest) → 18 * k ≤ length rest
-    go true h = omega (arith, length-drop 18 rest)
-    go false h = omega arith
 
 -- the parts so far: what they printed, and that the file goes on from where they left it
 pub record Gathered (file out₀ : Lists.List ℕ) (run : Run) (a : Arrays) (long at : ℕ) (out : Lists.List ℕ) : Type 0 where
@@ -146,22 +138,18 @@ module _ {file out₀ : Lists.List ℕ} {run : Run} {a : Arrays} {long at : ℕ}
 
     -- there is more
     module _ (m : r .more ≡ true) (room : length buffer ≡ 4096) where
-      read-whole : r .read ≡ 18 * g .served
-      read-whole = omega (
-        arith,
-        g .read,
-        whole-served (sessionOf run a) (drop at file) (feeds-more g m .1),
-      )
+      step : (0 < r .read) × (r .read ≡ 18 * g .served) × (r .run .lines ≡ run .lines + g .served)
+      step = feeds-on g m (omega (arith, room))
 
       pub part-less : length file - (at + r .read) < length file - at
-      part-less = omega (arith, part-within, read-whole, g .stops m, g .short, room)
+      part-less = omega (arith, part-within, step)
 
       pub gathered-more : Gathered file out₀ (r .run) a′ w (at + r .read) out′
       gathered-more = record {
         within = part-within;
         going = feeds-more g m .0;
-        placed = omega (arith, f .placed, read-whole, g .counted (feeds-more g m .0));
-        few = omega (arith, put .0, ap length (feeds-shown g), g .written, g .short, f .few, g .counted (feeds-more g m .0));
+        placed = omega (arith, f .placed, step);
+        few = omega (arith, put .0, ap length (feeds-shown g), g .written, g .short, f .few, step);
         bytes = f .bytes ++ g .bytes;
         counted = total;
         same = q ∙ f .same;

@@ -52,9 +52,9 @@ pub record Prints (a : Arrays) (c : Call) (buffer : Lists.List ℕ) (a′ : Arra
 abbrev pub readLines : ℕ → ℕ
 readLines read = (read + 17) / 18
 
--- a part of the file, served from the session s: the whole outcome (proved unique: ChunkLaws, `reports-one`). The lines read leave the session and print
--- the bytes. Before each of them none was refused for good and there was room for 928 bytes; after them one of the two fails, or the part is at its end.
--- Each prints at most 928 bytes and, if none is refused for good, is counted.
+-- the lines of a part of the file, served from the session s. Those read leave the session and print the bytes. Before each of them none was refused for
+-- good and there was room for 928 bytes; after them one of the two fails, or the part is at its end. Each prints at most 928 bytes and, if none is refused for
+-- good, is counted.
 pub record Reports (s : Session Arrays) (chunk : Lists.List ℕ) (a : Arrays) (r : Progress) (buffer buffer′ : Lists.List ℕ) : Type 0 where
   pub whole : r .read ≡ min (18 * readLines (r .read)) (length chunk)
   pub bytes : Lists.List ℕ

@@ -34,9 +34,12 @@ runFrom s [] = standing s
 runFrom s (l ∷ ls) = cond (awaits s) (let h = headerOf lent l in behind (headerPrinted h) (runLines lent h ls)) (runLines lent s (l ∷ ls))
 
 -- how many lines can be served of a part: whole ones; of the last part also what is left behind them, and the header even of no bytes
+abbrev pub readyIn : Bool → Bool → Lists.List ℕ → ℕ
+readyIn header false part = length part / 18
+readyIn header true part = cond header (suc (pieces (drop 18 part))) (pieces part)
+
 abbrev pub ready : Session Arrays → Bool → Lists.List ℕ → ℕ
-ready s false part = length part / 18
-ready s true part = cond (awaits s) (suc (pieces (drop 18 part))) (pieces part)
+ready s last part = readyIn (awaits s) last part
 
 -- the run of all bytes that are still to come
 abbrev pub ahead : Session Arrays → Lists.List ℕ → Served Arrays
