@@ -26,7 +26,7 @@ use moves::Refusal;
 use moves::Request;
 use moves::Room;
 use schedule::Header;
-use schedule::Line;
+use schedule::Next;
 
 // The most bytes that a line prints: 32 report lines of 29.
 const ROOM: usize = 928;
@@ -157,7 +157,7 @@ pub fn report_lines(
     let mut count = lines;
     let mut written = 0;
     let mut at = 0;
-    while at < chunk.len() {
+    loop {
         if out.len() - written < ROOM {
             return Progress {
                 lines: count,
@@ -166,10 +166,18 @@ pub fn report_lines(
                 written,
             };
         }
-        let line = schedule::line_at(chunk, at);
-        let number = count as u64 + 1;
-        match schedule::next_line(count, line) {
-            Line::Refused(refusal) => {
+        match schedule::next_call(count, chunk, at) {
+            Next::End => {
+                return Progress {
+                    lines: count,
+                    refusal: Refusal::Accepted,
+                    read: at,
+                    written,
+                };
+            }
+            Next::Refused(refusal) => {
+                let line = schedule::line_at(chunk, at);
+                let number = count as u64 + 1;
                 let k = print_refusal(number, refusal, &mut out[written..written + ROOM]);
                 return Progress {
                     lines: count,
@@ -178,13 +186,7 @@ pub fn report_lines(
                     written: written + k,
                 };
             }
-            Line::Step { station, code, job } => {
-                let request = Request {
-                    code,
-                    station,
-                    job,
-                    line: number,
-                };
+            Next::Call(request) => {
                 let k = serve_line(
                     n,
                     request,
@@ -197,15 +199,9 @@ pub fn report_lines(
                 );
                 count += 1;
                 written += k;
-                at += line.len();
+                at += 18;
             }
         }
-    }
-    Progress {
-        lines: count,
-        refusal: Refusal::Accepted,
-        read: at,
-        written,
     }
 }
 
