@@ -4,10 +4,10 @@ use native.Mathlib.Omega.{arith}
 use mathlib.Core.Path.{sym, _∙_}
 use lib.ListN.{length, length-take, length-drop}
 use Rattle.columns.proofs.ColumnLaws.{bad-value}
-use Rattle.numbering.proofs.Reading.{ReadSoFar, read-start, read-more, read-whole, read-broken, broken-length, broken-room, broken-line}
+use Rattle.number_lines.proofs.Reading.{ReadSoFar, read-start, read-more, read-whole, read-broken, broken-length, broken-room, broken-line}
 use borrow.Author.Needs.{needs}
-use Rattle.numbering.proofs.read_numbers.Statement.{statement}
-use Rattle.numbering.proofs.read_numbers.Tie as tie
+use Rattle.number_lines.proofs.read_numbers.Statement.{statement}
+use Rattle.number_lines.proofs.read_numbers.Tie as tie
 
 abbrev Inv-loop : tie.InvT-loop
 Inv-loop bytes list₀ lines count₀ list count = ReadSoFar bytes list₀ list count × (count ≤ lines)

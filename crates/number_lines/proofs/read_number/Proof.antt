@@ -1,9 +1,9 @@
 use Rattle.columns.proofs.ColumnLaws.{bad-value}
-use Rattle.numbering.proofs.Reading.{ends-with-10, number-read}
+use Rattle.number_lines.proofs.Reading.{ends-with-10, number-read}
 use mathlib.Core.Path.{sym, _∙_}
 use borrow.Author.Needs.{needs}
-use Rattle.numbering.proofs.read_number.Statement.{statement}
-use Rattle.numbering.proofs.read_number.Tie as tie
+use Rattle.number_lines.proofs.read_number.Statement.{statement}
+use Rattle.number_lines.proofs.read_number.Tie as tie
 
 returns : tie.Need-returns
 returns c v = (λ e. absurd (bad-value e), λ f. absurd (c .if1 .taken (ends-with-10 _ v f)))

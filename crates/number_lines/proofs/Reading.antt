@@ -12,8 +12,8 @@ use Rattle.columns.specs.Columns.{column}
 use Rattle.columns.specs.Reading.{columnRead}
 use Rattle.columns.specs.declared.Column.the-variants.{Value}
 use Rattle.columns.proofs.ColumnLaws.{length-column, column-iff}
-use Rattle.numbering.specs.Contracts.{numberLine, numberLines, NumberLine, NumberLines, NumbersRead}
-use Rattle.numbering.proofs.Printing.{length-number, length-numbers, numbers-append}
+use Rattle.number_lines.specs.Lines.{numberLine, numberLines, NumberLine, NumberLines, NumbersRead}
+use Rattle.number_lines.proofs.Printing.{length-number, length-numbers, numbers-append}
 
 -- ONE LINE: it ends with byte 10, and its column is read as the number
 pub ends-with-10 : (l : List ℕ) (v : ℕ) → NumberLine l v → getD l 11 0 ≡ 10

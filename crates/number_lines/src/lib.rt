@@ -1,0 +1,83 @@
+// Numbers on lines of 12 bytes each (document 02, Cards 6 and 7): printed, and read back.
+ghost use mathlib.Core.Path.{_≡_};
+ghost use mathlib.Core.Logic.{_↔_};
+ghost use mathlib.Core.List.{_++_};
+ghost use Prim.Native.Nat.{ℕ, _*_, _≤_};
+ghost use lib.ListN.{length, drop};
+ghost use Rattle.columns.specs.declared.Column.the-variants.{Value};
+ghost use Rattle.number_lines.specs.Lines.{numberLine, numberLines, NumberLine, NumbersRead};
+use columns::Column;
+
+// Fills the 12 bytes of a line with a number.
+fn print_number(out: &mut [u8], v: u32)
+    requires { ⌜ length (now out) ≡ 12 ⌝ }
+    ensures { λ _. ⌜ now (out .exit) ≡ numberLine v ⌝ }
+{
+    columns::write_column(&mut out[0..11], v as u64);
+    out[11] = 10;
+}
+
+// Writes numbers to the front of `out`, each on a line of its own, and hands back their bytes.
+pub fn print_numbers(list: &[u32], out: &mut [u8]) -> usize
+    requires { ⌜ length (now list) * 12 ≤ length (now out) ⌝ }
+    ensures { λ r. ⌜ r ≡ length (now (list .entry)) * 12 ⌝ }
+    ensures { λ _. ⌜ now (out .exit) ≡ numberLines (now (list .entry)) ++ drop (length (numberLines (now (list .entry)))) (now (out .entry)) ⌝ }
+{
+    let mut i = 0;
+    while i < list.len() {
+        let at = i * 12;
+        print_number(&mut out[at..at + 12], list[i]);
+        i += 1;
+    }
+    i * 12
+}
+
+// What some bytes are as lines of numbers: whether they are that through and through, and how many of the lines at their front were read.
+pub struct Read {
+    pub whole: bool,
+    pub count: usize,
+}
+
+// Reads a line of 12 bytes: a number in 11 columns, and byte 10.
+fn read_number(line: &[u8]) -> Column
+    requires { ⌜ length (now line) ≡ 12 ⌝ }
+    ensures { λ r. ⌜ ((v : ℕ) → (r ≡ Value v) ↔ NumberLine (now (line .entry)) v) ⌝ }
+{
+    if line[11] != 10 {
+        return Column::Bad;
+    }
+    columns::read_column(&line[0..11])
+}
+
+// Reads numbers that are printed each on a line of its own, and writes them to the front of the list. Bytes that are no such lines are not whole, and neither
+// are more lines than the list has entries.
+pub fn read_numbers(bytes: &[u8], list: &mut [u64]) -> Read
+    ensures { λ r. ⌜ NumbersRead (now (bytes .entry)) (now (list .entry)) (r .whole) (r .count) (now (list .exit)) ⌝ }
+{
+    let lines = bytes.len() / 12;
+    if bytes.len() != lines * 12 {
+        return Read {
+            whole: false,
+            count: 0,
+        };
+    }
+    if list.len() < lines {
+        return Read {
+            whole: false,
+            count: 0,
+        };
+    }
+    let mut count = 0;
+    while count < lines {
+        let at = count * 12;
+        let Column::Value(v) = read_number(&bytes[at..at + 12]) else {
+            return Read {
+                whole: false,
+                count,
+            };
+        };
+        list[count] = v;
+        count += 1;
+    }
+    Read { whole: true, count }
+}
