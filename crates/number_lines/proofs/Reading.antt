@@ -1,136 +1,223 @@
 -- Numbers read back from lines of 12 bytes each.
-use Prim.Native.Nat.{ℕ, zero, suc, _+_, _*_, _/_, _≤_, _<_, _^_}
+use Prim.Native.Nat.{ℕ, zero, suc, _+_, _-_, _*_, _≤_, _<_, _^_}
 use native.Mathlib.Numerals.{add-one}
 use native.Mathlib.Omega.{arith}
-use mathlib.Core.Path.{_≡_, refl, sym, ap, ap₂, _∙_}
-use mathlib.Core.Logic.{_≢_, _↔_}
-use mathlib.Core.Bool.{Bool, true, false, true≢false}
-use mathlib.Core.List.{List, [], _∷_, _++_, append-nil}
-use lib.ListN.{length, getD, take, drop, set, take-append-drop, drop-of-length-le, length-set}
-use lib.Seq.{length-take-le, take-all, take-at, drop-cons, drop-append-add, getD-at, take-add, take-suc-set, drop-set-lt, drop-drop}
+use mathlib.Core.Path.{_≡_, refl, sym, ap, ap₂, subst, _∙_}
+use mathlib.Core.Logic.{_↔_}
+use mathlib.Core.Bool.{Bool, true, false, cond}
+use mathlib.Core.List.{List, [], _∷_, _++_, append-assoc, append-nil}
+use lib.ListN.{length, getD, take, drop, set, length-append, length-take, length-drop, take-append-drop, drop-of-length-le, length-set, List·getD-eq-default}
+use lib.Seq.{length-take-le, take-all, take-at, drop-at, drop-cons, getD-at, getD-take, take-take, take-add, take-suc, take-suc-set, drop-set-lt, drop-drop}
+use lib.Dec.{eqb, ltb}
+use borrow.Author.Tests.{eqb-true, eq-eqb, ne-eqb, ltb-true, ltb-false}
 use Rattle.columns.specs.Columns.{column}
 use Rattle.columns.specs.Reading.{columnRead}
-use Rattle.columns.specs.declared.Column.the-variants.{Value}
-use Rattle.columns.proofs.ColumnLaws.{length-column, column-iff}
-use Rattle.number_lines.specs.Lines.{numberLine, numberLines, NumberLine, NumberLines, NumbersRead}
-use Rattle.number_lines.proofs.Printing.{length-number, length-numbers, numbers-append}
+use Rattle.columns.specs.declared.Column.{Column}
+use Rattle.columns.specs.declared.Column.the-variants.{Value, Bad}
+use Rattle.columns.proofs.ColumnLaws.{length-column, bad-value, column-iff}
+use Rattle.number_lines.specs.Lines.{numberLine, numberLines, NumberLine, NumberLines, lineRead, linesRead, NumbersRead}
+use Rattle.number_lines.proofs.Printing.{length-number, length-numbers}
 
--- ONE LINE: it ends with byte 10, and its column is read as the number
-pub ends-with-10 : (l : List ℕ) (v : ℕ) → NumberLine l v → getD l 11 0 ≡ 10
-unfolding numberLine
-ends-with-10 l v f = ap (λ x. getD x 11 0) (f .line) ∙ getD-at (column 11 v) 10 [] 0 11 (length-column 11 v)
+-- ONE LINE
 
-pub number-read : (l : List ℕ) (v : ℕ) → length l ≡ 12 → getD l 11 0 ≡ 10 → (columnRead (take 11 l) ≡ Value v) ↔ NumberLine l v
-unfolding numberLine
-number-read l v h e = (to, from)
+-- bytes that do not reach to a line's end, or do not end it
+pub line-short : (bs : List ℕ) → length bs < 12 → lineRead bs ≡ Bad
+unfolding lineRead
+line-short bs h = rw (List·getD-eq-default bs 0 {n = 11} (omega arith)) refl
+
+pub line-no-end : (bs : List ℕ) → (getD bs 11 0 ≡ 10 → ⊥) → lineRead bs ≡ Bad
+unfolding lineRead
+line-no-end bs d = rw (ne-eqb (getD bs 11 0) 10 d) refl
+
+pub line-end : (bs : List ℕ) → getD bs 11 0 ≡ 10 → lineRead bs ≡ columnRead (take 11 bs)
+unfolding lineRead
+line-end bs e = rw (eq-eqb (getD bs 11 0) 10 e) refl
+
+-- what is read is a whole line
+pub line-long : (bs : List ℕ) (v : ℕ) → lineRead bs ≡ Value v → 12 ≤ length bs
+line-long bs v e = go (ltb (length bs) 12) refl
   where
-    wide : length (take 11 l) ≡ 11
-    wide = length-take-le 11 l (omega arith)
+    go : (b : Bool) → ltb (length bs) 12 ≡ b → 12 ≤ length bs
+    go true t = absurd (bad-value (sym (line-short bs (ltb-true (length bs) 12 t)) ∙ e))
+    go false t = ltb-false (length bs) 12 t
 
-    is : (columnRead (take 11 l) ≡ Value v) ↔ ((take 11 l ≡ column (length (take 11 l)) v) × (v < 10 ^ length (take 11 l)))
-    is = column-iff (take 11 l) v (omega (arith, wide))
+-- a number is read exactly where its line stands at the front
+module _ (bs : List ℕ) (v : ℕ) where
+  read-line : lineRead bs ≡ Value v → NumberLine (take 12 bs) v
+  unfolding lineRead numberLine
+  read-line e = go (eqb (getD bs 11 0) 10) refl e
+    where
+      long : 12 ≤ length bs
+      long = line-long bs v e
 
-    last : drop 11 l ≡ 10 ∷ []
-    last = drop-cons l 11 0 (omega arith) ∙ ap₂ _∷_ e (drop-of-length-le l {i = 12} (omega arith))
+      wide : length (take 11 bs) ≡ 11
+      wide = length-take-le 11 bs (omega (arith, long))
 
-    to : columnRead (take 11 l) ≡ Value v → NumberLine l v
-    to k =
-        let f = is .0 k in
-        record {
-          line = sym (take-append-drop 11 l) ∙ ap₂ _++_ (f .0 ∙ ap (λ w. column w v) wide) last;
-          fits = rw wide at f .1;
-        }
+      go : (b : Bool) → eqb (getD bs 11 0) 10 ≡ b → cond b (columnRead (take 11 bs)) Bad ≡ Value v → NumberLine (take 12 bs) v
+      go true t k = let f = column-iff (take 11 bs) v (omega (arith, wide)) .0 k in record {
+        line = take-suc bs 11 0 (omega (arith, long)) ∙ ap₂ (λ x y. x ++ (y ∷ [])) (f .0 ∙ ap (λ w. column w v) wide) (eqb-true (getD bs 11 0) 10 t);
+        fits = rw wide at f .1;
+      }
+      go false t k = absurd (bad-value k)
 
-    from : NumberLine l v → columnRead (take 11 l) ≡ Value v
-    from f = is .1 (rw wide (ap (take 11) (f .line) ∙ take-at (column 11 v) (10 ∷ []) 11 (length-column 11 v), f .fits))
+  line-read : NumberLine (take 12 bs) v → lineRead bs ≡ Value v
+  unfolding numberLine
+  line-read f = line-end bs ends ∙ column-iff (take 11 bs) v (omega (arith, wide)) .1 (rw wide (front, f .fits))
+    where
+      ends : getD bs 11 0 ≡ 10
+      ends = sym (getD-take 12 bs 11 0 (omega arith)) ∙ ap (λ x. getD x 11 0) (f .line) ∙ getD-at (column 11 v) 10 [] 0 11 (length-column 11 v)
 
--- THE LOOP: `count` numbers are read, and the rest of the list is the old one
-pub record ReadSoFar (bs list₀ list : List ℕ) (count : ℕ) : Type 0 where
-  pub room : count ≤ length list₀
+      front : take 11 bs ≡ column 11 v
+      front = sym (take-take 11 12 bs (omega arith)) ∙ ap (take 11) (f .line) ∙ take-at (column 11 v) (10 ∷ []) 11 (length-column 11 v)
+
+      wide : length (take 11 bs) ≡ 11
+      wide = ap length front ∙ length-column 11 v
+
+  pub line-iff : (lineRead bs ≡ Value v) ↔ NumberLine (take 12 bs) v
+  line-iff = (read-line, line-read)
+
+-- SEVERAL LINES
+pub lines-none : (bs : List ℕ) → linesRead 0 bs ≡ []
+unfolding linesRead
+lines-none bs = refl
+
+pub lines-bad : (k : ℕ) (bs : List ℕ) → lineRead bs ≡ Bad → linesRead k bs ≡ []
+unfolding linesRead
+lines-bad zero bs e = refl
+lines-bad (suc k) bs e = ap (λ (r : Column). elim r [ Value v ↦ v ∷ linesRead k (drop 12 bs) | Bad ↦ [] ]) e
+
+pub lines-more : (k : ℕ) (bs : List ℕ) (v : ℕ) → lineRead bs ≡ Value v → linesRead (suc k) bs ≡ v ∷ linesRead k (drop 12 bs)
+unfolding linesRead
+lines-more k bs v e = ap (λ (r : Column). elim r [ Value v ↦ v ∷ linesRead k (drop 12 bs) | Bad ↦ [] ]) e
+
+-- THE LOOP: `count` numbers are read, and all that are to be read are these and those of the bytes from `at` on; the rest of the list is the old one
+pub record ReadSoFar (bs list₀ list : List ℕ) (count at : ℕ) : Type 0 where
   pub size : length list ≡ length list₀
-  pub read : NumberLines (take (count * 12) bs) (take count list)
+  pub room : count ≤ length list₀
+  pub place : at ≡ count * 12
+  pub within : at ≤ length bs
+  pub read : linesRead (length list₀) bs ≡ take count list ++ linesRead (length list₀ - count) (drop at bs)
   pub left : drop count list ≡ drop count list₀
 
+pub read-start : (bs list : List ℕ) → ReadSoFar bs list list 0 0
+read-start bs list = record {
+  size = refl;
+  room = omega arith;
+  place = refl;
+  within = omega arith;
+  read = let all : length list ≡ length list - 0 = omega arith in ap (λ k. linesRead k bs) all;
+  left = refl;
+}
+
+module _ {bs list₀ list : List ℕ} {count at : ℕ} (f : ReadSoFar bs list₀ list count at) where
+  -- the line that is read lies within the bytes
+  pub read-within : (v : ℕ) → lineRead (drop at bs) ≡ Value v → at + 12 ≤ length bs
+  read-within v e = omega (arith, line-long (drop at bs) v e, length-drop at bs, f .within)
+
+  -- one line more
+  pub read-more : (v : ℕ) → count < length list₀ → lineRead (drop at bs) ≡ Value v → ReadSoFar bs list₀ (set list count v) (count + 1) (at + 12)
+  read-more v h e = record {
+    size = length-set list count v ∙ f .size;
+    room = omega arith;
+    place = omega (arith, f .place);
+    within = read-within v e;
+    read = f .read ∙ ap (λ t. take count list ++ t) next ∙ sym (append-assoc (take count list) (v ∷ []) (linesRead (length list₀ - (count + 1)) (drop (at + 12) bs)))
+        ∙ ap (λ t. t ++ linesRead (length list₀ - (count + 1)) (drop (at + 12) bs)) (sym more);
+    left = drop-set-lt (count + 1) list count v (omega arith) ∙ sym (drop-drop 1 count list) ∙ ap (drop 1) (f .left) ∙ drop-drop 1 count list₀;
+  }
+    where
+      more : take (count + 1) (set list count v) ≡ take count list ++ (v ∷ [])
+      more = ap (λ k. take k (set list count v)) (add-one count) ∙ take-suc-set list count v (omega (arith, f .size))
+
+      fewer : length list₀ - count ≡ suc (length list₀ - (count + 1))
+      fewer = omega arith
+
+      next : linesRead (length list₀ - count) (drop at bs) ≡ v ∷ linesRead (length list₀ - (count + 1)) (drop (at + 12) bs)
+      next = ap (λ k. linesRead k (drop at bs)) fewer ∙ lines-more (length list₀ - (count + 1)) (drop at bs) v e
+          ∙ ap (λ t. v ∷ linesRead (length list₀ - (count + 1)) t) (drop-drop 12 at bs)
+
+  -- the end: no more is to be read
+  read-end : linesRead (length list₀ - count) (drop at bs) ≡ [] → NumbersRead bs list₀ (eqb at (length bs)) count list
+  read-end e = record {
+    counted = sym (ap length found ∙ long);
+    left = sym (take-append-drop count list) ∙ ap₂ _++_ (sym found) (f .left ∙ ap (λ k. drop k list₀) (sym (ap length found ∙ long)));
+    whole = ap (λ k. eqb k (length bs)) (f .place);
+  }
+    where
+      found : linesRead (length list₀) bs ≡ take count list
+      found = f .read ∙ ap (λ t. take count list ++ t) e ∙ append-nil (take count list)
+
+      long : length (take count list) ≡ count
+      long = length-take-le count list (omega (arith, f .size, f .room))
+
+  pub read-full : length list₀ ≤ count → NumbersRead bs list₀ (eqb at (length bs)) count list
+  read-full h = read-end (let none : length list₀ - count ≡ 0 = omega arith in ap (λ k. linesRead k (drop at bs)) none ∙ lines-none (drop at bs))
+
+  pub read-bad : lineRead (drop at bs) ≡ Bad → NumbersRead bs list₀ (eqb at (length bs)) count list
+  read-bad e = read-end (lines-bad (length list₀ - count) (drop at bs) e)
+
+-- WHAT READING SAYS OF THE BYTES
+
+-- the numbers read are those of the lines at the front
 none-fit : (i : ℕ) → getD {A = ℕ} [] i 0 < 10 ^ 11
 none-fit zero = omega arith
 none-fit (suc i) = omega arith
 
-fit-more : (ns : List ℕ) (v : ℕ) → ((i : ℕ) → getD ns i 0 < 10 ^ 11) → v < 10 ^ 11 → (i : ℕ) → getD (ns ++ (v ∷ [])) i 0 < 10 ^ 11
-fit-more [] v f h zero = h
-fit-more [] v f h (suc i) = none-fit i
-fit-more (x ∷ ns) v f h zero = f 0
-fit-more (x ∷ ns) v f h (suc i) = fit-more ns v (λ j. f (suc j)) h i
+fit-first : (v : ℕ) (ns : List ℕ) → v < 10 ^ 11 → ((i : ℕ) → getD ns i 0 < 10 ^ 11) → (i : ℕ) → getD (v ∷ ns) i 0 < 10 ^ 11
+fit-first v ns h f zero = h
+fit-first v ns h f (suc i) = f i
 
-pub read-start : (bs list : List ℕ) → ReadSoFar bs list list 0
+lines-front : (k : ℕ) (bs : List ℕ) → NumberLines (take (length (linesRead k bs) * 12) bs) (linesRead k bs)
 unfolding numberLines
-read-start bs list = record { room = omega arith; size = refl; read = record { lines = refl; fit = none-fit }; left = refl }
+lines-front zero bs = rw (lines-none bs) (record { lines = refl; fit = none-fit })
+lines-front (suc k) bs = go (lines-front k (drop 12 bs)) (lineRead bs) refl
+  where
+    go : NumberLines (take (length (linesRead k (drop 12 bs)) * 12) (drop 12 bs)) (linesRead k (drop 12 bs)) → (r : Column) → lineRead bs ≡ r
+        → NumberLines (take (length (linesRead (suc k) bs) * 12) bs) (linesRead (suc k) bs)
+    go later Bad e = rw (lines-bad (suc k) bs e) (record { lines = refl; fit = none-fit })
+    go later (Value v) e =
+        let rest = linesRead k (drop 12 bs) in
+        let here = line-iff bs v .0 e in
+        let split : suc (length rest) * 12 ≡ 12 + length rest * 12 = omega arith in
+        rw (lines-more k bs v e) (record {
+          lines = ap (λ j. take j bs) split ∙ take-add 12 (length rest * 12) bs ∙ ap₂ _++_ (here .line) (later .lines);
+          fit = fit-first v rest (here .fits) (later .fit);
+        })
 
-module _ {bs list₀ list : List ℕ} {count : ℕ} (f : ReadSoFar bs list₀ list count) where
-  -- one line more
-  pub read-more : (v k : ℕ) → count < length list₀ → k ≡ 12 → NumberLine (take k (drop (count * 12) bs)) v → ReadSoFar bs list₀ (set list count v) (count + 1)
-  unfolding numberLines
-  read-more v k h e g =
-      let more : take (count + 1) (set list count v) ≡ take count list ++ (v ∷ [])
-      = ap (λ k. take k (set list count v)) (add-one count) ∙ take-suc-set list count v (omega (arith, f .size)) in
-      let lines : take ((count + 1) * 12) bs ≡ take (count * 12) bs ++ take 12 (drop (count * 12) bs)
-      = (let same : (count + 1) * 12 ≡ count * 12 + 12 = omega arith in ap (λ k. take k bs) same) ∙ take-add (count * 12) 12 bs in
-      record {
-        room = omega arith;
-        size = length-set list count v ∙ f .size;
-        read = record {
-          lines = lines
-              ∙ ap₂ _++_ (f .read .lines) (sym (ap (λ k. take k (drop (count * 12) bs)) e) ∙ g .line ∙ sym (append-nil (numberLine v)))
-              ∙ sym (numbers-append (take count list) (v ∷ []))
-              ∙ ap numberLines (sym more);
-          fit = rw more (fit-more (take count list) v (f .read .fit) (g .fits));
-        };
-        left = drop-set-lt (count + 1) list count v (omega arith) ∙ sym (drop-drop 1 count list) ∙ ap (drop 1) (f .left) ∙ drop-drop 1 count list₀;
-      }
+-- lines that are printed are read back
+lines-back : (k : ℕ) (ns : List ℕ) → length ns ≤ k → ((i : ℕ) → getD ns i 0 < 10 ^ 11) → linesRead k (numberLines ns) ≡ ns
+unfolding numberLines
+lines-back k [] h f = lines-bad k [] (line-short [] (omega arith))
+lines-back zero (v ∷ ns) h f = absurd (omega arith)
+lines-back (suc k) (v ∷ ns) h f =
+    let rest = numberLines ns in
+    let line = numberLine v in
+    lines-more k (line ++ rest) v (line-iff (line ++ rest) v .1 (record { line = take-at line rest 12 (length-number v); fits = f 0 }))
+    ∙ ap (λ t. v ∷ linesRead k t) (drop-at line rest 12 (length-number v))
+    ∙ ap (λ t. v ∷ t) (lines-back k ns (omega arith) (λ i. f (suc i)))
 
-  -- the end: all is read, or no numbers have these bytes as their lines
-  read-end : (all : Bool) → (all ≡ true → length bs ≤ count * 12) → (all ≡ false → (ns : List ℕ) → length ns ≤ length list₀ → NumberLines bs ns → ⊥)
-      → NumbersRead bs list₀ all count list
-  read-end all g b = record {
-    room = f .room;
-    read = f .read;
-    left = sym (take-append-drop count list) ∙ ap (λ t. take count list ++ t) (f .left ∙ ap (λ k. drop k list₀) (sym counted));
-    whole = λ e. record { lines = sym (take-all (count * 12) bs (g e)) ∙ f .read .lines; fit = f .read .fit };
-    broken = b;
-  }
+module _ {bs list : List ℕ} {all : Bool} {count : ℕ} {list′ : List ℕ} (f : NumbersRead bs list all count list′) where
+  read-front : take count list′ ≡ linesRead (length list) bs
+  read-front = ap (take count) (f .left) ∙ take-at (linesRead (length list) bs) _ count (sym (f .counted))
+
+  pub read-lines : NumberLines (take (count * 12) bs) (take count list′)
+  read-lines = rw (read-front, f .counted) (lines-front (length list) bs)
+
+  -- whole bytes are the lines of the numbers read
+  pub read-whole : all ≡ true → NumberLines bs (take count list′)
+  read-whole e =
+      let long : count * 12 ≡ length bs = eqb-true (count * 12) (length bs) (sym (f .whole) ∙ e) in
+      subst (λ l. NumberLines l (take count list′)) (take-all (count * 12) bs (omega arith)) read-lines
+
+  -- and the lines of any numbers for which there is room are whole, and are read back
+  pub read-back : (ns : List ℕ) → length ns ≤ length list → NumberLines bs ns → (all ≡ true) × (count ≡ length ns) × (take count list′ ≡ ns)
+  read-back ns h g = (f .whole ∙ eq-eqb (count * 12) (length bs) long, counts, read-front ∙ found)
     where
-      counted : length (take count list) ≡ count
-      counted = length-take-le count list (omega (arith, f .size, f .room))
+      found : linesRead (length list) bs ≡ ns
+      found = ap (linesRead (length list)) (g .lines) ∙ lines-back (length list) ns h (g .fit)
 
-  pub read-whole : length bs ≤ count * 12 → NumbersRead bs list₀ true count list
-  read-whole h = read-end true (λ _. h) (λ e. absurd (true≢false e))
+      counts : count ≡ length ns
+      counts = f .counted ∙ ap length found
 
-  pub read-broken : ((ns : List ℕ) → length ns ≤ length list₀ → NumberLines bs ns → ⊥) → NumbersRead bs list₀ false count list
-  read-broken b = read-end false (λ e. absurd (true≢false (sym e))) (λ _. b)
-
--- BYTES THAT ARE NO LINES OF NUMBERS: by their length, by the room of the list, by one line
-long-lines : {bs ns : List ℕ} → NumberLines bs ns → length bs ≡ length ns * 12
-long-lines {bs} {ns} g = ap length (g .lines) ∙ length-numbers ns
-
-line-of : (ns : List ℕ) (i : ℕ) → i < length ns → take 12 (drop (i * 12) (numberLines ns)) ≡ numberLine (getD ns i 0)
-unfolding numberLines
-line-of [] i h = absurd (omega arith)
-line-of (v ∷ ns) zero h = take-at (numberLine v) (numberLines ns) 12 (length-number v)
-line-of (v ∷ ns) (suc i) h =
-    let same : suc i * 12 ≡ length (numberLine v) + i * 12 = omega (arith, length-number v) in
-    ap (take 12) (ap (λ k. drop k (numberLine v ++ numberLines ns)) same ∙ drop-append-add (numberLine v) (numberLines ns) (i * 12))
-    ∙ line-of ns i (omega arith)
-
--- in all of it the list has so many entries
-module _ (bs : List ℕ) (entries : ℕ) where
-  pub broken-length : length bs ≢ length bs / 12 * 12 → (ns : List ℕ) → length ns ≤ entries → NumberLines bs ns → ⊥
-  broken-length d ns h g = d (omega (arith, long-lines g))
-
-  pub broken-room : entries < length bs / 12 → (ns : List ℕ) → length ns ≤ entries → NumberLines bs ns → ⊥
-  broken-room r ns h g = omega (arith, long-lines g)
-
-  pub broken-line : (i k : ℕ) → i < length bs / 12 → k ≡ 12 → ((v : ℕ) → NumberLine (take k (drop (i * 12) bs)) v → ⊥)
-      → (ns : List ℕ) → length ns ≤ entries → NumberLines bs ns → ⊥
-  broken-line i k h e b ns r g = b (getD ns i 0) (record {
-    line = (λ j. take (e j) (drop (i * 12) (g .lines j))) ∙ line-of ns i (omega (arith, long-lines g));
-    fits = g .fit i;
-  })
+      long : count * 12 ≡ length bs
+      long = ap (λ k. k * 12) counts ∙ sym (ap length (g .lines) ∙ length-numbers ns)

@@ -1,11 +1,9 @@
 // Numbers on lines of 12 bytes each (document 02, Cards 6 and 7): printed, and read back.
 ghost use mathlib.Core.Path.{_≡_};
-ghost use mathlib.Core.Logic.{_↔_};
 ghost use mathlib.Core.List.{_++_};
 ghost use Prim.Native.Nat.{ℕ, _*_, _≤_};
 ghost use lib.ListN.{length, drop};
-ghost use Rattle.columns.specs.declared.Column.the-variants.{Value};
-ghost use Rattle.number_lines.specs.Lines.{numberLine, numberLines, NumberLine, NumbersRead};
+ghost use Rattle.number_lines.specs.Lines.{numberLine, numberLines, lineRead, NumbersRead};
 use columns::Column;
 
 // Fills the 12 bytes of a line with a number.
@@ -32,52 +30,45 @@ pub fn print_numbers(list: &[u32], out: &mut [u8]) -> usize
     i * 12
 }
 
-// What some bytes are as lines of numbers: whether they are that through and through, and how many of the lines at their front were read.
+// What was read of some bytes: how many numbers, each on a line of its own, and whether these lines are all that there is.
 pub struct Read {
     pub whole: bool,
     pub count: usize,
 }
 
-// Reads a line of 12 bytes: a number in 11 columns, and byte 10.
-fn read_number(line: &[u8]) -> Column
-    requires { ⌜ length (now line) ≡ 12 ⌝ }
-    ensures { λ r. ⌜ ((v : ℕ) → (r ≡ Value v) ↔ NumberLine (now (line .entry)) v) ⌝ }
+// Reads the line at the front of some bytes: a number in 11 columns, and byte 10.
+fn read_number(bytes: &[u8]) -> Column
+    ensures { λ r. ⌜ r ≡ lineRead (now (bytes .entry)) ⌝ }
 {
-    if line[11] != 10 {
+    if bytes.len() < 12 {
         return Column::Bad;
     }
-    columns::read_column(&line[0..11])
+    if bytes[11] != 10 {
+        return Column::Bad;
+    }
+    columns::read_column(&bytes[0..11])
 }
 
-// Reads numbers that are printed each on a line of its own, and writes them to the front of the list. Bytes that are no such lines are not whole, and neither
-// are more lines than the list has entries.
+// Reads numbers that are printed each on a line of its own, and writes them to the front of the list, as far as it has room and up to the first line that is
+// that of no number.
 pub fn read_numbers(bytes: &[u8], list: &mut [u64]) -> Read
     ensures { λ r. ⌜ NumbersRead (now (bytes .entry)) (now (list .entry)) (r .whole) (r .count) (now (list .exit)) ⌝ }
 {
-    let lines = bytes.len() / 12;
-    if bytes.len() != lines * 12 {
-        return Read {
-            whole: false,
-            count: 0,
-        };
-    }
-    if list.len() < lines {
-        return Read {
-            whole: false,
-            count: 0,
-        };
-    }
     let mut count = 0;
-    while count < lines {
-        let at = count * 12;
-        let Column::Value(v) = read_number(&bytes[at..at + 12]) else {
+    let mut at = 0;
+    while count < list.len() {
+        let Column::Value(v) = read_number(&bytes[at..]) else {
             return Read {
-                whole: false,
+                whole: at == bytes.len(),
                 count,
             };
         };
         list[count] = v;
         count += 1;
+        at += 12;
     }
-    Read { whole: true, count }
+    Read {
+        whole: at == bytes.len(),
+        count,
+    }
 }

@@ -1,76 +1,62 @@
--- The invariant is `ReadSoFar`: the lines of the first `count` numbers are read, and the rest of the list is the old one.
+-- The invariant is `ReadSoFar`: what is left to read is what the bytes from `at` on hold.
 use Prim.Native.Nat.{_+_, _-_, _*_, _≤_, _<_}
 use native.Mathlib.Omega.{arith}
-use mathlib.Core.Path.{sym, _∙_}
-use lib.ListN.{length, length-take, length-drop}
-use Rattle.columns.proofs.ColumnLaws.{bad-value}
-use Rattle.number_lines.proofs.Reading.{ReadSoFar, read-start, read-more, read-whole, read-broken, broken-length, broken-room, broken-line}
+use mathlib.Core.Path.{_≡_, sym, ap, _∙_}
+use lib.ListN.{length, drop, length-drop}
+use lib.Seq.{take-all}
+use Rattle.number_lines.specs.Lines.{lineRead}
+use Rattle.number_lines.proofs.Reading.{ReadSoFar, read-start, read-within, read-more, read-full, read-bad}
 use borrow.Author.Needs.{needs}
 use Rattle.number_lines.proofs.read_numbers.Statement.{statement}
 use Rattle.number_lines.proofs.read_numbers.Tie as tie
 
 abbrev Inv-loop : tie.InvT-loop
-Inv-loop bytes list₀ lines count₀ list count = ReadSoFar bytes list₀ list count × (count ≤ lines)
+Inv-loop bytes list₀ count₀ at₀ list count at = ReadSoFar bytes list₀ list count at
 
 abbrev μ-loop : tie.MeasureT-loop
-μ-loop bytes list₀ lines count₀ list count = lines - count
+μ-loop bytes list₀ count₀ at₀ list count at = length list₀ - count
 
-returns : tie.Need-returns Inv-loop μ-loop
-returns c = let a = c .before .before .before .args in read-broken (read-start _ _) (broken-length (a .bytes .now) (length (a .list .now)) (c .if1 .taken))
+-- the line that is read is the one at `at`
+here : (x : tie.After-read-number Inv-loop μ-loop) → let l = x .before .before .before .loop in
+    x .read-number .result ≡ lineRead (drop (l .at) (x .before .before .before .before .before .before .args .bytes .now))
+here x =
+    let l = x .before .before .before .loop in
+    let bytes = x .before .before .before .before .before .before .args .bytes .now in
+    x .read-number .ensures ∙ ap lineRead (take-all (length bytes - l .at) (drop (l .at) bytes) (omega (arith, length-drop (l .at) bytes)))
 
-returns-2 : tie.Need-returns-2 Inv-loop μ-loop
-returns-2 c =
-    let a = c .before .before .before .before .args in
-    read-broken (read-start _ _) (broken-room (a .bytes .now) (length (a .list .now)) (c .if2 .taken))
-
--- the next line lies within the bytes, and there is room for its number
-room : (x : tie.In-loop Inv-loop μ-loop) → let l = x .before .loop in let a = x .before .before .before .before .before .before .args in
-    (l .count * 12 + 12 ≤ length (a .bytes .now)) × (l .count < length (l .list)) × (l .count * 12 + 12 ≤ 18446744073709551615)
+-- the list has room for one number more
+room : (x : tie.In-loop Inv-loop μ-loop) → let l = x .before .loop in
+    (l .count < length (l .list)) × (l .count < length (x .before .before .before .before .args .list .now)) × (l .count * 8 + 8 ≤ 18446744073709551615)
 room x =
     let l = x .before .loop in
+    let s = x .before .before .before .before in
+    let h : l .count < length (s .args .list .now) = omega (arith, x .loop-test .taken, l .inv .size) in
+    (x .loop-test .taken, h, omega (arith, h, s .good .1 .0 .0))
+
+returns : tie.Need-returns Inv-loop μ-loop
+returns c =
+    let x = c .before .before in
+    read-bad (x .before .before .before .loop .inv) (sym (here x) ∙ c .enum-told .given .1)
+
+abbrev found : (c : tie.After-known-told Inv-loop μ-loop) → tie.After-read-number Inv-loop μ-loop
+found c = c .before .before .before
+
+-- and the line lies within the bytes
+add-at : tie.Need-add-at Inv-loop μ-loop
+add-at c =
+    let x = found c in
     let s = x .before .before .before .before .before .before in
-    let in-bytes : l .count * 12 + 12 ≤ length (s .args .bytes .now) = omega (arith, x .loop-test .taken) in
-    (in-bytes, omega (arith, x .loop-test .taken, x .before .before .if2 .left, l .inv .0 .size), omega (arith, in-bytes, s .good .0 .0))
-
-read-number-requires : tie.Need-read-number-requires Inv-loop μ-loop
-read-number-requires c κs = simp (length-take, length-drop) (omega (arith, room (c .before)))
-
-returns-3 : tie.Need-returns-3 Inv-loop μ-loop
-returns-3 c =
-    let test = c .before .before .before .before in
-    let l = test .before .loop in
-    let a = test .before .before .before .before .before .before .args in
-    let read = c .before .before .read-number in
-    read-broken (l .inv .0) (broken-line (a .bytes .now) (length (a .list .now)) (l .count) (l .count * 12 + 12 - l .count * 12)
-    (test .loop-test .taken) (omega arith)
-    (λ v f. bad-value (sym (c .enum-told .given .1) ∙ read .ensures v .1 f)))
+    omega (arith, read-within (x .before .before .before .loop .inv) _ (sym (here x) ∙ c .before .v .given .1), s .good .0 .0)
 
 loop-again : tie.Need-loop-again Inv-loop μ-loop
-loop-again c =
-    let test = c .before .before .before .before .before in
-    let l = test .before .loop in
-    let read = c .before .before .before .read-number in
-    let k = l .count * 12 + 12 - l .count * 12 in (
-      read-more (l .inv .0) _ k (omega (arith, room test, l .inv .0 .size)) (omega arith) (read .ensures _ .0 (c .before .v .given .1)),
-      omega (arith, test .loop-test .taken),
-    )
+loop-again c = let x = found c in read-more (x .before .before .before .loop .inv) _ (room (x .before .before) .1) (sym (here x) ∙ c .before .v .given .1)
 
-returns-4 : tie.Need-returns-4 Inv-loop μ-loop
-returns-4 c =
-    let l = c .before .loop in
-    read-whole (l .inv .0) (omega (arith, l .inv .1, c .loop-test .left, c .before .before .before .if1 .left))
+returns-2 : tie.Need-returns-2 Inv-loop μ-loop
+returns-2 c = let l = c .before .loop in read-full (l .inv) (omega (arith, c .loop-test .left, l .inv .size))
 
 pub read-numbers-spec : {M : Type 1} → statement M
-read-numbers-spec = tie.close (tie.spec Inv-loop μ-loop
-    (λ c. let s = c .before .before in omega (arith, s .good .0 .0)) returns returns-2 (λ c. (read-start _ _, omega arith))
-    (λ c. omega (arith, room c)) (λ c. omega (arith, room c)) (λ c. omega arith) (λ c. omega (arith, room c)) (λ c. omega (arith, room c))
-    read-number-requires (λ c. search needs) (λ c. search needs)
-    (λ c. c .before .before .before .before .before .loop .inv .0 .size)
-    returns-3
-    (λ c. let x = c .before .before .before .before .before in omega (arith, room x))
-    (λ c. room (c .before .before .before .before .before) .1)
-    (λ c. let x = c .before .before .before .before .before in omega (arith, room x))
-    (λ c. let x = c .before .before .before .before .before in omega (arith, x .loop-test .taken))
-    loop-again
-    (λ c. c .before .loop .inv .0 .size)
-    returns-4)
+read-numbers-spec = tie.close (tie.spec Inv-loop μ-loop (λ c. read-start _ _)
+    (λ c. c .before .loop .inv .within) (λ c. c .before .loop .inv .within) (λ c. search needs) (λ c κs. search needs)
+    (λ c. search needs) (λ c. search needs) (λ c. c .before .before .before .before .before .loop .inv .size) returns
+    (λ c. omega (arith, room (found c .before .before))) (λ c. room (found c .before .before) .0) (λ c. omega (arith, room (found c .before .before))) add-at (λ c. let h = room (found c .before .before) .1 in omega arith) loop-again
+    (λ c. c .before .loop .inv .size) returns-2)
