@@ -6,8 +6,8 @@ use mathlib.Core.Path.{_≡_, refl, sym, ap, ap₂, subst, _∙_}
 use mathlib.Core.Logic.{_↔_}
 use mathlib.Core.Bool.{Bool, true, false, cond}
 use mathlib.Core.List.{List, [], _∷_, _++_, append-assoc, append-nil}
-use lib.ListN.{length, getD, take, drop, set, length-append, length-take, length-drop, take-append-drop, drop-of-length-le, length-set, List·getD-eq-default}
-use lib.Seq.{length-take-le, take-all, take-at, drop-at, drop-cons, getD-at, getD-take, take-take, take-add, take-suc, take-suc-set, drop-set-lt, drop-drop}
+use lib.ListN.{length, getD, take, drop, set, length-drop, take-append-drop, length-set, List·getD-eq-default}
+use lib.Seq.{length-take-le, take-all, take-at, drop-at, getD-at, getD-take, take-take, take-add, take-suc, take-suc-set, drop-set-lt, drop-drop}
 use lib.Dec.{eqb, ltb}
 use borrow.Author.Tests.{eqb-true, eq-eqb, ne-eqb, ltb-true, ltb-false}
 use Rattle.columns.specs.Columns.{column}

@@ -1,7 +1,7 @@
 // Numbers on lines of 12 bytes each (document 02, Cards 6 and 7): printed, and read back.
 ghost use mathlib.Core.Path.{_≡_};
 ghost use mathlib.Core.List.{_++_};
-ghost use Prim.Native.Nat.{ℕ, _*_, _≤_};
+ghost use Prim.Native.Nat.{_*_, _≤_};
 ghost use lib.ListN.{length, drop};
 ghost use Rattle.number_lines.specs.Lines.{numberLine, numberLines, lineRead, NumbersRead};
 use columns::Column;
@@ -58,10 +58,7 @@ pub fn read_numbers(bytes: &[u8], list: &mut [u64]) -> Read
     let mut at = 0;
     while count < list.len() {
         let Column::Value(v) = read_number(&bytes[at..]) else {
-            return Read {
-                whole: at == bytes.len(),
-                count,
-            };
+            break;
         };
         list[count] = v;
         count += 1;

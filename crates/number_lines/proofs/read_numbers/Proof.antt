@@ -2,6 +2,7 @@
 use Prim.Native.Nat.{_+_, _-_, _*_, _≤_, _<_}
 use native.Mathlib.Omega.{arith}
 use mathlib.Core.Path.{_≡_, sym, ap, _∙_}
+use mathlib.Core.Logic.{⊎-elim}
 use lib.ListN.{length, drop, length-drop}
 use lib.Seq.{take-all}
 use Rattle.number_lines.specs.Lines.{lineRead}
@@ -33,11 +34,6 @@ room x =
     let h : l .count < length (s .args .list .now) = omega (arith, x .loop-test .taken, l .inv .size) in
     (x .loop-test .taken, h, omega (arith, h, s .good .1 .0 .0))
 
-returns : tie.Need-returns Inv-loop μ-loop
-returns c =
-    let x = c .before .before in
-    read-bad (x .before .before .before .loop .inv) (sym (here x) ∙ c .enum-told .given .1)
-
 abbrev found : (c : tie.After-known-told Inv-loop μ-loop) → tie.After-read-number Inv-loop μ-loop
 found c = c .before .before .before
 
@@ -51,12 +47,19 @@ add-at c =
 loop-again : tie.Need-loop-again Inv-loop μ-loop
 loop-again c = let x = found c in read-more (x .before .before .before .loop .inv) _ (room (x .before .before) .1) (sym (here x) ∙ c .before .v .given .1)
 
-returns-2 : tie.Need-returns-2 Inv-loop μ-loop
-returns-2 c = let l = c .before .loop in read-full (l .inv) (omega (arith, c .loop-test .left, l .inv .size))
+returns : tie.Need-returns Inv-loop μ-loop
+returns c =
+    let l = c .before .loop in
+    ⊎-elim (λ t. read-full (l .inv) (omega (arith, t .left, l .inv .size)))
+    (λ t. read-bad (l .inv) (sym (here (record {
+      before = record { before = record { before = c .before; loop-test = t .0 }; read-number-arg = t .1 };
+      read-number = t .2;
+    })) ∙ t .4 .given .1))
+    (c .loop-test .came)
 
 pub read-numbers-spec : {M : Type 1} → statement M
 read-numbers-spec = tie.close (tie.spec Inv-loop μ-loop (λ c. read-start _ _)
     (λ c. c .before .loop .inv .within) (λ c. c .before .loop .inv .within) (λ c. search needs) (λ c κs. search needs)
-    (λ c. search needs) (λ c. search needs) (λ c. c .before .before .before .before .before .loop .inv .size) returns
+    (λ c. search needs) (λ c. search needs)
     (λ c. omega (arith, room (found c .before .before))) (λ c. room (found c .before .before) .0) (λ c. omega (arith, room (found c .before .before))) add-at (λ c. let h = room (found c .before .before) .1 in omega arith) loop-again
-    (λ c. c .before .loop .inv .size) returns-2)
+    (λ c. c .before .loop .inv .size) returns)
