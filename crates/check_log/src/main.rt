@@ -22,7 +22,7 @@ fn print_refusal(refusal: Refusal) {
 // Checks a log whose schedule is whole. If the numbers are not whole lines, or too many, the log is not right, whatever was read of them.
 fn check_log(file: &[u8], numbers: &[u8], report: &[u8]) {
     let mut list = [0u64; 4096];
-    let read = numbering::read_numbers(numbers, &mut list);
+    let read = number_lines::read_numbers(numbers, &mut list);
     let count = read.count;
     let verdict = logs::check(file, &list[..count], report);
     let refusal = verdict.refusal;

@@ -14,7 +14,7 @@ fn number_file(file: &[u8], complaint: &[u8]) {
     }
     let count = r.written;
     let mut out = [0u8; 49152];
-    let k = numbering::print_numbers(&list[..count], &mut out);
+    let k = number_lines::print_numbers(&list[..count], &mut out);
     streams::write_output(&out[..k], complaint);
 }
 

@@ -1,19 +1,23 @@
 -- After i turns the lines of i numbers are written, and the rest of the buffer is the old one.
-use Prim.Native.Nat.{_+_, _-_, _*_, _≤_}
+use Prim.Native.Nat.{ℕ, _+_, _-_, _*_, _≤_}
 use native.Mathlib.Omega.{arith}
 use mathlib.Core.Path.{_≡_, refl, ap, _∙_}
+use mathlib.Core.List.{List, _++_}
 use borrow.Rule.Slice.PartMut.{same-len-mid}
-use lib.ListN.{length, take, length-take, length-drop}
+use lib.ListN.{length, take, drop, length-take, length-drop}
 use lib.Seq.{take-all}
-use Rattle.transition.specs.Forms.{over}
-use Rattle.numbering.specs.Contracts.{numberLines}
-use Rattle.numbering.proofs.Printing.{numbers-more}
+use Rattle.number_lines.specs.Lines.{numberLines}
+use Rattle.number_lines.proofs.Printing.{numbers-more}
 use borrow.Author.Needs.{needs}
-use Rattle.numbering.proofs.print_numbers.Statement.{statement}
-use Rattle.numbering.proofs.print_numbers.Tie as tie
+use Rattle.number_lines.proofs.print_numbers.Statement.{statement}
+use Rattle.number_lines.proofs.print_numbers.Tie as tie
+
+-- the lines of ns at the front of what was lent
+abbrev printed : List ℕ → List ℕ → List ℕ
+printed ns lent = numberLines ns ++ drop (length (numberLines ns)) lent
 
 abbrev Inv-loop : tie.InvT-loop
-Inv-loop list out₀ i₀ out i = (i ≤ length list) × (length out ≡ length out₀) × (out ≡ over (numberLines (take i list)) out₀)
+Inv-loop list out₀ i₀ out i = (i ≤ length list) × (length out ≡ length out₀) × (out ≡ printed (take i list) out₀)
 
 abbrev μ-loop : tie.MeasureT-loop
 μ-loop list out₀ i₀ out i = length list - i
@@ -36,7 +40,7 @@ loop-again c =
     let h = c .before .before .before .before .before .loop-test .taken in (
       omega (arith, h),
       same-len-mid (l .i * 12) (l .i * 12 + 12 - l .i * 12) (l .out) (wrote .last .0) (wrote .kept .0) ∙ l .inv .1,
-      numbers-more _ _ (l .i) (l .i * 12 + 12 - l .i * 12) h (s .pre) (omega arith) (l .inv .2) (wrote .ensures),
+      numbers-more _ _ (l .i) (l .i * 12 + 12 - l .i * 12) h (omega arith) (l .inv .2) (wrote .ensures),
     )
 
 returns : tie.Need-returns Inv-loop μ-loop
@@ -45,7 +49,7 @@ returns c =
     let s = c .before .before .before .before in
     let e : l .i ≡ length (s .args .list .now) = omega (arith, l .inv .0, c .loop-test .left) in
     let list = s .args .list .now in
-    (ap (λ k. k * 12) e, l .inv .2 ∙ ap (λ ns. over (numberLines ns) (s .args .out .now)) (ap (λ k. take k list) e ∙ take-all (length list) list (omega arith)))
+    (ap (λ k. k * 12) e, l .inv .2 ∙ ap (λ ns. printed ns (s .args .out .now)) (ap (λ k. take k list) e ∙ take-all (length list) list (omega arith)))
 
 -- the line of the next number lies within the buffer
 room : (x : tie.In-loop Inv-loop μ-loop) → let i = x .before .loop .i in

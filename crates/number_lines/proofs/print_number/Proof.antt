@@ -1,9 +1,9 @@
-use Rattle.numbering.proofs.Printing.{length-number, number-written}
+use Rattle.number_lines.proofs.Printing.{length-number, number-written}
 use mathlib.Core.Path.{sym, ap, _∙_}
 use lib.ListN.{length}
 use borrow.Author.Needs.{needs}
-use Rattle.numbering.proofs.print_number.Statement.{statement}
-use Rattle.numbering.proofs.print_number.Tie as tie
+use Rattle.number_lines.proofs.print_number.Statement.{statement}
+use Rattle.number_lines.proofs.print_number.Tie as tie
 
 returns : tie.Need-returns
 returns c =

@@ -1,17 +1,15 @@
 -- Numbers on lines of 12 bytes each: one line, and one line more behind others.
-use Prim.Native.Nat.{ℕ, _+_, _*_, _≤_, _<_}
+use Prim.Native.Nat.{ℕ, _+_, _*_, _<_}
 use native.Mathlib.Numerals.{add-one}
 use native.Mathlib.Omega.{arith}
 use mathlib.Core.Path.{_≡_, refl, sym, ap, _∙_}
 use mathlib.Core.List.{List, [], _∷_, _++_, append-assoc, append-nil}
-use lib.ListN.{length, getD, take, drop, set, length-append, length-take, length-drop, drop-of-length-le}
-use lib.Seq.{length-take-le, take-suc, drop-cons, set-at}
+use lib.ListN.{length, getD, take, drop, set, length-append, length-take, drop-of-length-le}
+use lib.Seq.{length-take-le, take-suc, drop-cons, drop-drop, take-at, drop-at, set-at}
 use borrow.Rule.Slice.PartMut.{midOf, putMid}
 use Rattle.columns.specs.Columns.{column}
 use Rattle.columns.proofs.ColumnLaws.{length-column}
-use Rattle.transition.specs.Forms.{over}
-use Rattle.schedule.proofs.Runs.{put-over, length-over}
-use Rattle.numbering.specs.Contracts.{numberLine, numberLines}
+use Rattle.number_lines.specs.Lines.{numberLine, numberLines}
 
 pub length-number : (v : ℕ) → length (numberLine v) ≡ 12
 unfolding numberLine
@@ -38,22 +36,23 @@ unfolding numberLines
 numbers-append [] m = refl
 numbers-append (v ∷ l) m = ap (λ t. numberLine v ++ t) (numbers-append l m) ∙ sym (append-assoc (numberLine v) (numberLines l) (numberLines m))
 
+-- x goes behind the bytes at the front of a buffer
+put-behind : (bytes x out : List ℕ) → putMid (length bytes) (length x) (bytes ++ drop (length bytes) out) x ≡ (bytes ++ x) ++ drop (length (bytes ++ x)) out
+put-behind bytes x out =
+    let rest = drop (length bytes) out in
+    rw (take-at bytes rest (length bytes) refl, drop-at bytes rest (length bytes) refl, drop-drop (length x) (length bytes) out, length-append bytes x)
+    (sym (append-assoc bytes x (drop (length bytes + length x) out)))
+
 -- the line of the next number goes behind those of the first i
-pub numbers-more : (ns out₀ : List ℕ) (i k : ℕ) {out x : List ℕ} → i < length ns → length ns * 12 ≤ length out₀ → k ≡ 12
-    → out ≡ over (numberLines (take i ns)) out₀ → x ≡ numberLine (getD ns i 0)
-    → putMid (i * 12) k out x ≡ over (numberLines (take (i + 1) ns)) out₀
+pub numbers-more : (ns out₀ : List ℕ) (i k : ℕ) {out x : List ℕ} → i < length ns → k ≡ 12
+    → out ≡ numberLines (take i ns) ++ drop (length (numberLines (take i ns))) out₀ → x ≡ numberLine (getD ns i 0)
+    → putMid (i * 12) k out x ≡ numberLines (take (i + 1) ns) ++ drop (length (numberLines (take (i + 1) ns))) out₀
 unfolding numberLines
-numbers-more ns out₀ i k {out} {x} h room e p q =
+numbers-more ns out₀ i k {out} {x} h e p q =
     let before = numberLines (take i ns) in
     let line = numberLine (getD ns i 0) in
     let long : length before ≡ i * 12 = length-numbers (take i ns) ∙ ap (λ j. j * 12) (length-take-le i ns (omega arith)) in
-    let mid = midOf (length before) 12 (over before out₀) in
-    let space : length before + 12 ≤ length out₀ = omega arith in
-    let wide : length mid ≡ 12 = length-take-le 12 (drop (length before) (over before out₀))
-    (rw length-drop (omega (arith, length-over before out₀ (omega arith)))) in
-    let none : drop (length line) mid ≡ [] = drop-of-length-le mid {i = length line} (omega (arith, wide, length-number (getD ns i 0))) in
-    let full : line ≡ over line mid = sym (ap (λ t. line ++ t) none ∙ append-nil line) in
     let more : numberLines (take (i + 1) ns) ≡ before ++ line = ap numberLines (ap (λ j. take j ns) (add-one i) ∙ take-suc ns i 0 h)
     ∙ numbers-append (take i ns) (getD ns i 0 ∷ []) ∙ ap (λ t. before ++ t) (append-nil line) in
-    (λ j. putMid (sym long j) (e j) (p j) ((q ∙ full) j)) ∙ put-over before line out₀ 12 (omega (arith, length-number (getD ns i 0))) space
-    ∙ ap (λ t. over t out₀) (sym more)
+    (λ j. putMid (sym long j) ((e ∙ sym (length-number (getD ns i 0))) j) (p j) (q j)) ∙ put-behind before line out₀
+    ∙ ap (λ t. t ++ drop (length t) out₀) (sym more)
