@@ -20,7 +20,7 @@
 //     u place 0 out              changes whether the station is out of service: 1 if it is, 0 if not
 //     c place other              changes the record to the one at another place
 //     o, a line                  opens a session with this header, and shows the number of its refusal
-//     v room, a line             serves the line, and lends so many bytes, each a dot
+//     v bytes, a line            serves the line, and shows so many bytes of its buffer, which were dots
 //     t                          puts the table into the session
 //     x lines                    makes it so many lines that the session has counted, the header among them
 mod commands;

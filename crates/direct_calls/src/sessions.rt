@@ -24,19 +24,14 @@ fn opened(header: &[u8]) -> Session {
     s
 }
 
-// Serves a line, and shows its buffer and its reply.
-fn shown(s: Session, line: &[u8], report: &mut [u8]) -> Session {
-    let o = session::serve(s, line, report);
+// Serves a line, and shows the first bytes of its buffer, so many as the command asks for, and its reply.
+fn served(s: Session, line: &[u8], bytes: u64) -> Session {
+    let mut buffer = [b'.'; 928];
+    let o = session::serve(s, line, &mut buffer);
     let r = o.reply;
-    crate::show(report, r);
+    let n = (bytes % 929) as usize;
+    crate::show(&buffer[..n], r);
     o.session
-}
-
-// Lends a buffer for a line. A command has room for 929 bytes at most.
-fn served(s: Session, line: &[u8], room: u64) -> Session {
-    let mut buffer = [b'.'; 929];
-    let n = (room % 930) as usize;
-    shown(s, line, &mut buffer[..n])
 }
 
 // The session with this table, and so many lines counted.
