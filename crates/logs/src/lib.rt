@@ -88,8 +88,9 @@ fn check_line(
             shown,
         };
     }
-    let place = t.place;
-    let k = engine::write_result(&results[place], t.entries, request.line, lines);
+    let handed = t.handed;
+    let place = handed.place;
+    let k = engine::write_result(&results[place], handed.entries, request.line, lines);
     if !comes_next(report, shown, &lines[..k]) {
         return Checked {
             right: false,
