@@ -47,8 +47,8 @@ bytes-end l m i same h = ap (λ b. same && b) (front-end l m i h) ∙ and-true s
 
 -- A CALL
 
-module _ {t t′ : Table} {c : Call} {log : Lists.List ℕ} {used : ℕ} {r : Turn} (g : Turns t c log used t′ r) (report : Lists.List ℕ) (shown : ℕ)
-    (low : shown ≤ length report) where
+module _ {t t′ : Table} {order order′ : Lists.List ℕ} {c : Call} {log : Lists.List ℕ} {used : ℕ} {r : Turn} (g : Turns t order c log used t′ order′ r)
+    (report : Lists.List ℕ) (shown : ℕ) (low : shown ≤ length report) where
   -- a wrong one
   wrong : {u v : ℕ} → false ≡ (r .fits && atFront (writes t c (drop used log)) (drop shown report))
       → ChecksCall t c log used report shown t′ (record { right = false; used = u; shown = v })
@@ -64,17 +64,17 @@ module _ {t t′ : Table} {c : Call} {log : Lists.List ℕ} {used : ℕ} {r : Tu
   line-unfit e = wrong (ap (λ b. b && atFront (writes t c (drop used log)) (drop shown report)) (sym e))
 
   -- it fits, and what is written is k bytes at the front of a buffer
-  module _ (e : r .fits ≡ true) (k : ℕ) (buffer buffer′ : Lists.List ℕ) (w : k ≡ r .entries * 29)
-      (o : buffer′ ≡ over (reportLines (c .line) 1 (entriesIn (r .entries) (getD (t′ .results) (r .place) []))) buffer) where
+  module _ (e : r .fits ≡ true) (k : ℕ) (buffer buffer′ : Lists.List ℕ) (w : k ≡ r .handed .entries * 29)
+      (o : buffer′ ≡ over (reportLines (c .line) 1 (entriesIn (r .handed .entries) (getD (t′ .results) (r .handed .place) []))) buffer) where
     told : take k buffer′ ≡ writes t c (drop used log)
     told =
-        let rows = getD (t′ .results) (r .place) [] in
-        let l = reportLines (c .line) 1 (entriesIn (r .entries) rows) in
-        ap (take k) o ∙ take-at l (drop (length l) buffer) k (result-length (c .line) (r .entries) rows ∙ sym w) ∙ sym (g .served e .report)
+        let rows = getD (t′ .results) (r .handed .place) [] in
+        let l = reportLines (c .line) 1 (entriesIn (r .handed .entries) rows) in
+        ap (take k) o ∙ take-at l (drop (length l) buffer) k (result-length (c .line) (r .handed .entries) rows ∙ sym w) ∙ sym (g .served e .report)
 
     long : length (writes t c (drop used log)) ≡ k
-    long = let rows = getD (t′ .results) (r .place) [] in
-        ap length (g .served e .report) ∙ result-length (c .line) (r .entries) rows ∙ sym w
+    long = let rows = getD (t′ .results) (r .handed .place) [] in
+        ap length (g .served e .report) ∙ result-length (c .line) (r .handed .entries) rows ∙ sym w
 
     pub line-differs : {u v : ℕ} → atFront (take k buffer′) (drop shown report) ≡ false
         → ChecksCall t c log used report shown t′ (record { right = false; used = u; shown = v })
@@ -98,7 +98,7 @@ module _ {t t′ : Table} {c : Call} {log : Lists.List ℕ} {used : ℕ} {r : Tu
       line-right = record {
         passes = sym (ap₂ _&&_ (sym (g .fits) ∙ e) front);
         state = λ _. g .served e .state;
-        numbers = λ _. (g .served e .counted, g .served e .inside);
+        numbers = λ _. (g .served e .counted, g .served e .enough);
         bytes = λ _. (ap (λ i. shown + i) (sym long), line-ends);
       }
 

@@ -88,8 +88,8 @@ fn check_line(
             shown,
         };
     }
-    let place = t.place;
-    let k = engine::write_result(&results[place], t.entries, request.line, lines);
+    let place = t.handed.place;
+    let k = engine::write_result(&results[place], t.handed.entries, request.line, lines);
     if !comes_next(report, shown, &lines[..k]) {
         return Checked {
             right: false,

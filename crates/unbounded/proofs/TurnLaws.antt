@@ -24,9 +24,10 @@ use Rattle.transition.specs.Logs.{fitsNext}
 use Rattle.transition.proofs.Written.{WritableRest, rest-step}
 use Rattle.transition.proofs.Reached.{scan-sound, rest-fresh}
 use Rattle.moves.specs.Moves.{moveOf, callOf}
-use Rattle.moves.proofs.MoveLaws.{by-move}
+use Rattle.moves.proofs.MoveLaws.{by-move, step-any}
 use Rattle.moves.specs.declared.Move.{Move}
 use Rattle.moves.specs.declared.Move.the-variants.{SnapLabel, Update}
+use Rattle.moves.specs.declared.Refusal.the-variants.{Accepted}
 use Rattle.arrays.specs.Arrays.{Rows, Planes, cell, entriesIn, Holds}
 use Rattle.arrays.specs.Planes.{beside}
 use Rattle.arrays.proofs.Results.{entries-listed}
@@ -37,11 +38,10 @@ use Rattle.engine.proofs.Served.{place-inside, judged-few, rest-ready, rest-jud
 use Rattle.engine.specs.declared.Handed.{Handed}
 use Rattle.moves.specs.declared.Request.{Request}
 use Rattle.engine.specs.declared.Task.{Task}
-use Rattle.unbounded.specs.Numbers.{orderBy, NumberedBefore, Renumbers}
+use Rattle.unbounded.specs.Numbers.{orderBy, NumberedBefore, steppedBy}
 use Rattle.unbounded.specs.Tables.{Table, table, restOf, stateOf, Runnable, GivenTo, Turns}
 use Rattle.unbounded.specs.declared.Given.{Given}
-use Rattle.unbounded.specs.declared.Turn.{Turn}
-use Rattle.unbounded.proofs.NumberLaws.{order-first, order-newest, order-stays, order-before}
+use Rattle.unbounded.proofs.NumberLaws.{newest-step, order-first, order-newest, order-stays, order-before}
 
 -- WHAT A MOVE IS GIVEN
 
@@ -183,12 +183,21 @@ module _ {t : Table} {order : Lists.List ℕ} (f : Runnable t order) where
           ∙ ap (λ w. fitsNext n (beside (t .numbers)) (labelStep w) (drop used log)) judged
 
       -- its number does not fit
-      pub turn-unfit : v .fits ≡ false → {r : Turn} → r .fits ≡ false → Turns t c log used t r
-      turn-unfit e d = record { fits = d ∙ sym e ∙ turn-fits; served = λ y. absurd (tf y d); kept = λ _. refl }
+      pub turn-unfit : v .fits ≡ false → Turns t order c log used t order
+          (record { fits = false; used = used; handed = record { refusal = Accepted; place = x .place; entries = 0 } })
+      turn-unfit e = record {
+        fits = sym e ∙ turn-fits;
+        served = λ y. absurd (tf y refl);
+        kept = λ _. record {
+          table = refl;
+          listed = refl;
+          turn = ap (λ i. record { fits = false; used = used; handed = record { refusal = Accepted; place = i; entries = 0 } }) (j .place);
+        };
+      }
 
       -- its number fits: the rest is carried out, and the numbers are
       module _ (e : v .fits ≡ true) {j′ c′ : Rows} {r′ : Planes} {h : Handed} (k : CarriesRest (restAfter n (t .jobs) (t .control) (t .results) x order) x j′ c′ r′ h)
-          {numbers′ : Rows} (l : Renumbers (x .action) (x .place) (getD order (n - 1) 0) (v .number) (t .numbers) numbers′) where
+          (numbers′ : Rows) (l : beside numbers′ ≡ steppedBy (getD order (n - 1) 0) (v .number) (beside (t .numbers)) (labelStep (moveOf (x .place) 0 (x .action)))) where
         abbrev left : Table
         left = table n numbers′ j′ c′ r′
 
@@ -196,7 +205,8 @@ module _ {t : Table} {order : Lists.List ℕ} (f : Runnable t order) where
         next = getD (drop used log) 0 0
 
         renumbered : beside numbers′ ≡ relabelled n (numbered (v .number)) (beside (t .numbers)) (labelStep (actionOf x))
-        renumbered = l .each n (x .job) turn-newest
+        renumbered = l ∙ ap (steppedBy (getD order (n - 1) 0) (v .number) (beside (t .numbers))) (step-any (x .place) (x .job) (x .action))
+            ∙ newest-step n (getD order (n - 1) 0) (v .number) (beside (t .numbers)) (labelStep (actionOf x)) turn-newest
 
         pub turn-before : NumberedBefore n (getD numbers′ 0 []) (x .place) order
         turn-before = order-before n (v .number) (x .place) (x .job) (x .action) (t .numbers) numbers′ renumbered (f .isOrder)
@@ -224,26 +234,23 @@ module _ {t : Table} {order : Lists.List ℕ} (f : Runnable t order) where
         labels-left = renumbered ∙ number-unused n (v .number) next (beside (t .numbers)) (x .place) (x .job) (x .action) (g .next e)
             ∙ ap (λ w. relabelled n (numbered next) (beside (t .numbers)) (labelStep w)) judged
 
-        pub turn-served : {r : Turn} → r .fits ≡ true → r .used ≡ used + v .taken → r .place ≡ h .place → r .entries ≡ h .entries → Turns t c log used left r
+        pub turn-served : {order′ : Lists.List ℕ} → Turns t order c log used left order′ (record { fits = true; used = used + v .taken; handed = h })
         unfolding step snapsOf
-        turn-served {r} a b d u = record {
-          fits = a ∙ sym e ∙ turn-fits;
+        turn-served = record {
+          fits = sym e ∙ turn-fits;
           served = λ _. record {
             state = λ y. record { labels = labels-left y; rest = rest-left y };
-            counted = b ∙ ap (λ y. used + y) (g .counted e (x .job) ∙ ap (λ w. labelSnap (labelStep w)) judged);
-            inside = omega (arith, b, g .inside);
-            place = omega (arith, d, k .place, turn-place, f .high);
-            few = omega (
-              arith,
-              u,
-              k .entries,
-              judged-few n (f .low) (t .jobs) (t .control) (t .results) known q (Buffer 928) _ x j (f .high),
-            );
-            named = subst (λ y. Named y (getD r′ (r .place) [])) (sym u) (subst (λ y. Named (h .entries) (getD r′ y [])) (sym (d ∙ k .place)) (k .named));
+            counted = ap (λ y. used + y) (g .counted e (x .job) ∙ ap (λ w. labelSnap (labelStep w)) judged);
+            enough = g .inside;
+            number = k .number ∙ ap (λ (y : Outcome). y .refusal) outcome;
+            place = k .place ∙ j .place;
+            inside = omega (arith, k .place, turn-place, f .high);
+            few = omega (arith, k .entries, judged-few n (f .low) (t .jobs) (t .control) (t .results) known q (Buffer 928) _ x j (f .high));
+            named = subst (λ y. Named (h .entries) (getD r′ y [])) (sym (k .place)) (k .named);
             report = ap (reportLines (c .line) 1) (sym (ap (λ (y : Outcome). y .handed) outcome) ∙ k .handed
-                ∙ ap₂ (λ y z. entriesIn y (getD r′ z [])) (sym u) (sym (d ∙ k .place)));
+                ∙ ap (λ z. entriesIn (h .entries) (getD r′ z [])) (sym (k .place)));
           };
-          kept = λ y. absurd (tf a y);
+          kept = λ y. absurd (tf refl y);
         }
 
         pub turn-runnable : {order′ : Lists.List ℕ} → order′ ≡ orderBy n (getD numbers′ 0 []) → Runnable left order′

@@ -10,9 +10,10 @@ use Rattle.simulation.specs.Calls.{Call, Entry, Rest, judge, bytesOf, reportLin
 use Rattle.simulation.specs.Machine.{original, Labelling, stands, labelStep, labelSnap, freshRest, State, Answer, step, snapsOf}
 use Rattle.simulation.specs.Numbered.{numbered}
 use Rattle.transition.specs.Logs.{fitsNext}
-use Rattle.moves.specs.Moves.{moveOf}
+use Rattle.moves.specs.Moves.{refusalNumber, moveOf, placeOf}
 use Rattle.moves.specs.declared.Move.{Move}
 use Rattle.moves.specs.declared.Move.the-variants.{SnapLabel}
+use Rattle.moves.specs.declared.Refusal.the-variants.{Accepted}
 use Rattle.arrays.specs.Arrays.{Rows, Planes, entriesIn, restIn, Holds}
 use Rattle.arrays.specs.Planes.{beside}
 use Rattle.engine.specs.Contracts.{Named}
@@ -60,19 +61,28 @@ pub record GivenTo (m : Move) (k z : ℕ) (current log : Lists.List ℕ) (used :
 abbrev pub answered : Table → Call → Lists.List ℕ → Answer ℕ
 answered t c ns = step original (t .count) (numbered (getD ns 0 0)) (stateOf t) c
 
--- a call with room for a whole scan result, where the first `used` of the numbers are used up: whether the next number fits. If it does, the table left
--- holds the state that the machine comes to, and the numbers used up and the entries handed out are told; if not, nothing has changed.
+-- A CALL with room for a whole scan result, where the first `used` of the numbers are used up. If the next number fits, the table left holds the state that
+-- the machine comes to; the numbers used up, the refusal and the entries that make the report are told.
 pub record Served (t : Table) (c : Call) (given : Lists.List ℕ) (used : ℕ) (t′ : Table) (r : Turn) : Type 0 where
   pub state : stateOf t′ ≡ answered t c (drop used given) .state
   pub counted : r .used ≡ used + snapsOf original (t .count) (stateOf t) c
-  pub inside : r .used ≤ length given
-  pub place : r .place < 32
-  pub few : r .entries ≤ 32
-  pub named : Named (r .entries) (getD (t′ .results) (r .place) [])
+  pub enough : r .used ≤ length given
+  pub number : refusalNumber (r .handed .refusal) ≡ answered t c (drop used given) .refusal
+  pub place : r .handed .place ≡ placeOf (t .count) (c .station)
+  pub inside : r .handed .place < 32
+  pub few : r .handed .entries ≤ 32
+  pub named : Named (r .handed .entries) (getD (t′ .results) (r .handed .place) [])
   pub report : bytesOf (answered t c (drop used given) .report)
-      ≡ reportLines (c .line) 1 (entriesIn (r .entries) (getD (t′ .results) (r .place) []))
+      ≡ reportLines (c .line) 1 (entriesIn (r .handed .entries) (getD (t′ .results) (r .handed .place) []))
 
-pub record Turns (t : Table) (c : Call) (given : Lists.List ℕ) (used : ℕ) (t′ : Table) (r : Turn) : Type 0 where
+-- if not, nothing changes: no number is used up, and nothing is handed out. The call would be accepted, as it asks for a number.
+pub record Kept (t : Table) (order : Lists.List ℕ) (c : Call) (used : ℕ) (t′ : Table) (order′ : Lists.List ℕ) (r : Turn) : Type 0 where
+  pub table : t′ ≡ t
+  pub listed : order′ ≡ order
+  pub turn : r ≡ record { fits = false; used = used; handed = record { refusal = Accepted; place = placeOf (t .count) (c .station); entries = 0 } }
+
+pub record Turns (t : Table) (order : Lists.List ℕ) (c : Call) (given : Lists.List ℕ) (used : ℕ) (t′ : Table) (order′ : Lists.List ℕ) (r : Turn)
+    : Type 0 where
   pub fits : r .fits ≡ fitsNext (t .count) (beside (t .numbers)) (labelStep (judge false (t .count) (restOf t) c)) (drop used given)
   pub served : r .fits ≡ true → Served t c given used t′ r
-  pub kept : r .fits ≡ false → t′ ≡ t
+  pub kept : r .fits ≡ false → Kept t order c used t′ order′ r

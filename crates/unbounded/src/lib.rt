@@ -15,7 +15,9 @@ use arrays::CURRENT;
 use arrays::Control;
 use arrays::Jobs;
 use arrays::Results;
+use engine::Handed;
 use moves::Move;
+use moves::Refusal;
 use moves::Request;
 use moves::Room;
 
@@ -92,13 +94,11 @@ fn refresh_order(m: Move, place: usize, current: &[u32; 32], n: usize, order: &m
     }
 }
 
-// What a step call comes to: whether its number fits, how many numbers are used up then, and so many entries of the scan result at a place, which it hands
-// out. A refused call takes no number and hands out nothing.
+// What a step call comes to: whether its number fits, how many numbers are used up then, and what it hands out. A refused call takes no number.
 pub struct Turn {
     pub fits: bool,
     pub used: usize,
-    pub place: usize,
-    pub entries: usize,
+    pub handed: Handed,
 }
 
 // Serves a step call, up to what is written of it, where `used` of the numbers of the log are used up. If the next number does not fit it, nothing changes.
@@ -115,9 +115,9 @@ pub fn take_turn(
 ) -> Turn
     requires { ⌜ Runnable (table n (now numbers) (now jobs) (now control) (now results)) (now order) ⌝ }
     requires { ⌜ used ≤ length (now log) ⌝ }
-    ensures { λ r. ⌜ Turns (table n (now (numbers .entry)) (now (jobs .entry)) (now (control .entry)) (now (results .entry)))
+    ensures { λ r. ⌜ Turns (table n (now (numbers .entry)) (now (jobs .entry)) (now (control .entry)) (now (results .entry))) (now (order .entry))
         (callOf request (Buffer 928)) (now (log .entry)) used
-        (table n (now (numbers .exit)) (now (jobs .exit)) (now (control .exit)) (now (results .exit))) r ⌝ }
+        (table n (now (numbers .exit)) (now (jobs .exit)) (now (control .exit)) (now (results .exit))) (now (order .exit)) r ⌝ }
     ensures { λ _. ⌜ Runnable (table n (now (numbers .exit)) (now (jobs .exit)) (now (control .exit)) (now (results .exit))) (now (order .exit)) ⌝ }
 {
     let z = order[n - 1];
@@ -126,20 +126,23 @@ pub fn take_turn(
     let place = task.place;
     let given = given_to(m, place, z, &numbers[CURRENT], log, used);
     if !given.fits {
-        return Turn {
-            fits: given.fits,
-            used,
+        let handed = Handed {
+            refusal: Refusal::Accepted,
             place,
             entries: 0,
         };
+        return Turn {
+            fits: false,
+            used,
+            handed,
+        };
     }
-    let h = engine::carry_rest(n, task, order, jobs, control, results);
+    let handed = engine::carry_rest(n, task, order, jobs, control, results);
     numbers::renumber(m, place, z, given.number, numbers);
     refresh_order(m, place, &numbers[CURRENT], n, order);
     Turn {
         fits: true,
         used: used + given.taken,
-        place: h.place,
-        entries: h.entries,
+        handed,
     }
 }

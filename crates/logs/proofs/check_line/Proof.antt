@@ -24,8 +24,8 @@ written w = w .before .before .before
 fits : (i : tie.Else1) → turned i .take-turn .result .fits ≡ true
 fits i = was-true refl (i .if1 .left)
 
-low : (i : tie.Else1) → turned i .take-turn .result .place ≤ 31
-low i = omega (arith, turned i .take-turn .ensures .0 .served (fits i) .place)
+low : (i : tie.Else1) → turned i .take-turn .result .handed .place ≤ 31
+low i = omega (arith, turned i .take-turn .ensures .0 .served (fits i) .inside)
 
 -- what is written has room in the buffer that is left
 stand : (w : tie.After-lines) → let r = w .before .write-result in r .result ≤ length (r .last .1 .1 .1 .0)
