@@ -5,3 +5,4 @@ pub mod Demand
 pub mod Before
 pub mod Numbers
 pub mod Logs
+pub mod Samples
