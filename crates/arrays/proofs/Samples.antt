@@ -21,8 +21,8 @@ use Rattle.transition.specs.Questions.{topHolders, Tells}
 use Rattle.transition.specs.Logs.{fitsNext, atFront, right}
 use Rattle.transition.specs.Samples.{Sample, digitsBelow, labelsBelow, reaches, scanShows, topHeld, numbersDo, numbersFound, logRight, logWrong, answers, replies}
 use Rattle.transition.specs.Samples.{callWith, call, takesJob, labelled, shown, order, shownBy, Holds, one, two, three, nine, together, stalled, absent}
-use Rattle.transition.specs.Samples.{overtaken, scanned, ended, codes, codesWith, ascii, twoOfThree, samples, serviceSamples, topSamples, numberSamples}
-use Rattle.transition.specs.Samples.{logSamples, refusalSamples, reportSamples, SamplesHold}
+use Rattle.transition.specs.Samples.{overtaken, scanned, ended, codes, codesWith, ascii, twoOfThree, samples, habitSamples, serviceSamples, topSamples}
+use Rattle.transition.specs.Samples.{numberSamples, logSamples, refusalSamples, reportSamples, SamplesHold}
 use Rattle.simulation.proofs.Follow as Follow
 use Rattle.simulation.proofs.Simulation.{numbering}
 use Rattle.transition.proofs.Reached.{Reached, reached-fresh}
@@ -83,6 +83,10 @@ unfolding shown order carried one two three together stalled callWith
 scope =
     refl and refl and (refl, refl, refl) and (refl, refl, refl) and (refl, refl, refl) and (refl, refl, refl) and (refl, refl, refl)
     and (refl, refl, refl) and (refl, refl, refl) and (refl, refl, refl) and (refl, refl, refl) and (refl, refl, refl) and tt
+
+habits : All Computed habitSamples
+unfolding shown order carried one two three callWith
+habits = (refl, refl, refl) and tt
 
 service : All Computed serviceSamples
 unfolding shown order shownBy carried one two three absent lastOf callWith
@@ -177,8 +181,8 @@ module _ (F : Form) (L : Lawful F) where
 
   pub samples-hold : SamplesHold F
   samples-hold =
-      each samples scope and each serviceSamples service and each topSamples shared and each numberSamples numbered and each logSamples logs
-      and each refusalSamples refusals and each reportSamples reports and tt
+      each samples scope and each habitSamples habits and each serviceSamples service and each topSamples shared and each numberSamples numbered
+      and each logSamples logs and each refusalSamples refusals and each reportSamples reports and tt
     where
       each : (l : Lists.List Sample) → All Computed l → All (Holds F) l
       each = all-weaken {P = Computed} {Q = Holds F} told

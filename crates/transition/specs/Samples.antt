@@ -117,6 +117,11 @@ samples =
     ∷ reaches 3 (stalled ++ two (call 2 4) (call 2 5) ++ labelled (one 2)) (three (two 2 5) (two 3 1) (two 2 4)) (three 3 1 2)
     ∷ []
 
+-- HABITS THAT MISLEAD (01). Of the labels 2.1, 2.2 and 1.1 station 1 makes 2.3, as its own label does not count. P8 tells that 5 is not the highest digit, P9
+-- that a label is chosen at the snap, P5 that the newest gets no other; and the last two of `reportSamples` that a scan shows what its snap finds.
+abbrev pub habitSamples : Lists.List Sample
+habitSamples = reaches 3 (labelled (three 1 2 1)) (three (two 2 3) (two 2 2) (two 1 1)) (three 3 2 1) ∷ []
+
 -- OUT OF SERVICE (02, Card 4). A station takes a label and leaves service, another takes a label, and the first returns: the second has seen its label.
 unfoldable pub absent : Lists.List Call
 absent = labelled (one 1) ++ one (call 1 6) ++ labelled (one 2) ++ one (call 1 7)
@@ -249,4 +254,4 @@ reportSamples =
 -- THEY ALL HOLD of the tables of a form
 abbrev pub SamplesHold : Form → Type 0
 SamplesHold F = All (All (Holds F))
-    (samples ∷ serviceSamples ∷ topSamples ∷ numberSamples ∷ logSamples ∷ refusalSamples ∷ reportSamples ∷ [])
+    (samples ∷ habitSamples ∷ serviceSamples ∷ topSamples ∷ numberSamples ∷ logSamples ∷ refusalSamples ∷ reportSamples ∷ [])
