@@ -2,3 +2,4 @@ pub mod LineLaws
 pub mod ChunkLaws
 pub mod FileLaws
 pub mod Demand
+pub mod Samples
