@@ -1,5 +1,6 @@
 // The commands on the session. Those that open it or serve a line end with a line of a schedule file, its byte 10 too.
 use crate::commands::Command;
+use engine::Reply;
 use session::Session;
 use table::Table;
 ghost use Prim.Native.Nat.{_≤_};
@@ -24,13 +25,18 @@ fn opened(header: &[u8]) -> Session {
     s
 }
 
-// Serves a line, and shows the first bytes of its buffer, so many as the command asks for, and its reply.
+// Shows the first bytes of a buffer, so many as the command asks for, and a reply.
+fn show_front(buffer: [u8; 928], bytes: u64, r: Reply) {
+    let n = (bytes % 929) as usize;
+    crate::show(&buffer[..n], r);
+}
+
+// Serves a line, and shows its buffer and its reply.
 fn served(s: Session, line: &[u8], bytes: u64) -> Session {
     let mut buffer = [b'.'; 928];
     let o = session::serve(s, line, &mut buffer);
     let r = o.reply;
-    let n = (bytes % 929) as usize;
-    crate::show(&buffer[..n], r);
+    show_front(buffer, bytes, r);
     o.session
 }
 
