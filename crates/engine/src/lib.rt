@@ -212,11 +212,11 @@ pub fn carry_rest(
             accepted(place, 0)
         }
         Move::EndLabel => {
-            control[PHASE][place] = IDLE;
+            control[PHASE][place] = IDLE; // pending label and job stay
             accepted(place, 0)
         }
         Move::EndScan => {
-            control[PHASE][place] = IDLE;
+            control[PHASE][place] = IDLE; // the result stays
             accepted(place, task.shown)
         }
         Move::LeaveService => {
