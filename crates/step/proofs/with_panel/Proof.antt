@@ -1,6 +1,6 @@
 use mathlib.Core.Path.{subst}
 use Rattle.simulation.specs.Calls.{Panel}
-use Rattle.engine.specs.Contracts.{callOf}
+use Rattle.moves.specs.Moves.{callOf}
 use Rattle.step.specs.Contracts.{HandsEntries}
 use borrow.Author.Needs.{needs}
 use Rattle.step.proofs.with_panel.Statement.{statement}
