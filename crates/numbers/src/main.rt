@@ -8,7 +8,7 @@ fn number_file(file: &[u8], complaint: &[u8]) {
     let mut list = [0u32; 4096];
     let r = numbering::numbers(file, &mut list);
     let refusal = r.refusal;
-    if refusal.number() != 0 {
+    if refusal.refuses() {
         intake::print_refusal(refusal, complaint);
         return;
     }

@@ -1,5 +1,5 @@
 -- The engine's step on the table taken apart is the step on the table; the entries are those of the calling station's result.
-use mathlib.Core.Path.{sym, _∙_}
+use Rattle.moves.proofs.MoveLaws.{refuses-yes, refuses-no}
 use Rattle.table.proofs.Owned.{whole}
 use Rattle.step.proofs.StepLaws.{hands-refused, hands-accepted}
 use borrow.Author.Needs.{needs}
@@ -13,7 +13,7 @@ returns c =
     let p = s .before .before .before .before .before in
     let b = p .before .before .before .before .before in
     hands-refused _ (whole _ _ (b .good .0)) _ (p .take-apart .ensures) (s .perform .ensures) _ (o .entries-of .ensures)
-    (λ z. c .if1 .taken (c .before .number .ensures ∙ z))
+    (refuses-yes (s .perform .result .refusal) (c .before .refuses .ensures) (c .if1 .taken))
 
 returns-2 : tie.Need-returns-2
 returns-2 c =
@@ -23,7 +23,7 @@ returns-2 c =
     let p = s .before .before .before .before .before in
     let b = p .before .before .before .before .before in
     hands-accepted _ (whole _ _ (b .good .0)) _ (p .take-apart .ensures) (s .perform .ensures) _ (o .entries-of .ensures)
-    (sym (i .before .number .ensures) ∙ i .if1 .left) (c .put-together .ensures)
+    (refuses-no (s .perform .result .refusal) (i .before .refuses .ensures) (i .if1 .left)) (c .put-together .ensures)
 
 pub perform-spec : {M : Type 1} → statement M
 perform-spec = tie.close (tie.spec (λ c κs. search needs) (λ c κs. search needs) (λ c. search needs)
