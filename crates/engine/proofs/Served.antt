@@ -22,7 +22,7 @@ use Rattle.transition.specs.Forms.{Form, TableAnswer, over, onto, answered, ste
 use Rattle.transition.specs.Questions.{topHolders, Tells}
 use Rattle.transition.specs.Sequences.{Steps}
 use Rattle.transition.proofs.Theorem.{step-written, step-ill-formed}
-use Rattle.moves.specs.Moves.{refusalNumber, moveOf, called}
+use Rattle.moves.specs.Moves.{refusalNumber, moveOf, called, directly, callOf}
 use Rattle.moves.proofs.MoveLaws.{by-move, begun-job, place-below}
 use Rattle.arrays.specs.Arrays.{Rows, Planes, Arrays, cell, phaseNumber, phaseFor, outFor, entriesIn, shownIn, restIn, restOf, stateOf, Holds}
 use Rattle.arrays.specs.WellFormed.{wellFormed}
@@ -30,13 +30,13 @@ use Rattle.arrays.specs.Form.{lent}
 use Rattle.arrays.proofs.Passed.{passed, label-digits}
 use Rattle.arrays.proofs.States.{number-back}
 use Rattle.engine.specs.Scans.{orderOf}
-use Rattle.engine.specs.Contracts.{directly, callOf, actionOf, Prepared, PreparedRest, handsOut, due, outcomeOf, Named, Carries, Judges, Hands}
+use Rattle.engine.specs.Contracts.{actionOf, Prepared, PreparedRest, handsOut, due, outcomeOf, Named, Carries, Judges, Hands}
 use Rattle.engine.specs.Contracts.{rowOf, recordOf}
 use Rattle.engine.proofs.Reports.{result-length, records-read}
 use Rattle.moves.specs.declared.Move.{Move}
 use Rattle.moves.specs.declared.Move.the-variants.{BeginLabel, SnapLabel, SnapScan, EndScan}
 use Rattle.moves.specs.declared.Refusal.{Refusal}
-use Rattle.engine.specs.declared.Request.{Request}
+use Rattle.moves.specs.declared.Request.{Request}
 use Rattle.engine.specs.declared.Task.{Task}
 use Rattle.engine.specs.declared.Handed.{Handed}
 

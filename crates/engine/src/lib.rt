@@ -12,14 +12,14 @@ ghost use Rattle.simulation.specs.Machine.{digits, labelStep, relabelled};
 ghost use Rattle.transition.specs.Forms.{over};
 ghost use Rattle.transition.specs.Questions.{Tells};
 ghost use Rattle.transition.specs.Sequences.{Steps};
-ghost use Rattle.moves.specs.Moves.{roomOf, refusalNumber, moveOf};
+ghost use Rattle.moves.specs.Moves.{roomOf, refusalNumber, moveOf, callOf};
 ghost use Rattle.moves.specs.declared.Move.the-variants.{SnapLabel, SnapScan};
 ghost use Rattle.moves.specs.declared.Refusal.the-variants.{Accepted};
 ghost use Rattle.arrays.specs.Arrays.{arrays, entriesIn, shownIn, labelsIn, labelsOf};
 ghost use Rattle.arrays.specs.WellFormed.{wellFormed};
 ghost use Rattle.arrays.specs.Form.{lent};
 ghost use Rattle.engine.specs.Scans.{orderOf, found, scanRows};
-ghost use Rattle.engine.specs.Contracts.{directly, callOf, Prepared, PreparedRest, PreparedLabels, restAfter, CarriesRest};
+ghost use Rattle.engine.specs.Contracts.{Prepared, PreparedRest, PreparedLabels, restAfter, CarriesRest};
 ghost use Rattle.engine.specs.Contracts.{due, Named, Carries, Judges, Hands, rowOf, recordOf};
 use arrays::CURRENT;
 use arrays::Control;
@@ -36,6 +36,7 @@ use arrays::SNAP;
 use arrays::UPDATE;
 use moves::Move;
 use moves::Refusal;
+use moves::Request;
 use moves::Room;
 use moves::Standing;
 
@@ -48,26 +49,6 @@ const SERVICE: usize = 1;
 pub struct Reply {
     pub refusal: Refusal,
     pub written: usize,
-}
-
-// A step call as its caller makes it; report lines bear the number `line`.
-pub struct Request {
-    pub code: u64,
-    pub station: u64,
-    pub job: u64,
-    pub line: u64,
-}
-
-// A direct call: its report lines bear the number 0.
-pub fn direct(code: u64, station: u64, job: u64) -> Request
-    ensures { λ r. ⌜ r ≡ directly code station job ⌝ }
-{
-    Request {
-        code,
-        station,
-        job,
-        line: 0,
-    }
 }
 
 // A call that has been judged: its move, the place of its station, its job, the newest station, and how many entries the end of a scan hands out.

@@ -12,11 +12,10 @@ use Rattle.arrays.specs.Arrays.{Arrays}
 use Rattle.arrays.specs.Form.{lent}
 use Rattle.arrays.specs.Sizes.{Shaped}
 use Rattle.arrays.proofs.States.{written-held}
-use Rattle.moves.specs.Moves.{refusalNumber, called}
+use Rattle.moves.specs.Moves.{refusalNumber, called, directly, callOf}
 use Rattle.moves.specs.declared.Refusal.{Refusal}
-use Rattle.engine.specs.Contracts.{directly, callOf}
 use Rattle.engine.proofs.Served.{steps-directly}
-use Rattle.engine.specs.declared.Request.{Request}
+use Rattle.moves.specs.declared.Request.{Request}
 use Rattle.exports.specs.Contracts.{Starts}
 
 pub started : (n : ℕ) (a : Arrays) {a′ : Arrays} → within 2 32 n ≡ true → a′ ≡ freshTable lent n → Starts n a a′ 0

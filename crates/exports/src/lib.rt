@@ -70,7 +70,7 @@ pub extern "C" fn tickets_step(
         ≡ arrays count (now (labels .entry)) (now (jobs .entry)) (now (control .entry)) (now (results .entry))) ⌝ }
 {
     arrays::shaped(*labels, *jobs, *control, *results);
-    let request = engine::direct(code, station, job);
+    let request = moves::direct(code, station, job);
     let reply = engine::step(count, request, labels, jobs, control, results, report);
     let refusal = reply.refusal;
     Answer {
@@ -100,7 +100,7 @@ pub extern "C" fn tickets_step_panel(
         ≡ arrays count (now (labels .entry)) (now (jobs .entry)) (now (control .entry)) (now (results .entry))) ⌝ }
 {
     arrays::shaped(*labels, *jobs, *control, *results);
-    let request = engine::direct(code, station, job);
+    let request = moves::direct(code, station, job);
     let shown = engine::step_shown(count, request, labels, jobs, control, results, panel);
     let refusal = shown.refusal;
     Answer {

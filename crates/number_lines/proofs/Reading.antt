@@ -140,6 +140,7 @@ module _ {bs list₀ list : List ℕ} {count at : ℕ} (f : ReadSoFar bs list₀
   read-end : linesRead (length list₀ - count) (drop at bs) ≡ [] → NumbersRead bs list₀ (eqb at (length bs)) count list
   read-end e = record {
     counted = sym (ap length found ∙ long);
+    room = f .room;
     left = sym (take-append-drop count list) ∙ ap₂ _++_ (sym found) (f .left ∙ ap (λ k. drop k list₀) (sym (ap length found ∙ long)));
     whole = ap (λ k. eqb k (length bs)) (f .place);
   }

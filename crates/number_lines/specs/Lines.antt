@@ -1,5 +1,5 @@
 -- Numbers on lines of their own: the form in which the programs print them and read them back (02, Cards 6 and 7, leave it open).
-use Prim.Native.Nat.{ℕ, zero, suc, _*_, _<_, _^_}
+use Prim.Native.Nat.{ℕ, zero, suc, _*_, _≤_, _<_, _^_}
 use mathlib.Core.Path.{_≡_}
 use mathlib.Core.Bool.{Bool, cond}
 use mathlib.Core.List.{List, [], _∷_, _++_}
@@ -41,5 +41,6 @@ linesRead (suc k) bs = elim (lineRead bs) [ Value v ↦ v ∷ linesRead k (drop 
 -- numbers are all of them (proofs/Reading.antt: `read-whole`, `read-back`).
 pub record NumbersRead (bs list : List ℕ) (all : Bool) (count : ℕ) (list′ : List ℕ) : Type 0 where
   pub counted : count ≡ length (linesRead (length list) bs)
+  pub room : count ≤ length list
   pub left : list′ ≡ linesRead (length list) bs ++ drop (length (linesRead (length list) bs)) list
   pub whole : all ≡ eqb (count * 12) (length bs)

@@ -1,8 +1,9 @@
 pub mod SessionLaws
-pub mod SessionTheorem
 pub mod Runs
 pub mod Cuts
 pub mod FileTheorem
+pub mod SessionTheorem
+pub mod Scans
 pub mod Before
 pub mod Places
 pub mod Surveys

@@ -11,8 +11,8 @@ ghost use Rattle.schedule.specs.Sessions.{refused, stopped, illFormed, headerOf
 ghost use Rattle.table.specs.Tables.{declared};
 ghost use Rattle.session.specs.Contracts.{sessionOf, ServedAs};
 use engine::Reply;
-use engine::Request;
 use moves::Refusal;
+use moves::Request;
 use schedule::Header;
 use schedule::Line;
 use table::Table;

@@ -15,16 +15,16 @@ use Rattle.transition.specs.Forms.{TableAnswer, over, onto, stepOf}
 use Rattle.transition.specs.Questions.{Tells}
 use Rattle.transition.specs.Sequences.{Steps}
 use Rattle.transition.proofs.Theorem.{step-written, step-ill-formed, step-kept}
-use Rattle.moves.specs.Moves.{refusalNumber, called}
+use Rattle.moves.specs.Moves.{refusalNumber, called, directly, callOf}
 use Rattle.arrays.specs.Arrays.{Rows, Arrays, entriesIn}
 use Rattle.arrays.specs.WellFormed.{wellFormed}
 use Rattle.arrays.specs.Form.{lent}
-use Rattle.engine.specs.Contracts.{directly, callOf, placeIn, Hands}
+use Rattle.engine.specs.Contracts.{placeIn, Hands}
 use Rattle.engine.proofs.Served.{steps-records, records-fit}
 use Rattle.table.specs.Tables.{blank, entriesOf, apart, together, declared}
 use Rattle.table.proofs.Apart.{element, Whole, declared-written}
 use Rattle.step.specs.Contracts.{firstEntries, Lists}
-use Rattle.engine.specs.declared.Request.{Request}
+use Rattle.moves.specs.declared.Request.{Request}
 use Rattle.engine.specs.declared.Handed.{Handed}
 use Rattle.table.specs.declared.Entry.{Entry}
 use Rattle.table.specs.declared.Table.{Table}

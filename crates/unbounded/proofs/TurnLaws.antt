@@ -23,7 +23,7 @@ use Rattle.simulation.proofs.Touched.{results-all}
 use Rattle.transition.specs.Logs.{fitsNext}
 use Rattle.transition.proofs.Written.{WritableRest, rest-step}
 use Rattle.transition.proofs.Reached.{scan-sound, rest-fresh}
-use Rattle.moves.specs.Moves.{moveOf}
+use Rattle.moves.specs.Moves.{moveOf, callOf}
 use Rattle.moves.proofs.MoveLaws.{by-move}
 use Rattle.moves.specs.declared.Move.{Move}
 use Rattle.moves.specs.declared.Move.the-variants.{SnapLabel, Update}
@@ -32,10 +32,10 @@ use Rattle.arrays.specs.Planes.{beside}
 use Rattle.arrays.proofs.Results.{entries-listed}
 use Rattle.arrays.proofs.States.{number-kept, held-phases, rest-held}
 use Rattle.arrays.proofs.Planes.{none-beside}
-use Rattle.engine.specs.Contracts.{callOf, actionOf, PreparedRest, restAfter, CarriesRest, Judges, Named}
+use Rattle.engine.specs.Contracts.{actionOf, PreparedRest, restAfter, CarriesRest, Judges, Named}
 use Rattle.engine.proofs.Served.{place-inside, judged-few, rest-ready, rest-judged}
 use Rattle.engine.specs.declared.Handed.{Handed}
-use Rattle.engine.specs.declared.Request.{Request}
+use Rattle.moves.specs.declared.Request.{Request}
 use Rattle.engine.specs.declared.Task.{Task}
 use Rattle.unbounded.specs.Numbers.{orderBy, NumberedBefore, Renumbers}
 use Rattle.unbounded.specs.Tables.{Table, table, restOf, stateOf, Runnable, GivenTo, Turns}

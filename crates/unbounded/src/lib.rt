@@ -8,15 +8,15 @@ ghost use lib.ListN.{length};
 ghost use Rattle.simulation.specs.Calls.{Buffer};
 ghost use Rattle.simulation.specs.Machine.{fresh};
 ghost use Rattle.moves.specs.declared.Move.the-variants.{Update};
-ghost use Rattle.engine.specs.Contracts.{callOf};
+ghost use Rattle.moves.specs.Moves.{callOf};
 ghost use Rattle.unbounded.specs.Numbers.{orderBy, NumberedBefore};
 ghost use Rattle.unbounded.specs.Tables.{table, stateOf, Runnable, GivenTo, Turns};
 use arrays::CURRENT;
 use arrays::Control;
 use arrays::Jobs;
 use arrays::Results;
-use engine::Request;
 use moves::Move;
+use moves::Request;
 use moves::Room;
 
 // Current and pending numbers.
