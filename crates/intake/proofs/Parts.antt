@@ -15,9 +15,9 @@ use Rattle.moves.specs.Moves.{refusalNumber}
 use Rattle.moves.specs.declared.Refusal.{Refusal}
 use Rattle.moves.specs.declared.Refusal.the-variants.{Accepted, IncompleteLine, TooManySteps}
 use Rattle.schedule.specs.Lines.{lineRead, headerRead}
-use Rattle.schedule.specs.Files.{cut, pieces}
+use Rattle.schedule.specs.Files.{cut, pieces, linesOf}
 use Rattle.schedule.specs.Demand.{stepCalls, ending, fileCalls}
-use Rattle.schedule.specs.Numbers.{finalOf, surveyed, readingRefusal, givenIn, Surveys}
+use Rattle.schedule.specs.Numbers.{finalOf, surveyed, readingRefusal, Surveys}
 use Rattle.schedule.proofs.SessionLaws.{header-refused}
 use Rattle.schedule.proofs.Cuts.{joined, Whole}
 use Rattle.schedule.proofs.Runs.{rest-after}
@@ -33,18 +33,18 @@ use Rattle.intake.specs.declared.Reading.the-variants.{Start, Lines, Ref
 
 -- the final refusal of a part and what follows it
 ending-on : (lines : ℕ) (part more : Lists.List ℕ) → Cut part more
-    → ending lines (givenIn (part ++ more))
-    ≡ firstOf (ending lines (givenIn part)) (ending (lines + length (stepCalls lines (givenIn part))) (givenIn more))
+    → ending lines (linesOf (part ++ more))
+    ≡ firstOf (ending lines (linesOf part)) (ending (lines + length (stepCalls lines (linesOf part))) (linesOf more))
 ending-on lines part more (inl whole) =
-    let k = lines + length (stepCalls lines (givenIn part)) in
-    ap (λ b. ending lines (givenIn (part ++ b))) (sym (append-nil more)) ∙ survey-parts (part ∷ (more ∷ [])) lines (whole, tt)
-    ∙ ap (firstOf (ending lines (givenIn part))) (sym (survey-parts (more ∷ []) k tt) ∙ ap (λ b. ending k (givenIn b)) (append-nil more))
+    let k = lines + length (stepCalls lines (linesOf part)) in
+    ap (λ b. ending lines (linesOf (part ++ b))) (sym (append-nil more)) ∙ survey-parts (part ∷ (more ∷ [])) lines (whole, tt)
+    ∙ ap (firstOf (ending lines (linesOf part))) (sym (survey-parts (more ∷ []) k tt) ∙ ap (λ b. ending k (linesOf b)) (append-nil more))
 ending-on lines part more (inr none) =
-    ap (λ b. ending lines (givenIn (part ++ b))) none ∙ survey-parts (part ∷ []) lines tt
-    ∙ ap (firstOf (ending lines (givenIn part))) (sym (survey-parts [] k tt ∙ refl) ∙ ap (λ b. ending k (givenIn b)) (sym none))
+    ap (λ b. ending lines (linesOf (part ++ b))) none ∙ survey-parts (part ∷ []) lines tt
+    ∙ ap (firstOf (ending lines (linesOf part))) (sym (survey-parts [] k tt ∙ refl) ∙ ap (λ b. ending k (linesOf b)) (sym none))
   where
     k : ℕ
-    k = lines + length (stepCalls lines (givenIn part))
+    k = lines + length (stepCalls lines (linesOf part))
 
 module _ {lines : ℕ} (w : Within (Lines lines)) (part : Lists.List ℕ) {s : Survey} (f : Surveys lines part s) where
   -- a part with a final refusal
@@ -53,14 +53,14 @@ module _ {lines : ℕ} (w : Within (Lines lines)) (part : Lists.List ℕ) {s : S
     where
       same : (more : Lists.List ℕ) → Cut part more → ahead (Lines lines) (part ++ more) ≡ s .refusal
       same more h =
-          let k = lines + length (stepCalls lines (givenIn part)) in
-          let e : ending lines (givenIn (part ++ more)) ≡ s .refusal =
-              ending-on lines part more h ∙ ap (λ r. firstOf r (ending k (givenIn more))) (sym (f .refusal)) ∙ rw (ne-eqb _ 0 d) refl in
+          let k = lines + length (stepCalls lines (linesOf part)) in
+          let e : ending lines (linesOf (part ++ more)) ≡ s .refusal =
+              ending-on lines part more h ∙ ap (λ r. firstOf r (ending k (linesOf more))) (sym (f .refusal)) ∙ rw (ne-eqb _ 0 d) refl in
           rw (e, ne-eqb _ 0 d) refl
 
   -- one without
   module _ (z : refusalNumber (s .refusal) ≡ 0) where
-    none : refusalNumber (ending lines (givenIn part)) ≡ 0
+    none : refusalNumber (ending lines (linesOf part)) ≡ 0
     none = ap refusalNumber (sym (f .refusal)) ∙ z
 
     counted : (s .steps ≡ pieces part) × (lines + pieces part ≤ 1000001)
@@ -78,24 +78,24 @@ module _ {lines : ℕ} (w : Within (Lines lines)) (part : Lists.List ℕ) {s : S
     part-passed = record { same = same; within = (omega (arith, w .0), part-counted); fewer = omega (arith, counted) }
       where
         same : (more : Lists.List ℕ) → Cut part more → ahead (Lines lines) (part ++ more) ≡ ahead (Lines (lines + s .steps)) more
-        same more h = rw e (go (eqb (refusalNumber (ending k (givenIn more))) 0) refl)
+        same more h = rw e (go (eqb (refusalNumber (ending k (linesOf more))) 0) refl)
           where
             k : ℕ
             k = lines + s .steps
 
-            e : ending lines (givenIn (part ++ more)) ≡ ending k (givenIn more)
-            e = ending-on lines part more h ∙ rw (eq-eqb _ 0 none) (ap (λ j. ending (lines + j) (givenIn more)) (sym (f .steps)))
+            e : ending lines (linesOf (part ++ more)) ≡ ending k (linesOf more)
+            e = ending-on lines part more h ∙ rw (eq-eqb _ 0 none) (ap (λ j. ending (lines + j) (linesOf more)) (sym (f .steps)))
 
-            go : (b : Bool) → eqb (refusalNumber (ending k (givenIn more))) 0 ≡ b
-                → surveyed (ending k (givenIn more)) (lines - 1 + length (stepCalls lines (givenIn (part ++ more)))) Accepted
-                ≡ surveyed (ending k (givenIn more)) (k - 1 + length (stepCalls k (givenIn more))) Accepted
+            go : (b : Bool) → eqb (refusalNumber (ending k (linesOf more))) 0 ≡ b
+                → surveyed (ending k (linesOf more)) (lines - 1 + length (stepCalls lines (linesOf (part ++ more)))) Accepted
+                ≡ surveyed (ending k (linesOf more)) (k - 1 + length (stepCalls k (linesOf more))) Accepted
             go false q = rw q refl
             go true q =
                 let z′ = eqb-true _ 0 q in
                 let all = all-lines (part ++ more) lines (w .1) (ap refusalNumber e ∙ z′) in
                 let rest = all-lines more k part-counted z′ in
-                ap (λ j. surveyed (ending k (givenIn more)) j Accepted)
-                (let c : lines - 1 + length (stepCalls lines (givenIn (part ++ more))) ≡ k - 1 + length (stepCalls k (givenIn more))
+                ap (λ j. surveyed (ending k (linesOf more)) j Accepted)
+                (let c : lines - 1 + length (stepCalls lines (linesOf (part ++ more))) ≡ k - 1 + length (stepCalls k (linesOf more))
                     = omega (arith, all .0, rest .0, counted, pieces-on more h, w .0) in c)
 
 -- THE FIRST PART, unless it is empty
@@ -136,7 +136,7 @@ module _ (part : Lists.List ℕ) (some : 0 < length part) {l : Lists.List ℕ} (
           let joined = ap (λ b. b ++ more) left ∙ sym (behind more h) in
           let whole = ap headerRead (first more h) ∙ e in
           let bs = drop 18 (part ++ more) in
-          rw whole (ap (λ j. surveyed (ending 1 (givenIn bs)) j Accepted) (sym (zero-add (length (stepCalls 1 (givenIn bs)))))
+          rw whole (ap (λ j. surveyed (ending 1 (linesOf bs)) j Accepted) (sym (zero-add (length (stepCalls 1 (linesOf bs)))))
           ∙ ap (ahead (Lines 1)) (sym joined) ∙ f .same more (rw (← left) at (cut-behind more h)))
 
 -- an empty part, and one behind a final refusal

@@ -9,9 +9,9 @@ use lib.ListN.{length, take}
 use Rattle.moves.specs.Moves.{refusalNumber}
 use Rattle.moves.specs.declared.Refusal.{Refusal}
 use Rattle.moves.specs.declared.Refusal.the-variants.{Accepted}
-use Rattle.schedule.specs.Files.{pieces}
+use Rattle.schedule.specs.Files.{pieces, linesOf}
 use Rattle.schedule.specs.Demand.{stepCalls, ending}
-use Rattle.schedule.specs.Numbers.{surveyed, readingRefusal, givenIn}
+use Rattle.schedule.specs.Numbers.{surveyed, readingRefusal}
 use Rattle.intake.specs.declared.Reading.{Reading}
 use Rattle.intake.specs.declared.Reading.the-variants.{Start, Lines}
 use Rattle.intake.specs.declared.Reading.the-variants as Readings
@@ -22,7 +22,7 @@ use Rattle.intake.specs.declared.Intake.the-variants.{Failed, Refused, W
 -- Behind `lines` lines, the header among them, it is their final refusal, or 16.
 abbrev pub ahead : Reading → Lists.List ℕ → Refusal
 ahead Start bs = readingRefusal bs
-ahead (Lines lines) bs = surveyed (ending lines (givenIn bs)) (lines - 1 + length (stepCalls lines (givenIn bs))) Accepted
+ahead (Lines lines) bs = surveyed (ending lines (linesOf bs)) (lines - 1 + length (stepCalls lines (linesOf bs))) Accepted
 ahead (Readings.Refused r) bs = r
 
 -- nothing that follows changes it
