@@ -111,7 +111,7 @@ pub fn write_result(rows: &[[u32; 32]; 2], k: usize, line: u64, out: &mut [u8]) 
     while p < k {
         let at = p * 29;
         let head = columns::head_of(out);
-        columns::write_listed_line(
+        columns::write_scan_line(
             &mut out[at..at + 29],
             head,
             (p + 1) as u32,
@@ -371,7 +371,7 @@ pub fn perform(
     )
 }
 
-// A step call with a report buffer.
+// A step call with a report buffer. That a refused call leaves the arrays is told by their lengths.
 pub fn step(
     count: u64,
     request: Request,
@@ -386,6 +386,7 @@ pub fn step(
         (arrays count (now (labels .exit)) (now (jobs .exit)) (now (control .exit)) (now (results .exit)))
         (refusalNumber (r .refusal)) (r .written) (Bytes (now (report .exit))) ⌝ }
 {
+    arrays::shaped(*labels, *jobs, *control, *results);
     let room = Room::Buffer(report.len());
     let h = perform(count, request, room, labels, jobs, control, results);
     let refusal = h.refusal;
@@ -409,6 +410,7 @@ pub fn step_shown(
         (arrays count (now (labels .exit)) (now (jobs .exit)) (now (control .exit)) (now (results .exit)))
         (refusalNumber (r .refusal)) (r .written) (Records (map recordOf (now (panel .exit)))) ⌝ }
 {
+    arrays::shaped(*labels, *jobs, *control, *results);
     let room = Room::Panel(panel.len());
     let h = perform(count, request, room, labels, jobs, control, results);
     let refusal = h.refusal;

@@ -1,7 +1,6 @@
 // The functions exported to programs in C and Rust: step calls on a table in four arrays, which its owner lends, a question to it, and whole schedule files,
 // their reports, their numbers and their logs.
 ghost use mathlib.Core.Path.{_≡_};
-ghost use mathlib.Core.Logic.{_≢_};
 ghost use mathlib.Core.Bool.{cond};
 ghost use mathlib.Core.List.{map};
 ghost use lib.ListN.{length};
@@ -66,10 +65,7 @@ pub extern "C" fn tickets_step(
         (called 0 code station job (Buffer (length (now (report .entry))))) (Bytes (now (report .entry)))
         (arrays count (now (labels .exit)) (now (jobs .exit)) (now (control .exit)) (now (results .exit)))
         (r .refusal) (r .written) (Bytes (now (report .exit))) ⌝ }
-    ensures { λ r. ⌜ (r .refusal ≢ 0 → arrays count (now (labels .exit)) (now (jobs .exit)) (now (control .exit)) (now (results .exit))
-        ≡ arrays count (now (labels .entry)) (now (jobs .entry)) (now (control .entry)) (now (results .entry))) ⌝ }
 {
-    arrays::shaped(*labels, *jobs, *control, *results);
     let request = moves::direct(code, station, job);
     let reply = engine::step(count, request, labels, jobs, control, results, report);
     let refusal = reply.refusal;
@@ -96,10 +92,7 @@ pub extern "C" fn tickets_step_panel(
         (called 0 code station job (Panel (length (now (panel .entry))))) (Records (map recordOf (now (panel .entry))))
         (arrays count (now (labels .exit)) (now (jobs .exit)) (now (control .exit)) (now (results .exit)))
         (r .refusal) (r .written) (Records (map recordOf (now (panel .exit)))) ⌝ }
-    ensures { λ r. ⌜ (r .refusal ≢ 0 → arrays count (now (labels .exit)) (now (jobs .exit)) (now (control .exit)) (now (results .exit))
-        ≡ arrays count (now (labels .entry)) (now (jobs .entry)) (now (control .entry)) (now (results .entry))) ⌝ }
 {
-    arrays::shaped(*labels, *jobs, *control, *results);
     let request = moves::direct(code, station, job);
     let shown = engine::step_shown(count, request, labels, jobs, control, results, panel);
     let refusal = shown.refusal;

@@ -18,7 +18,8 @@ ghost use Rattle.moves.specs.declared.Move.the-variants.{SnapLabel};
 ghost use Rattle.arrays.specs.Arrays.{arrays};
 ghost use Rattle.arrays.specs.Planes.{beside};
 ghost use Rattle.schedule.specs.Demand.{stepCalls};
-ghost use Rattle.schedule.specs.Numbers.{snapCalls, givenIn};
+ghost use Rattle.schedule.specs.Files.{linesOf};
+ghost use Rattle.schedule.specs.Numbers.{snapCalls};
 ghost use Rattle.file.specs.Contracts.{Runnable};
 ghost use Rattle.numbering.specs.Contracts.{slotFor, slotIn, renumberIn, Renumbered, Counted, NumbersCall};
 ghost use Rattle.numbering.specs.Files.{refusedBy, NumbersFile};
@@ -33,7 +34,7 @@ use moves::Move;
 use moves::Refusal;
 use moves::Request;
 use schedule::Header;
-use schedule::Line;
+use schedule::Next;
 use schedule::Survey;
 
 // Where the number of a new label goes among those in use: it is one of them, or it comes right after one.
@@ -241,9 +242,9 @@ fn number_line(
 // Runs the lines after a header of n stations, up to one that ends the reading, from the fresh table; the numbers are written to the front of the list.
 fn number_lines(n: usize, rest: &[u8], list: &mut [u32]) -> usize
     requires { ⌜ (2 ≤ n) × (n ≤ 32) ⌝ }
-    requires { ⌜ snapCalls (stepCalls 1 (givenIn (now rest))) ≤ length (now list) ⌝ }
-    ensures { λ r. ⌜ r ≡ length (numbersOf original n (stepCalls 1 (givenIn (now (rest .entry))))) ⌝ }
-    ensures { λ _. ⌜ now (list .exit) ≡ over (numbersOf original n (stepCalls 1 (givenIn (now (rest .entry))))) (now (list .entry)) ⌝ }
+    requires { ⌜ snapCalls (stepCalls 1 (linesOf (now rest))) ≤ length (now list) ⌝ }
+    ensures { λ r. ⌜ r ≡ length (numbersOf original n (stepCalls 1 (linesOf (now (rest .entry))))) ⌝ }
+    ensures { λ _. ⌜ now (list .exit) ≡ over (numbersOf original n (stepCalls 1 (linesOf (now (rest .entry))))) (now (list .entry)) ⌝ }
 {
     let mut labels = [[[0u8; 31]; 32]; 2];
     let mut jobs = [[0u32; 32]; 2];
@@ -255,19 +256,9 @@ fn number_lines(n: usize, rest: &[u8], list: &mut [u32]) -> usize
     let mut count = 0;
     let mut lines: u32 = 1;
     let mut at = 0;
-    while at < rest.len() {
-        let line = schedule::line_at(rest, at);
-        match schedule::next_line(lines, line) {
-            Line::Refused(_) => {
-                return count;
-            }
-            Line::Step { station, code, job } => {
-                let request = Request {
-                    code,
-                    station,
-                    job,
-                    line: lines as u64 + 1,
-                };
+    loop {
+        match schedule::next_call(lines, rest, at) {
+            Next::Call(request) => {
                 count = number_line(
                     n,
                     request,
@@ -281,11 +272,12 @@ fn number_lines(n: usize, rest: &[u8], list: &mut [u32]) -> usize
                     count,
                 );
                 lines += 1;
-                at += line.len();
+                at += 18;
             }
+            Next::End => return count,
+            Next::Refused(_) => return count,
         }
     }
-    count
 }
 
 // The refusal of a schedule whose lines after the header come to this, for a list of so many entries.

@@ -18,8 +18,8 @@ use Rattle.simulation.proofs.Reports.{records-tabulate}
 use Rattle.table.specs.Tables.{blank, declared}
 use Rattle.table.specs.declared.Entry.{Entry}
 use Rattle.table.specs.declared.Table.{Table}
-use Rattle.step.specs.declared.Listing.{Listing}
-use Rattle.step.specs.Contracts.{firstEntries, Lists}
+use Rattle.step.specs.declared.Unfilled.{Unfilled}
+use Rattle.step.specs.Contracts.{firstEntries, HandsEntries}
 use Rattle.panel.specs.declared.Record.{Record}
 use Rattle.panel.specs.Panels.{recordAt, filled, recordOf, panelOf, Shows}
 
@@ -40,7 +40,7 @@ pub filled-none : (es : List Entry) (ys : List Record) → ys ≡ filled es 0 ys
 unfolding tabulate
 filled-none es ys = refl
 
--- the panel filled from what a call lists holds the records of the entries that it hands out
+-- the panel filled from the entries of a call holds the records of the entries that it hands out
 filled-records : (es : List Entry) (n : ℕ) (ys : List Record)
     → over (panelRecords 1 (firstEntries n es)) (map recordOf ys) ≡ map recordOf (filled es n ys)
 filled-records es n ys = ap (λ l. over l (map recordOf ys)) (records-tabulate n 0 _)
@@ -52,7 +52,7 @@ filled-records es n ys = ap (λ l. over l (map recordOf ys)) (records-tabulate n
     first = tabulate-same n 0 _ _ (λ p _. ap (λ i. record { place = i; station = getD es p blank .station; job = getD es p blank .job }) (sym (add-one p)))
         ∙ sym (map-tabulate recordOf n 0 (recordAt es))
 
-pub shown : {t : Table} {code station job : ℕ} (ys : List Record) {zs : List Record} (r : Listing) → Lists t code station job (length ys) r
+pub shown : {t : Table} {code station job : ℕ} (ys : List Record) {zs : List Record} (r : Unfilled) → HandsEntries t code station job (length ys) r
     → zs ≡ filled (r .entries) (r .outcome .reply .written) ys → Shows t code station job ys (r .outcome .table) (r .outcome .reply) zs
 shown {t} {code} {station} {job} ys {zs} r l e =
     let o = r .outcome in

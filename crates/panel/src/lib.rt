@@ -44,7 +44,7 @@ fn fill(panel: &mut [Record], entries: [Entry; 32], n: usize)
 pub fn step(t: Table, code: u64, station: u64, job: u64, panel: &mut [Record]) -> Outcome
     ensures { λ r. ⌜ Shows t code station job (now (panel .entry)) (r .table) (r .reply) (now (panel .exit)) ⌝ }
 {
-    let next = step::listed(t, code, station, job, panel.len());
+    let next = step::with_panel(t, code, station, job, panel.len());
     let entries = next.entries;
     fill(panel, entries, next.outcome.reply.written);
     next.outcome

@@ -15,20 +15,22 @@ use Rattle.transition.specs.Forms.{TableAnswer, over, onto, stepOf}
 use Rattle.transition.specs.Questions.{Tells}
 use Rattle.transition.specs.Sequences.{Steps}
 use Rattle.transition.proofs.Theorem.{step-written, step-ill-formed, step-kept}
+use Rattle.transition.proofs.Sequences.{steps-of}
 use Rattle.moves.specs.Moves.{refusalNumber, called, directly, callOf}
 use Rattle.arrays.specs.Arrays.{Rows, Arrays, entriesIn}
 use Rattle.arrays.specs.WellFormed.{wellFormed}
 use Rattle.arrays.specs.Form.{lent}
+use Rattle.arrays.specs.Sizes.{Shaped}
 use Rattle.engine.specs.Contracts.{placeIn, Hands}
 use Rattle.engine.proofs.Served.{steps-records, records-fit}
 use Rattle.table.specs.Tables.{blank, entriesOf, apart, together, declared}
-use Rattle.table.proofs.Apart.{element, Whole, declared-written}
-use Rattle.step.specs.Contracts.{firstEntries, Lists}
+use Rattle.table.proofs.Apart.{element, Whole, apart-shaped, declared-written}
+use Rattle.step.specs.Contracts.{firstEntries, HandsEntries}
 use Rattle.moves.specs.declared.Request.{Request}
 use Rattle.engine.specs.declared.Handed.{Handed}
 use Rattle.table.specs.declared.Entry.{Entry}
 use Rattle.table.specs.declared.Table.{Table}
-use Rattle.step.specs.declared.Listing.{Listing}
+use Rattle.step.specs.declared.Unfilled.{Unfilled}
 
 module _ (t : Table) (w : Whole t) (c : Call) where
   -- both forms give the same number and the same report
@@ -55,12 +57,8 @@ module _ (t : Table) (w : Whole t) (c : Call) where
     L = subst (λ (u : Arrays). Steps lent u c r a′ number written r′) e made
 
     steps-with : {t′ : Table} → t′ ≡ stepOf declared t c .table → Steps declared t c r t′ number written r′
-    steps-with q = record {
-      table = q;
-      number = L .number ∙ sym (alike .number);
-      count = L .count ∙ ap size (sym (alike .report));
-      report = L .report ∙ ap (λ b. onto b r) (sym (alike .report));
-    }
+    steps-with q = steps-of declared (declared-written t w) q (L .number ∙ sym (alike .number)) (L .count ∙ ap size (sym (alike .report)))
+        (L .report ∙ ap (λ b. onto b r) (sym (alike .report)))
 
     pub refused-call : number ≢ 0 → Steps declared t c r t number written r′
     refused-call d = steps-with (sym (ap (λ (x : TableAnswer Table). x .table)
@@ -105,8 +103,8 @@ module _ (t : Table) (w : Whole t) (code station job records : ℕ) {a a′ : Ar
   made = subst (λ (x : Request). Hands a (callOf x (Panel records)) a′ h) direct handed
 
   -- what is handed back, with this table
-  abbrev listing : Table → Listing
-  listing t′ = record { outcome = record { table = t′; reply = record { refusal = h .refusal; written = h .entries } }; entries = es }
+  abbrev unfilled : Table → Unfilled
+  unfilled t′ = record { outcome = record { table = t′; reply = record { refusal = h .refusal; written = h .entries } }; entries = es }
 
   -- on any panel, what the engine's step comes to
   abbrev Made : List.List PanelRecord → Type 0
@@ -114,23 +112,23 @@ module _ (t : Table) (w : Whole t) (code station job records : ℕ) {a a′ : Ar
       (Records (over (panelRecords 1 (firstEntries (h .entries) es)) panel))
 
   made-on : (panel : List.List PanelRecord) → length panel ≡ records → Made panel
-  made-on panel l = steps-records made (ap Panel (sym l)) (ap (λ x. over (panelRecords 1 x) panel)
+  made-on panel l = steps-records made (subst Shaped (sym e) (apart-shaped t w)) (ap Panel (sym l)) (ap (λ x. over (panelRecords 1 x) panel)
       (sym (first-entries (h .entries) (getD (a′ .results) (h .place) []) (made .few) ∙ ap (firstEntries (h .entries)) (sym put))))
 
   entries-there : es ≡ entriesOf (getD (stepOf lent (apart t) c .table .results) (placeIn (apart t) c) [])
   entries-there = put ∙ ap₂ (λ (u : Arrays) (k : ℕ). entriesOf (getD (u .results) k [])) (made .table ∙ ap (λ u. stepOf lent u c .table) e)
       (made .place ∙ ap (λ u. placeIn u c) e)
 
-  pub listed-refused : refusalNumber (h .refusal) ≢ 0 → Lists t code station job records (listing t)
-  listed-refused d = record {
+  pub panel-refused : refusalNumber (h .refusal) ≢ 0 → HandsEntries t code station job records (unfilled t)
+  panel-refused d = record {
     entries = entries-there;
     short = made .few;
     fits = records-fit made records refl;
     steps = λ panel l. refused-call t w c e (made-on panel l) d;
   }
 
-  pub listed-accepted : refusalNumber (h .refusal) ≡ 0 → {t′ : Table} → t′ ≡ together a′ → Lists t code station job records (listing t′)
-  listed-accepted z q = record {
+  pub panel-accepted : refusalNumber (h .refusal) ≡ 0 → {t′ : Table} → t′ ≡ together a′ → HandsEntries t code station job records (unfilled t′)
+  panel-accepted z q = record {
     entries = entries-there;
     short = made .few;
     fits = records-fit made records refl;

@@ -14,7 +14,7 @@ use Rattle.engine.specs.Contracts.{placeIn}
 use Rattle.table.specs.Tables.{blank, entriesOf, apart, declared}
 use Rattle.table.specs.declared.Entry.{Entry}
 use Rattle.table.specs.declared.Table.{Table}
-use Rattle.step.specs.declared.Listing.{Listing}
+use Rattle.step.specs.declared.Unfilled.{Unfilled}
 
 -- the first k entries of a declared result
 abbrev pub firstEntries : ℕ → List Entry → List Calls.Entry
@@ -22,7 +22,7 @@ firstEntries k es = tabulate k 0 (λ p. let e = getD es p blank in Calls.entry (
 
 -- the entries are those of the stored result at the place of the station, after the call. Those that the call hands out fit into the panel; with them in its
 -- first records, whatever panel of so many records is lent, the call is the step.
-pub record Lists (t : Table) (code station job records : ℕ) (r : Listing) : Type 0 where
+pub record HandsEntries (t : Table) (code station job records : ℕ) (r : Unfilled) : Type 0 where
   pub entries : let c = called 0 code station job (Panel records) in
       r .entries ≡ entriesOf (getD (stepOf lent (apart t) c .table .results) (placeIn (apart t) c) [])
   pub short : r .outcome .reply .written ≤ 32

@@ -1,6 +1,8 @@
 -- Demand 3 of sequences of calls, from the contract that each call keeps and the theorem about `stepOf`.
 use Prim.Native.Nat.{ℕ, _≤_}
 use mathlib.Core.Path.{_≡_, refl, sym, ap, ap₂, _∙_}
+use mathlib.Core.Logic.{_≢_}
+use mathlib.Core.Bool.{true}
 use mathlib.Core.List as Lists
 use mathlib.Core.List.{[], _∷_, map, map-map}
 use lib.ListN.{length, take}
@@ -8,11 +10,11 @@ use lib.Seq.{take-at}
 use Rattle.basics.specs.Tests.{All}
 use Rattle.simulation.specs.Machine as Machine
 use Rattle.simulation.specs.Machine.{Seen}
-use Rattle.simulation.specs.Calls.{Buffer, Call, Entry, reportLines, panelRecords, Report, Bytes, Records, capacity, size, bytesOf, written}
-use Rattle.transition.specs.Forms.{Form, over, onto, freshTable, stepOf}
+use Rattle.simulation.specs.Calls.{Room, Buffer, Panel, Call, Entry, reportLines, panelRecords, Report, Bytes, Records, capacity, size, bytesOf, written}
+use Rattle.transition.specs.Forms.{Form, TableAnswer, over, onto, freshTable, stepOf}
 use Rattle.transition.specs.Demand.{run, seen, unbounded, Demand3}
 use Rattle.transition.specs.Sequences.{Steps, Made, callOf, firstOf, told, Sequence, SequenceDemand}
-use Rattle.transition.proofs.Theorem.{Lawful, step-report, step-bytes, demand}
+use Rattle.transition.proofs.Theorem.{Lawful, step-report, step-bytes, step-kept, demand}
 
 -- a buffer with these bytes at its front, read by their count
 module _ (l buffer : Lists.List ℕ) {buffer′ : Lists.List ℕ} {written : ℕ} (w : written ≡ length l) (r : buffer′ ≡ over l buffer) where
@@ -30,6 +32,33 @@ pub report-read : (line : ℕ) (lent : Report) (l : Lists.List Entry) {lent′ :
     k ≡ size r → lent′ ≡ onto r lent → firstOf k lent′ ≡ r
 report-read line (Bytes b) l w r = ap₂ firstOf w r ∙ ap Bytes (take-at (reportLines line 1 l) _ _ refl)
 report-read line (Records b) l w r = ap₂ firstOf w r ∙ ap Records (take-at (panelRecords 1 l) _ _ refl)
+
+-- a report of no entries has no size, and leaves what was lent
+none-written : (line : ℕ) (room : Room) (lent : Report) → let r = written line room [] in (size r ≡ 0) × (onto r lent ≡ lent)
+unfolding reportLines panelRecords
+none-written line (Buffer b) (Bytes l) = (refl, refl)
+none-written line (Buffer b) (Records l) = (refl, refl)
+none-written line (Panel b) (Bytes l) = (refl, refl)
+none-written line (Panel b) (Records l) = (refl, refl)
+
+-- the contract of a call, from the answer of `stepOf`: a refused call leaves a table that is the one of the state that it holds
+pub steps-of : (F : Form) {t t′ : F .Table} {c : Call} {lent lent′ : Report} {number k : ℕ}
+    → (F .wellFormed t ≡ true → F .written (F .count t) (F .state t) ≡ t) → t′ ≡ stepOf F t c .table → number ≡ stepOf F t c .refusal
+    → k ≡ size (stepOf F t c .report) → lent′ ≡ onto (stepOf F t c .report) lent → Steps F t c lent t′ number k lent′
+steps-of F {t} {t′} {c} {lent} {lent′} {number} {k} same table refusal count report = record {
+  table = table;
+  number = refusal;
+  count = count;
+  report = report;
+  kept = kept;
+}
+  where
+    kept : number ≢ 0 → (t′ ≡ t) × (k ≡ 0) × (lent′ ≡ lent)
+    kept d =
+        let s = step-kept F t same c (λ z. d (refusal ∙ z)) in
+        let r = ap (λ (a : TableAnswer (F .Table)). a .report) s in
+        let z = none-written (c .line) (c .room) lent in
+        (table ∙ ap (λ (a : TableAnswer (F .Table)). a .table) s, count ∙ ap size r ∙ z .0, report ∙ ap (λ x. onto x lent) r ∙ z .1)
 
 -- a call with a report buffer: the count, and the buffer left
 pub steps-bytes : (F : Form) {t t′ : F .Table} {c : Call} {b b′ : Lists.List ℕ} {number k : ℕ} → Steps F t c (Bytes b) t′ number k (Bytes b′) → (room : ℕ)

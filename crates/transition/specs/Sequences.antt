@@ -1,6 +1,7 @@
 -- What the contract of a step call says, and demand 3 of every sequence of calls that keep it, as a caller makes them: whatever the form of the table.
 use Prim.Native.Nat.{ℕ}
 use mathlib.Core.Path.{_≡_}
+use mathlib.Core.Logic.{_≢_}
 use mathlib.Core.List as Lists
 use mathlib.Core.List.{[], _∷_, map}
 use lib.ListN.{take}
@@ -11,12 +12,13 @@ use Rattle.transition.specs.Forms.{Form, TableAnswer, onto, stepOf}
 use Rattle.transition.specs.Demand.{seen, unbounded, Demand3}
 
 -- the call c on the table t with what is lent for its report: the table left, the refusal number, the count of bytes or records, and what is left of what was
--- lent, all of it from `stepOf`
+-- lent, all of it from `stepOf`. A refused call leaves the table, writes nothing and leaves what was lent (01, demand 1).
 pub record Steps (F : Form) (t : F .Table) (c : Call) (lent : Report) (t′ : F .Table) (refusal written : ℕ) (lent′ : Report) : Type 0 where
   pub table : t′ ≡ stepOf F t c .table
   pub number : refusal ≡ stepOf F t c .refusal
   pub count : written ≡ size (stepOf F t c .report)
   pub report : lent′ ≡ onto (stepOf F t c .report) lent
+  pub kept : refusal ≢ 0 → (t′ ≡ t) × (written ≡ 0) × (lent′ ≡ lent)
 
 -- a call with what it is lent, bytes or records; and what came back: the table, the refusal number, the count, and what was lent
 pub record Made (T : Type 0) : Type 0 where

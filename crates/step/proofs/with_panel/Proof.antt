@@ -1,10 +1,10 @@
 -- The engine's step on the table taken apart is the step on the table; the entries are those of the calling station's result.
 use mathlib.Core.Path.{sym, _∙_}
 use Rattle.table.proofs.Owned.{whole}
-use Rattle.step.proofs.StepLaws.{listed-refused, listed-accepted}
+use Rattle.step.proofs.StepLaws.{panel-refused, panel-accepted}
 use borrow.Author.Needs.{needs}
-use Rattle.step.proofs.listed.Statement.{statement}
-use Rattle.step.proofs.listed.Tie as tie
+use Rattle.step.proofs.with_panel.Statement.{statement}
+use Rattle.step.proofs.with_panel.Tie as tie
 
 returns : tie.Need-returns
 returns c =
@@ -13,7 +13,7 @@ returns c =
     let p = s .before .before .before .before .before in
     let d = p .before .before .before .before .before in
     let b = d .before in
-    listed-refused _ (whole _ _ (b .good .0)) _ _ _ _ (p .take-apart .ensures) (d .direct .result) (d .direct .ensures)
+    panel-refused _ (whole _ _ (b .good .0)) _ _ _ _ (p .take-apart .ensures) (d .direct .result) (d .direct .ensures)
     (s .perform .ensures) _ (o .entries-of .ensures)
     (λ z. c .if1 .taken (c .before .number .ensures ∙ z))
 
@@ -25,10 +25,10 @@ returns-2 c =
     let p = s .before .before .before .before .before in
     let d = p .before .before .before .before .before in
     let b = d .before in
-    listed-accepted _ (whole _ _ (b .good .0)) _ _ _ _ (p .take-apart .ensures) (d .direct .result) (d .direct .ensures)
+    panel-accepted _ (whole _ _ (b .good .0)) _ _ _ _ (p .take-apart .ensures) (d .direct .result) (d .direct .ensures)
     (s .perform .ensures) _ (o .entries-of .ensures)
     (sym (i .before .number .ensures) ∙ i .if1 .left) (c .put-together .ensures)
 
-pub listed-spec : {M : Type 1} → statement M
-listed-spec = tie.close (tie.spec (λ c κs. search needs) (λ c κs. search needs) (λ c κs. search needs) (λ c. search needs)
+pub with-panel-spec : {M : Type 1} → statement M
+with-panel-spec = tie.close (tie.spec (λ c κs. search needs) (λ c κs. search needs) (λ c κs. search needs) (λ c. search needs)
     (λ c. search needs) (λ c κs. search needs) (λ c κs. search needs) returns (λ c κs. search needs) returns-2)
