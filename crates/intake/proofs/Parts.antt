@@ -55,7 +55,7 @@ module _ {lines : ℕ} (w : Within (Lines lines)) (part : Lists.List ℕ) {s : S
       same more h =
           let k = lines + length (stepCalls lines (linesOf part)) in
           let e : ending lines (linesOf (part ++ more)) ≡ s .refusal =
-              ending-on lines part more h ∙ ap (λ r. firstOf r (ending k (linesOf more))) (sym (f .refusal)) ∙ rw (ne-eqb _ 0 d) refl in
+          ending-on lines part more h ∙ ap (λ r. firstOf r (ending k (linesOf more))) (sym (f .refusal)) ∙ rw (ne-eqb _ 0 d) refl in
           rw (e, ne-eqb _ 0 d) refl
 
   -- one without
@@ -96,7 +96,7 @@ module _ {lines : ℕ} (w : Within (Lines lines)) (part : Lists.List ℕ) {s : S
                 let rest = all-lines more k part-counted z′ in
                 ap (λ j. surveyed (ending k (linesOf more)) j Accepted)
                 (let c : lines - 1 + length (stepCalls lines (linesOf (part ++ more))) ≡ k - 1 + length (stepCalls k (linesOf more))
-                    = omega (arith, all .0, rest .0, counted, pieces-on more h, w .0) in c)
+                = omega (arith, all .0, rest .0, counted, pieces-on more h, w .0) in c)
 
 -- THE FIRST PART, unless it is empty
 module _ (part : Lists.List ℕ) (some : 0 < length part) {l : Lists.List ℕ} (p : l ≡ take 18 part) where
