@@ -20,8 +20,8 @@ use Rattle.transition.specs.Forms.{Form, TableAnswer, freshTable, answered, ste
 use Rattle.transition.specs.Questions.{topHolders, Tells}
 use Rattle.transition.specs.Logs.{fitsNext, atFront, right}
 use Rattle.transition.specs.Samples.{Sample, digitsBelow, labelsBelow, reaches, scanShows, topHeld, numbersDo, numbersFound, logRight, logWrong, answers, replies}
-use Rattle.transition.specs.Samples.{callWith, call, takesJob, labelled, shown, order, shownBy, Holds, one, two, three, nine, together, stalled, absent}
-use Rattle.transition.specs.Samples.{overtaken, scanned, ended, codes, codesWith, ascii, twoOfThree, samples, habitSamples, serviceSamples, topSamples}
+use Rattle.transition.specs.Samples.{callWith, call, takesJob, labelled, shown, order, shownBy, SampleHolds, one, two, three, nine, together, stalled, absent}
+use Rattle.transition.specs.Samples.{overtaken, scanBytes, scanEnded, codes, codesWith, ascii, twoOfThree, samples, habitSamples, serviceSamples, topSamples}
 use Rattle.transition.specs.Samples.{numberSamples, logSamples, refusalSamples, reportSamples, SamplesHold}
 use Rattle.simulation.proofs.Follow as Follow
 use Rattle.simulation.proofs.Simulation.{numbering}
@@ -66,8 +66,8 @@ Computed (scanShows n cs k l) = (within 2 32 n ≡ true) × (shownBy k (left n c
 Computed (topHeld n cs k) = (within 2 32 n ≡ true) × (topHolders n (left n cs .labels) ≡ k)
 Computed (numbersDo n cs ns) = (within 2 32 n ≡ true) × Follow.Numbers original n (digits n) (λ p. 1) cs ns
 Computed (numbersFound n cs ns) = numbersOf original n cs ≡ ns
-Computed (logRight n cs ns l) = right original n (fresh 0) ns (scanned l) cs ≡ true
-Computed (logWrong n cs ns l) = right original n (fresh 0) ns (scanned l) cs ≡ false
+Computed (logRight n cs ns l) = right original n (fresh 0) ns (scanBytes l) cs ≡ true
+Computed (logWrong n cs ns l) = right original n (fresh 0) ns (scanBytes l) cs ≡ false
 Computed (answers n cs xs ks) = (within 2 32 n ≡ true) × (map (λ c. step original n (digits n) (left n cs) c .refusal) xs ≡ ks)
 Computed (replies n cs c k r) =
     let a = step original n (digits n) (left n cs) c in
@@ -126,7 +126,7 @@ numbered = refl and refl and refl and (refl, numbering 3 (omega arith) _ .0) and
 
 logs : All Computed logSamples
 unfolding right fitsNext atFront numberBefore snapsOf unless judgeIn pendingAfter relabelled scanOf carryOut step every firstFrom newest inserted ordered
-    passing reportLines reportLine lineHead lineTail scanned call callWith labelled one two three overtaken ended
+    passing reportLines reportLine lineHead lineTail scanBytes call callWith labelled one two three overtaken scanEnded
 logs = refl and refl and refl and refl and refl and refl and refl and refl and refl and refl and refl and refl and tt
 
 refusals : All Computed refusalSamples
@@ -155,7 +155,7 @@ module _ (F : Form) (L : Lawful F) where
         r : ReachedTable F n table
         r = table-after F L n low high cs (freshTable F n) (table-fresh F L n low high)
 
-  told : (x : Sample) → Computed x → Holds F x
+  told : (x : Sample) → Computed x → SampleHolds F x
   told (digitsBelow d e) h = h
   told (labelsBelow a b) h = h
   told (reaches n cs l o) h =
@@ -168,8 +168,8 @@ module _ (F : Form) (L : Lawful F) where
       (reached-tells F L n (b .0) (b .1) _ (table-after F L n (b .0) (b .1) cs (freshTable F n) (table-fresh F L n (b .0) (b .1))))
   told (numbersDo n cs ns) h = let b = within-true 2 32 n (h .0) in numbers-do F L n (b .0) (b .1) (h .1)
   told (numbersFound n cs ns) h = h
-  told (logRight n cs ns l) h = right-exactly original n cs ns (scanned l) .0 h
-  told (logWrong n cs ns l) h = λ r. tf (right-exactly original n cs ns (scanned l) .1 r) h
+  told (logRight n cs ns l) h = right-exactly original n cs ns (scanBytes l) .0 h
+  told (logWrong n cs ns l) h = λ r. tf (right-exactly original n cs ns (scanBytes l) .1 r) h
   told (answers n cs xs ks) h =
       let b = within-true 2 32 n (h .0) in
       ap (λ f. map f xs) (fun-ext (λ c. ap (λ (a : TableAnswer (F .Table)). a .refusal) (stepped n (b .0) (b .1) cs c)))
@@ -184,5 +184,5 @@ module _ (F : Form) (L : Lawful F) where
       each samples scope and each habitSamples habits and each serviceSamples service and each topSamples shared and each numberSamples numbered
       and each logSamples logs and each refusalSamples refusals and each reportSamples reports and tt
     where
-      each : (l : Lists.List Sample) → All Computed l → All (Holds F) l
-      each = all-weaken {P = Computed} {Q = Holds F} told
+      each : (l : Lists.List Sample) → All Computed l → All (SampleHolds F) l
+      each = all-weaken {P = Computed} {Q = SampleHolds F} told

@@ -16,7 +16,7 @@ use Rattle.schedule.specs.Lines.{lineRead, headerRead}
 use Rattle.schedule.specs.Sessions.{serveOf}
 use Rattle.schedule.specs.Files.{cut, runLines, fileRun}
 use Rattle.schedule.specs.Before.{asStates}
-use Rattle.schedule.specs.Samples.{FileSample, texts, Prints, listing, refusals, incomplete, headers, FileSamplesHold}
+use Rattle.schedule.specs.Samples.{FileSample, texts, FilePrints, listing, refusals, incomplete, headers, FileSamplesHold}
 use Rattle.schedule.proofs.FileTheorem.{same-report}
 use Rattle.schedule.proofs.Before.{states-lawful}
 
@@ -27,5 +27,5 @@ unfolding every count firstFrom newest inserted ordered passing lineHead lineTai
 computed = (refl, (refl, (refl, (refl, (refl, (refl, (refl, (refl, (refl, (refl, (refl, (refl, tt))))))))))))
 
 pub file-samples-hold : (F : Form) → Lawful F → FileSamplesHold F
-file-samples-hold F L = all-weaken {P = Prints (asStates original)} {Q = Prints F}
+file-samples-hold F L = all-weaken {P = FilePrints (asStates original)} {Q = FilePrints F}
     (λ x e. same-report F (asStates original) L states-lawful (texts (x .file)) ∙ e) (listing ∷ refusals ∷ incomplete ++ headers) computed

@@ -23,8 +23,8 @@ unfoldable pub texts : Lists.List String → Lists.List ℕ
 texts [] = []
 texts (s ∷ l) = ascii s ++ texts l
 
-abbrev pub Prints : Form → FileSample → Type 0
-Prints F x = fileReport F (texts (x .file)) ≡ texts (x .report)
+abbrev pub FilePrints : Form → FileSample → Type 0
+FilePrints F x = fileReport F (texts (x .file)) ≡ texts (x .report)
 
 -- 01's listing: its line 7 is refused by 4 (02, Card 1), and its line 8 shows station 1 alone (02, Card 2)
 abbrev pub listing : FileSample
@@ -100,4 +100,4 @@ headers =
 
 -- THEY ALL HOLD of the tables of a form
 abbrev pub FileSamplesHold : Form → Type 0
-FileSamplesHold F = All (Prints F) (listing ∷ refusals ∷ incomplete ++ headers)
+FileSamplesHold F = All (FilePrints F) (listing ∷ refusals ∷ incomplete ++ headers)

@@ -26,7 +26,7 @@ use Rattle.arrays.specs.Sizes.{Shaped}
 use Rattle.arrays.proofs.States.{written-held}
 use Rattle.engine.specs.Contracts.{Named, placeIn, Hands}
 use Rattle.engine.proofs.Reports.{result-length}
-use Rattle.table.specs.Tables.{blank, rowsOf, entriesOf, apart, together, declared}
+use Rattle.table.specs.Tables.{blank, rowsOf, entriesOf, takenApart, putTogether, declared}
 use Rattle.table.proofs.Apart.{element, Whole, apart-shaped, declared-written}
 use Rattle.step.specs.Contracts.{firstEntries, reportOf, HandsEntries}
 use Rattle.moves.specs.declared.Request.{Request}
@@ -38,25 +38,25 @@ use Rattle.step.specs.declared.Unfilled.{Unfilled}
 module _ (t : Table) (w : Whole t) (c : Call) where
   -- both forms give the same number and the same report
   record Alike : Type 0 where
-    number : stepOf declared t c .refusal ≡ stepOf lent (apart t) c .refusal
-    report : stepOf declared t c .report ≡ stepOf lent (apart t) c .report
+    number : stepOf declared t c .refusal ≡ stepOf lent (takenApart t) c .refusal
+    report : stepOf declared t c .report ≡ stepOf lent (takenApart t) c .report
 
-  alike-by : (b : Bool) → wellFormed (apart t) ≡ b → Alike
-  unfolding apart
+  alike-by : (b : Bool) → wellFormed (takenApart t) ≡ b → Alike
+  unfolding takenApart
   alike-by true e =
       let p = step-written declared t c e in
-      let q = step-written lent (apart t) c e in
+      let q = step-written lent (takenApart t) c e in
       record { number = ap (λ x. x .refusal) p ∙ sym (ap (λ x. x .refusal) q); report = ap (λ x. x .report) p ∙ sym (ap (λ x. x .report) q) }
   alike-by false e =
       let p = step-ill-formed declared t c e in
-      let q = step-ill-formed lent (apart t) c e in
+      let q = step-ill-formed lent (takenApart t) c e in
       record { number = ap (λ x. x .refusal) p ∙ sym (ap (λ x. x .refusal) q); report = ap (λ x. x .report) p ∙ sym (ap (λ x. x .report) q) }
 
   alike : Alike
-  alike = alike-by (wellFormed (apart t)) refl
+  alike = alike-by (wellFormed (takenApart t)) refl
 
-  module _ {r r′ : Report} {a a′ : Arrays} {number written : ℕ} (e : a ≡ apart t) (made : Steps lent a c r a′ number written r′) where
-    L : Steps lent (apart t) c r a′ number written r′
+  module _ {r r′ : Report} {a a′ : Arrays} {number written : ℕ} (e : a ≡ takenApart t) (made : Steps lent a c r a′ number written r′) where
+    L : Steps lent (takenApart t) c r a′ number written r′
     L = subst (λ (u : Arrays). Steps lent u c r a′ number written r′) e made
 
     steps-with : {t′ : Table} → t′ ≡ stepOf declared t c .table → Steps declared t c r t′ number written r′
@@ -67,16 +67,16 @@ module _ (t : Table) (w : Whole t) (c : Call) where
     refused-call d = steps-with (sym (ap (λ (x : TableAnswer Table). x .table)
         (step-kept declared t (declared-written t w) c (λ z. d (L .number ∙ sym (alike .number) ∙ z)))))
 
-    accepted : (b : Bool) → wellFormed (apart t) ≡ b → number ≡ 0 → together a′ ≡ stepOf declared t c .table
-    unfolding apart
-    accepted true ok z = ap together (L .table ∙ ap (λ (x : TableAnswer Arrays). x .table) (step-written lent (apart t) c ok))
+    accepted : (b : Bool) → wellFormed (takenApart t) ≡ b → number ≡ 0 → putTogether a′ ≡ stepOf declared t c .table
+    unfolding takenApart
+    accepted true ok z = ap putTogether (L .table ∙ ap (λ (x : TableAnswer Arrays). x .table) (step-written lent (takenApart t) c ok))
         ∙ sym (ap (λ (x : TableAnswer Table). x .table) (step-written declared t c ok))
     accepted false bad z =
-        let x : number ≡ 13 = L .number ∙ ap (λ (x : TableAnswer Arrays). x .refusal) (step-ill-formed lent (apart t) c bad) in
+        let x : number ≡ 13 = L .number ∙ ap (λ (x : TableAnswer Arrays). x .refusal) (step-ill-formed lent (takenApart t) c bad) in
         absurd (omega arith)
 
-    pub accepted-call : number ≡ 0 → {t′ : Table} → t′ ≡ together a′ → Steps declared t c r t′ number written r′
-    accepted-call z q = steps-with (q ∙ accepted (wellFormed (apart t)) refl z)
+    pub accepted-call : number ≡ 0 → {t′ : Table} → t′ ≡ putTogether a′ → Steps declared t c r t′ number written r′
+    accepted-call z q = steps-with (q ∙ accepted (wellFormed (takenApart t)) refl z)
 
 -- an empty buffer stays empty
 pub empty-buffer : {t t′ : Table} {c : Call} {number written : ℕ} (buffer : List.List ℕ) → Steps declared t c (Bytes []) t′ number written (Bytes buffer)
@@ -85,8 +85,8 @@ empty-buffer [] s e = s
 empty-buffer (x ∷ l) s e = absurd (omega arith)
 
 -- what is told of the arrays of a table is told of the table (02, Card 5)
-pub tells-declared : (t : Table) {a : Arrays} {number stations : ℕ} → a ≡ apart t → Tells lent a number stations → Tells declared t number stations
-unfolding apart
+pub tells-declared : (t : Table) {a : Arrays} {number stations : ℕ} → a ≡ takenApart t → Tells lent a number stations → Tells declared t number stations
+unfolding takenApart
 tells-declared t {a} {number} {stations} e s =
     let r = subst (λ (u : Arrays). Tells lent u number stations) e s in record { number = r .number; count = r .count }
 
@@ -111,7 +111,7 @@ first-entries k rows h = tabulate-same k 0 _ _ (λ p l. sym (ap (λ (e : Entry).
 first-rows : (k : ℕ) (es : List.List Entry) → k ≤ 32 → entriesIn k (rowsOf es) ≡ firstEntries k es
 first-rows k es h = tabulate-same k 0 _ _ (λ p l. ap₂ Calls.entry (element _ 0 p (omega arith)) (element _ 0 p (omega arith)))
 
-module _ (t : Table) (w : Whole t) (c : Call) {a a′ : Arrays} {h : Handed} (e : a ≡ apart t) (made : Hands a c a′ h) (es : List.List Entry)
+module _ (t : Table) (w : Whole t) (c : Call) {a a′ : Arrays} {h : Handed} (e : a ≡ takenApart t) (made : Hands a c a′ h) (es : List.List Entry)
     (put : es ≡ entriesOf (getD (a′ .results) (h .place) [])) where
   -- what is handed back, with this table
   abbrev unfilled : Table → Unfilled
@@ -126,7 +126,7 @@ module _ (t : Table) (w : Whole t) (c : Call) {a a′ : Arrays} {h : Handed} (e 
       same = sym (made .report ∙ ap (written (c .line) (c .room))
           (first-entries (h .entries) (getD (a′ .results) (h .place) []) (made .few) ∙ ap (firstEntries (h .entries)) (sym put)))
 
-  entries-there : es ≡ entriesOf (getD (stepOf lent (apart t) c .table .results) (placeIn (apart t) c) [])
+  entries-there : es ≡ entriesOf (getD (stepOf lent (takenApart t) c .table .results) (placeIn (takenApart t) c) [])
   entries-there = put ∙ ap₂ (λ (u : Arrays) (k : ℕ). entriesOf (getD (u .results) k [])) (made .table ∙ ap (λ u. stepOf lent u c .table) e)
       (made .place ∙ ap (λ u. placeIn u c) e)
 
@@ -140,7 +140,7 @@ module _ (t : Table) (w : Whole t) (c : Call) {a a′ : Arrays} {h : Handed} (e 
   pub hands-refused : refusalNumber (h .refusal) ≢ 0 → HandsEntries t c (unfilled t)
   hands-refused d = hands-with (λ given. refused-call t w c e (made-on given) d)
 
-  pub hands-accepted : refusalNumber (h .refusal) ≡ 0 → {t′ : Table} → t′ ≡ together a′ → HandsEntries t c (unfilled t′)
+  pub hands-accepted : refusalNumber (h .refusal) ≡ 0 → {t′ : Table} → t′ ≡ putTogether a′ → HandsEntries t c (unfilled t′)
   hands-accepted z q = hands-with (λ given. accepted-call t w c e (made-on given) z q)
 
 -- its report lines: there is room for them, and with them at the front of the buffer it is the step

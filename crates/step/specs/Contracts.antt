@@ -12,7 +12,7 @@ use Rattle.transition.specs.Sequences.{Steps}
 use Rattle.moves.specs.Moves.{refusalNumber}
 use Rattle.arrays.specs.Form.{lent}
 use Rattle.engine.specs.Contracts.{Named, placeIn}
-use Rattle.table.specs.Tables.{blank, rowsOf, entriesOf, apart, declared}
+use Rattle.table.specs.Tables.{blank, rowsOf, entriesOf, takenApart, declared}
 use Rattle.table.specs.declared.Entry.{Entry}
 use Rattle.table.specs.declared.Table.{Table}
 use Rattle.step.specs.declared.Unfilled.{Unfilled}
@@ -28,7 +28,7 @@ reportOf c r = written (c .line) (c .room) (firstEntries (r .outcome .reply .wri
 -- the entries are those of the stored result at the place of the station, after the call. There is room for those that the call hands out, and their stations
 -- are at most 32; with their report at the front of what is lent, whatever that is, the call is the step.
 pub record HandsEntries (t : Table) (c : Call) (r : Unfilled) : Type 0 where
-  pub entries : r .entries ≡ entriesOf (getD (stepOf lent (apart t) c .table .results) (placeIn (apart t) c) [])
+  pub entries : r .entries ≡ entriesOf (getD (stepOf lent (takenApart t) c .table .results) (placeIn (takenApart t) c) [])
   pub short : r .outcome .reply .written ≤ 32
   pub room : holds (c .room) (r .outcome .reply .written) ≡ true
   pub named : Named (r .outcome .reply .written) (rowsOf (r .entries))

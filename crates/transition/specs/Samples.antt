@@ -66,21 +66,21 @@ pub data Sample : Type 0 where
   replies : ℕ → Lists.List Call → Call → ℕ → Report → Sample
 
 -- the report of one scan, ended by a call with the line number 1, that shows these stations, all with the job 7
-unfoldable pub scanned : Lists.List ℕ → Lists.List ℕ
-scanned l = reportLines 1 1 (map (λ s. entry s 7) l)
+unfoldable pub scanBytes : Lists.List ℕ → Lists.List ℕ
+scanBytes l = reportLines 1 1 (map (λ s. entry s 7) l)
 
-abbrev pub Holds : Form → Sample → Type 0
-Holds F (digitsBelow d e) = below d e ≡ true
-Holds F (labelsBelow a b) = labelBelow (length a) (digit a) (digit b) ≡ true
-Holds F (reaches n cs l o) = let s = F .state (after F (freshTable F n) cs) in (shown n s ≡ l) × (order n s ≡ o)
-Holds F (scanShows n cs k l) = shownBy k (F .state (after F (freshTable F n) cs)) ≡ l
-Holds F (topHeld n cs k) = Tells F (after F (freshTable F n) cs) 0 k
-Holds F (numbersDo n cs ns) = Numbers F n cs ns
-Holds F (numbersFound n cs ns) = numbersOf original n cs ≡ ns
-Holds F (logRight n cs ns l) = Right original n cs ns (scanned l)
-Holds F (logWrong n cs ns l) = Right original n cs ns (scanned l) → ⊥
-Holds F (answers n cs xs ks) = map (λ c. stepOf F (after F (freshTable F n) cs) c .refusal) xs ≡ ks
-Holds F (replies n cs c k r) = let a = stepOf F (after F (freshTable F n) cs) c in (a .refusal ≡ k) × (a .report ≡ r)
+abbrev pub SampleHolds : Form → Sample → Type 0
+SampleHolds F (digitsBelow d e) = below d e ≡ true
+SampleHolds F (labelsBelow a b) = labelBelow (length a) (digit a) (digit b) ≡ true
+SampleHolds F (reaches n cs l o) = let s = F .state (after F (freshTable F n) cs) in (shown n s ≡ l) × (order n s ≡ o)
+SampleHolds F (scanShows n cs k l) = shownBy k (F .state (after F (freshTable F n) cs)) ≡ l
+SampleHolds F (topHeld n cs k) = Tells F (after F (freshTable F n) cs) 0 k
+SampleHolds F (numbersDo n cs ns) = Numbers F n cs ns
+SampleHolds F (numbersFound n cs ns) = numbersOf original n cs ≡ ns
+SampleHolds F (logRight n cs ns l) = Right original n cs ns (scanBytes l)
+SampleHolds F (logWrong n cs ns l) = Right original n cs ns (scanBytes l) → ⊥
+SampleHolds F (answers n cs xs ks) = map (λ c. stepOf F (after F (freshTable F n) cs) c .refusal) xs ≡ ks
+SampleHolds F (replies n cs c k r) = let a = stepOf F (after F (freshTable F n) cs) c in (a .refusal ≡ k) × (a .report ≡ r)
 
 -- lists of one, two and three
 unfoldable pub one : {A : Type 0} → A → Lists.List A
@@ -165,23 +165,23 @@ numberSamples =
 
 -- LOGS (02, Card 7), judged by the unbounded table with their own numbers: the same calls, and the scan ends. Where 1 and 2 share a number, the scan shows 1
 -- before 2, as the table of labels does not.
-unfoldable pub ended : Lists.List Call
-ended = overtaken ++ one (record { line = 1; code = 5; station = 3; job = 0; room = Buffer 928 })
+unfoldable pub scanEnded : Lists.List Call
+scanEnded = overtaken ++ one (record { line = 1; code = 5; station = 3; job = 0; room = Buffer 928 })
 
 -- no log has too few or too many numbers, one that is the top number or above 2^32 - 1, 0 for a station that is not the newest, or another for one that is
 abbrev pub logSamples : Lists.List Sample
 logSamples =
-    logRight 3 ended (1 ∷ 2 ∷ 4 ∷ 3 ∷ []) (three 3 2 1)
-    ∷ logRight 3 ended (1 ∷ 2 ∷ 3 ∷ 3 ∷ []) (three 3 1 2)
-    ∷ logRight 3 ended (1 ∷ 2 ∷ 4294967295 ∷ 7 ∷ []) (three 3 2 1)
+    logRight 3 scanEnded (1 ∷ 2 ∷ 4 ∷ 3 ∷ []) (three 3 2 1)
+    ∷ logRight 3 scanEnded (1 ∷ 2 ∷ 3 ∷ 3 ∷ []) (three 3 1 2)
+    ∷ logRight 3 scanEnded (1 ∷ 2 ∷ 4294967295 ∷ 7 ∷ []) (three 3 2 1)
     ∷ logRight 2 (labelled (three 1 1 2)) (three 1 0 2) []
-    ∷ logWrong 3 ended (1 ∷ 2 ∷ 3 ∷ 3 ∷ []) (three 3 2 1)
-    ∷ logWrong 3 ended (1 ∷ 2 ∷ 3 ∷ 3 ∷ []) (two 3 1)
-    ∷ logWrong 3 ended (three 1 2 3) (three 3 1 2)
-    ∷ logWrong 3 ended (1 ∷ 2 ∷ 3 ∷ 3 ∷ 4 ∷ []) (three 3 1 2)
-    ∷ logWrong 3 ended (1 ∷ 2 ∷ 3 ∷ 2 ∷ []) (three 3 2 1)
-    ∷ logWrong 3 ended (1 ∷ 2 ∷ 4294967296 ∷ 3 ∷ []) (three 3 2 1)
-    ∷ logWrong 3 ended (1 ∷ 2 ∷ 3 ∷ 0 ∷ []) (three 3 2 1)
+    ∷ logWrong 3 scanEnded (1 ∷ 2 ∷ 3 ∷ 3 ∷ []) (three 3 2 1)
+    ∷ logWrong 3 scanEnded (1 ∷ 2 ∷ 3 ∷ 3 ∷ []) (two 3 1)
+    ∷ logWrong 3 scanEnded (three 1 2 3) (three 3 1 2)
+    ∷ logWrong 3 scanEnded (1 ∷ 2 ∷ 3 ∷ 3 ∷ 4 ∷ []) (three 3 1 2)
+    ∷ logWrong 3 scanEnded (1 ∷ 2 ∷ 3 ∷ 2 ∷ []) (three 3 2 1)
+    ∷ logWrong 3 scanEnded (1 ∷ 2 ∷ 4294967296 ∷ 3 ∷ []) (three 3 2 1)
+    ∷ logWrong 3 scanEnded (1 ∷ 2 ∷ 3 ∷ 0 ∷ []) (three 3 2 1)
     ∷ logWrong 2 (labelled (three 1 1 2)) (three 1 2 3) []
     ∷ []
 
@@ -253,5 +253,5 @@ reportSamples =
 
 -- THEY ALL HOLD of the tables of a form
 abbrev pub SamplesHold : Form → Type 0
-SamplesHold F = All (All (Holds F))
+SamplesHold F = All (All (SampleHolds F))
     (samples ∷ habitSamples ∷ serviceSamples ∷ topSamples ∷ numberSamples ∷ logSamples ∷ refusalSamples ∷ reportSamples ∷ [])

@@ -10,7 +10,7 @@ ghost use Rattle.simulation.specs.Machine.{fresh};
 ghost use Rattle.moves.specs.declared.Move.the-variants.{Update};
 ghost use Rattle.moves.specs.Moves.{callOf};
 ghost use Rattle.unbounded.specs.Numbers.{orderBy, NumberedBefore};
-ghost use Rattle.unbounded.specs.Tables.{table, stateOf, Runnable, GivenTo, Turns};
+ghost use Rattle.unbounded.specs.Tables.{table, stateᵘ, Runnableᵘ, GivenTo, Turnsᵘ};
 use arrays::CURRENT;
 use arrays::Control;
 use arrays::Jobs;
@@ -34,8 +34,8 @@ pub fn refresh(
     results: &mut Results,
 )
     requires { ⌜ (2 ≤ n) × (n ≤ 32) ⌝ }
-    ensures { λ _. ⌜ stateOf (table n (now (numbers .exit)) (now (jobs .exit)) (now (control .exit)) (now (results .exit))) ≡ fresh 0 ⌝ }
-    ensures { λ _. ⌜ Runnable (table n (now (numbers .exit)) (now (jobs .exit)) (now (control .exit)) (now (results .exit))) (now (order .exit)) ⌝ }
+    ensures { λ _. ⌜ stateᵘ (table n (now (numbers .exit)) (now (jobs .exit)) (now (control .exit)) (now (results .exit))) ≡ fresh 0 ⌝ }
+    ensures { λ _. ⌜ Runnableᵘ (table n (now (numbers .exit)) (now (jobs .exit)) (now (control .exit)) (now (results .exit))) (now (order .exit)) ⌝ }
 {
     *numbers = [[0u32; 32]; 2];
     arrays::refresh_rest(jobs, control, results);
@@ -113,12 +113,12 @@ pub fn take_turn(
     control: &mut Control,
     results: &mut Results,
 ) -> Turn
-    requires { ⌜ Runnable (table n (now numbers) (now jobs) (now control) (now results)) (now order) ⌝ }
+    requires { ⌜ Runnableᵘ (table n (now numbers) (now jobs) (now control) (now results)) (now order) ⌝ }
     requires { ⌜ used ≤ length (now log) ⌝ }
-    ensures { λ r. ⌜ Turns (table n (now (numbers .entry)) (now (jobs .entry)) (now (control .entry)) (now (results .entry))) (now (order .entry))
+    ensures { λ r. ⌜ Turnsᵘ (table n (now (numbers .entry)) (now (jobs .entry)) (now (control .entry)) (now (results .entry))) (now (order .entry))
         (callOf request (Buffer 928)) (now (log .entry)) used
         (table n (now (numbers .exit)) (now (jobs .exit)) (now (control .exit)) (now (results .exit))) (now (order .exit)) r ⌝ }
-    ensures { λ _. ⌜ Runnable (table n (now (numbers .exit)) (now (jobs .exit)) (now (control .exit)) (now (results .exit))) (now (order .exit)) ⌝ }
+    ensures { λ _. ⌜ Runnableᵘ (table n (now (numbers .exit)) (now (jobs .exit)) (now (control .exit)) (now (results .exit))) (now (order .exit)) ⌝ }
 {
     let z = order[n - 1];
     let task = engine::judge(n, request, control, results, Room::Buffer(928), z);

@@ -23,18 +23,18 @@ returns c = let y = c .before .before in (run-unfit (y .take-turn .ensures .0) _
 
 write-result-requires : tie.Need-write-result-requires
 write-result-requires c κs =
-    let i = c .before .before in
+    let i = c .before .before .before in
     let f = turned i .take-turn .ensures .0 .served (fits i) in
     (f .few, (f .named, omega (arith, f .few, turned i .before .before .before .before .before .before .before .before .pre .1 .1)))
 
 returns-2 : tie.Need-returns-2
 returns-2 c =
     let w = c .before .before in
-    let y = turned (w .before .before .before) in (
-      run-fits (y .take-turn .ensures .0) (fits (w .before .before .before)) _ _ _ (w .write-result .ensures .0) (w .write-result .ensures .1),
+    let y = turned (w .before .before .before .before) in (
+      run-fits (y .take-turn .ensures .0) (fits (w .before .before .before .before)) _ _ _ (w .write-result .ensures .0) (w .write-result .ensures .1),
       y .take-turn .ensures .1,
     )
 
 pub run-line-spec : {M : Type 1} → statement M
-run-line-spec = tie.close (tie.spec (λ c κs. search needs) returns (λ c. omega (arith, low c)) (λ c. omega (arith, low c)) write-result-requires
+run-line-spec = tie.close (tie.spec (λ c κs. search needs) returns (λ c. omega (arith, low (c .before))) (λ c. omega (arith, low (c .before))) write-result-requires
     (λ c. search needs) returns-2)
