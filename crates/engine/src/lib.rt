@@ -371,7 +371,7 @@ pub fn perform(
     )
 }
 
-// A step call with a report buffer. That a refused call leaves the arrays is told by their lengths.
+// A step call with a report buffer. `shaped` tells the lengths of the arrays, by which those that a refused call leaves are the ones that it got.
 pub fn step(
     count: u64,
     request: Request,

@@ -14,7 +14,7 @@ use mir.Syntax.{return}
 use mir.Val.{Val, vptr, vstruct, vnil, vcons}
 use base.Logic.{SProp, ent, emp, via, fst∗, id⊢}
 use base.Fml.{GName, fat, flft, flent}
-use prog.Wp.{Heap, Env, Spot, Calls, Loops, WpFn, Tables, spotOf}
+use prog.Wp.{Heap, Spot, Calls, Loops, WpFn, Tables, spotOf}
 use ghost.Atoms.{Atoms}
 use contract.Monad.{fact}
 use contract.Lifetimes.{Lfts, Shares, toks}

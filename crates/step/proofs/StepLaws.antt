@@ -22,12 +22,10 @@ use Rattle.moves.specs.Moves.{refusalNumber, callOf}
 use Rattle.arrays.specs.Arrays.{Rows, Arrays, cell, entriesIn}
 use Rattle.arrays.specs.WellFormed.{wellFormed}
 use Rattle.arrays.specs.Form.{lent}
-use Rattle.arrays.specs.Sizes.{Shaped}
-use Rattle.arrays.proofs.States.{written-held}
 use Rattle.engine.specs.Contracts.{Named, placeIn, Hands}
 use Rattle.engine.proofs.Reports.{result-length}
 use Rattle.table.specs.Tables.{blank, rowsOf, entriesOf, takenApart, putTogether, declared}
-use Rattle.table.proofs.Apart.{element, Whole, apart-shaped, declared-written}
+use Rattle.table.proofs.Apart.{element, Whole, declared-written}
 use Rattle.step.specs.Contracts.{firstEntries, reportOf, HandsEntries}
 use Rattle.moves.specs.declared.Request.{Request}
 use Rattle.engine.specs.declared.Handed.{Handed}
@@ -55,28 +53,28 @@ module _ (t : Table) (w : Whole t) (c : Call) where
   alike : Alike
   alike = alike-by (wellFormed (takenApart t)) refl
 
-  module _ {r r′ : Report} {a a′ : Arrays} {number written : ℕ} (e : a ≡ takenApart t) (made : Steps lent a c r a′ number written r′) where
-    L : Steps lent (takenApart t) c r a′ number written r′
-    L = subst (λ (u : Arrays). Steps lent u c r a′ number written r′) e made
+  -- what the engine performs on the arrays: the number, and the table that is handed back
+  module _ {a a′ : Arrays} {h : Handed} (e : a ≡ takenApart t) (made : Hands a c a′ h) where
+    L : Hands (takenApart t) c a′ h
+    L = subst (λ (u : Arrays). Hands u c a′ h) e made
 
-    steps-with : {t′ : Table} → t′ ≡ stepOf declared t c .table → Steps declared t c r t′ number written r′
-    steps-with q = steps-of declared (declared-written t w) q (L .number ∙ sym (alike .number)) (L .count ∙ ap size (sym (alike .report)))
-        (L .report ∙ ap (λ b. onto b r) (sym (alike .report)))
+    number-is : refusalNumber (h .refusal) ≡ stepOf declared t c .refusal
+    number-is = L .number ∙ sym (alike .number)
 
-    pub refused-call : number ≢ 0 → Steps declared t c r t number written r′
-    refused-call d = steps-with (sym (ap (λ (x : TableAnswer Table). x .table)
-        (step-kept declared t (declared-written t w) c (λ z. d (L .number ∙ sym (alike .number) ∙ z)))))
+    refused-table : refusalNumber (h .refusal) ≢ 0 → t ≡ stepOf declared t c .table
+    refused-table d =
+        sym (ap (λ (x : TableAnswer Table). x .table) (step-kept declared t (declared-written t w) c (λ z. d (number-is ∙ z))))
 
-    accepted : (b : Bool) → wellFormed (takenApart t) ≡ b → number ≡ 0 → putTogether a′ ≡ stepOf declared t c .table
+    accepted-by : (b : Bool) → wellFormed (takenApart t) ≡ b → refusalNumber (h .refusal) ≡ 0 → putTogether a′ ≡ stepOf declared t c .table
     unfolding takenApart
-    accepted true ok z = ap putTogether (L .table ∙ ap (λ (x : TableAnswer Arrays). x .table) (step-written lent (takenApart t) c ok))
+    accepted-by true ok z = ap putTogether (L .table ∙ ap (λ (x : TableAnswer Arrays). x .table) (step-written lent (takenApart t) c ok))
         ∙ sym (ap (λ (x : TableAnswer Table). x .table) (step-written declared t c ok))
-    accepted false bad z =
-        let x : number ≡ 13 = L .number ∙ ap (λ (x : TableAnswer Arrays). x .refusal) (step-ill-formed lent (takenApart t) c bad) in
+    accepted-by false bad z =
+        let x : refusalNumber (h .refusal) ≡ 13 = L .number ∙ ap (λ (x : TableAnswer Arrays). x .refusal) (step-ill-formed lent (takenApart t) c bad) in
         absurd (omega arith)
 
-    pub accepted-call : number ≡ 0 → {t′ : Table} → t′ ≡ putTogether a′ → Steps declared t c r t′ number written r′
-    accepted-call z q = steps-with (q ∙ accepted (wellFormed (takenApart t)) refl z)
+    accepted-table : refusalNumber (h .refusal) ≡ 0 → {t′ : Table} → t′ ≡ putTogether a′ → t′ ≡ stepOf declared t c .table
+    accepted-table z q = q ∙ accepted-by (wellFormed (takenApart t)) refl z
 
 -- an empty buffer stays empty
 pub empty-buffer : {t t′ : Table} {c : Call} {number written : ℕ} (buffer : List.List ℕ) → Steps declared t c (Bytes []) t′ number written (Bytes buffer)
@@ -117,14 +115,11 @@ module _ (t : Table) (w : Whole t) (c : Call) {a a′ : Arrays} {h : Handed} (e 
   abbrev unfilled : Table → Unfilled
   unfilled t′ = record { outcome = record { table = t′; reply = record { refusal = h .refusal; written = h .entries } }; entries = es }
 
-  -- whatever is lent, the engine's step with the report of these entries
-  made-on : (given : Report) → let r = reportOf c (unfilled t) in Steps lent a c given a′ (refusalNumber (h .refusal)) (size r) (onto r given)
-  made-on given =
-      steps-of lent (written-held a (subst Shaped (sym e) (apart-shaped t w))) (made .table) (made .number) (ap size same) (ap (λ r. onto r given) same)
-    where
-      same : reportOf c (unfilled t) ≡ stepOf lent a c .report
-      same = sym (made .report ∙ ap (written (c .line) (c .room))
-          (first-entries (h .entries) (getD (a′ .results) (h .place) []) (made .few) ∙ ap (firstEntries (h .entries)) (sym put)))
+  -- their report
+  report-is : reportOf c (unfilled t) ≡ stepOf declared t c .report
+  report-is = sym (made .report ∙ ap (written (c .line) (c .room))
+      (first-entries (h .entries) (getD (a′ .results) (h .place) []) (made .few) ∙ ap (firstEntries (h .entries)) (sym put)))
+      ∙ ap (λ (u : Arrays). stepOf lent u c .report) e ∙ sym (alike t w c .report)
 
   entries-there : es ≡ entriesOf (getD (stepOf lent (takenApart t) c .table .results) (placeIn (takenApart t) c) [])
   entries-there = put ∙ ap₂ (λ (u : Arrays) (k : ℕ). entriesOf (getD (u .results) k [])) (made .table ∙ ap (λ u. stepOf lent u c .table) e)
@@ -133,15 +128,20 @@ module _ (t : Table) (w : Whole t) (c : Call) {a a′ : Arrays} {h : Handed} (e 
   named-there : Named (h .entries) (rowsOf es)
   named-there p l = rw put (omega (arith, cell-station (getD (a′ .results) (h .place) []) p (omega (arith, made .few)), made .named p l))
 
-  hands-with : {t′ : Table} → ((given : Report) → let r = reportOf c (unfilled t) in
-      Steps declared t c given t′ (refusalNumber (h .refusal)) (size r) (onto r given)) → HandsEntries t c (unfilled t′)
-  hands-with s = record { entries = entries-there; short = made .few; room = made .room; named = named-there; steps = s }
+  hands-with : {t′ : Table} → t′ ≡ stepOf declared t c .table → HandsEntries t c (unfilled t′)
+  hands-with q = record {
+    entries = entries-there;
+    short = made .few;
+    room = made .room;
+    named = named-there;
+    steps = λ given. steps-of declared (declared-written t w) q (number-is t w c e made) (ap size report-is) (ap (λ r. onto r given) report-is);
+  }
 
   pub hands-refused : refusalNumber (h .refusal) ≢ 0 → HandsEntries t c (unfilled t)
-  hands-refused d = hands-with (λ given. refused-call t w c e (made-on given) d)
+  hands-refused d = hands-with (refused-table t w c e made d)
 
   pub hands-accepted : refusalNumber (h .refusal) ≡ 0 → {t′ : Table} → t′ ≡ putTogether a′ → HandsEntries t c (unfilled t′)
-  hands-accepted z q = hands-with (λ given. accepted-call t w c e (made-on given) z q)
+  hands-accepted z q = hands-with (accepted-table t w c e made z q)
 
 -- its report lines: there is room for them, and with them at the front of the buffer it is the step
 module _ {t : Table} {q : Request} (r : Unfilled) (b : List.List ℕ) (s : HandsEntries t (callOf q (Buffer (length b))) r) {rows : Rows}

@@ -12,7 +12,7 @@ use Rattle.transition.specs.Forms.{Form, TableAnswer, onto, stepOf}
 use Rattle.transition.specs.Demand.{seenIn, unbounded, Demand3}
 
 -- the call c on the table t with what is lent for its report: the table left, the refusal number, the count of bytes or records, and what is left of what was
--- lent, all of it from `stepOf`. A refused call leaves the table, writes nothing and leaves what was lent (01, demand 1).
+-- lent, all of it from `stepOf`. A refused call leaves the table, writes nothing and leaves what was lent (01, "When a step is turned down").
 pub record Steps (F : Form) (t : F .Table) (c : Call) (lent : Report) (t′ : F .Table) (refusal written : ℕ) (lent′ : Report) : Type 0 where
   pub table : t′ ≡ stepOf F t c .table
   pub number : refusal ≡ stepOf F t c .refusal
