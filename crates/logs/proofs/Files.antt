@@ -161,7 +161,7 @@ pub log-checked : {bs list report : Lists.List ℕ} {c : Progress} {t : Table} {
 log-checked {bs} {list} {report} {c} {t} {buffer = buffer} {c′} {t′} {buffer′ = buffer′} b f g e =
     let all = take-all (length list) list (omega arith) in
     let w = log-told bs list (record { check = c; table = t; buffer = buffer }) (record { check = c′; table = t′; buffer = buffer′ }) b (report ∷ [])
-        (record { check = c′; table = t′; buffer = buffer′ }, f, refl) g (f .drained) e in
+    (record { check = c′; table = t′; buffer = buffer′ }, f, refl) g (f .drained) e in
     let whole = append-nil report in record {
       number = sym (b .accepted);
       refused = λ d. absurd (d refl);
