@@ -2,7 +2,7 @@
 use Prim.Native.Nat.{ℕ, _+_, _-_, _*_, _≤_, _<_}
 use native.Mathlib.Nat.{zero-add}
 use native.Mathlib.Omega.{arith}
-use mathlib.Core.Path.{_≡_, refl, sym, ap, _∙_}
+use mathlib.Core.Path.{_≡_, refl, sym, ap, subst, _∙_}
 use mathlib.Core.Logic.{_≢_, _⊎_, inl, inr, ⊎-elim}
 use mathlib.Core.Bool.{Bool, true, false, cond, true≢false}
 use mathlib.Core.List as Lists
@@ -25,7 +25,9 @@ use Rattle.schedule.proofs.Surveys.{all-lines, survey-parts, firstOf, surveyed-
 use Rattle.schedule.specs.declared.Header.the-variants as Headers
 use Rattle.schedule.specs.declared.Header.the-variants.{Stations}
 use Rattle.schedule.specs.declared.Survey.{Survey}
-use Rattle.intake.specs.Contracts.{ahead, isSettled, Within, linesLeft, Cut, ReadsPart, TooLong}
+use Rattle.intake.specs.Contracts.{ahead, isSettled, Within, linesLeft, Cut, ReadsPart, TooLong, Taken}
+use Rattle.intake.specs.declared.Intake.{Intake}
+use Rattle.intake.specs.declared.Intake.the-variants as Intakes
 use Rattle.intake.specs.declared.Reading.{Reading}
 use Rattle.intake.specs.declared.Reading.the-variants.{Start, Lines, Refused}
 
@@ -260,3 +262,9 @@ module _ {part : Lists.List ℕ} {reading : Reading} (f : Sofar part reading) wh
 
     pub sofar-fewer : length part′ ≡ 73764 → length part′ ≤ k → isSettled reading ≡ false → linesLeft reading′ < linesLeft reading
     sofar-fewer e l s = omega (arith, g .fewer, sofar-left s, length-take-le k part′ h)
+
+-- A WHOLE FILE lies within the buffer
+pub whole-inside : (part : Lists.List ℕ) (i : Intake) (k : ℕ) → Taken part i → i ≡ Intakes.Whole k → (k ≤ length part) × (k ≡ length (take k part))
+whole-inside part i k f e =
+    let room : k < length part = subst (Taken part) e f in
+    (omega arith, sym (length-take-le k part (omega arith)))

@@ -280,7 +280,7 @@ fn begin(
 }
 
 // Starts the check of a log in files: a schedule, and numbers that are printed each on a line of its own.
-pub fn open(
+pub fn start(
     file: &[u8],
     bytes: &[u8],
     list: &mut [u64; 4096],

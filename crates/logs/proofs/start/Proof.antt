@@ -3,8 +3,8 @@ use mathlib.Core.Path.{_≡_}
 use lib.ListN.{length}
 use Rattle.logs.proofs.Files.{begins-file}
 use borrow.Author.Needs.{needs}
-use Rattle.logs.proofs.open.Statement.{statement}
-use Rattle.logs.proofs.open.Tie as tie
+use Rattle.logs.proofs.start.Statement.{statement}
+use Rattle.logs.proofs.start.Tie as tie
 
 returns : tie.Need-returns
 returns c =
@@ -16,5 +16,5 @@ returns c =
     begins-file (s .file .now) (r .read-numbers .ensures) size (left .1 .0) (left .1 .1 .0) (left .1 .1 .1 .0) (left .1 .1 .1 .1 .0) (left .0)
     (left .1 .1 .1 .1 .1 .0) (b .begin .result) (b .begin .ensures)
 
-pub open-spec : {M : Type 1} → statement M
-open-spec = tie.close (tie.spec (λ c κs. search needs) (λ c κs. search needs) (λ c. search needs) returns)
+pub start-spec : {M : Type 1} → statement M
+start-spec = tie.close (tie.spec (λ c κs. search needs) (λ c κs. search needs) (λ c. search needs) returns)
