@@ -22,21 +22,23 @@ use Rattle.transition.specs.Forms.{Form, TableAnswer, over, onto, answered, ste
 use Rattle.transition.specs.Questions.{topHolders, Tells}
 use Rattle.transition.specs.Sequences.{Steps}
 use Rattle.transition.proofs.Theorem.{step-written, step-ill-formed}
-use Rattle.moves.specs.Moves.{refusalNumber, moveOf, called}
+use Rattle.transition.proofs.Sequences.{steps-of}
+use Rattle.moves.specs.Moves.{refusalNumber, moveOf, called, directly, callOf}
 use Rattle.moves.proofs.MoveLaws.{by-move, begun-job, place-below}
 use Rattle.arrays.specs.Arrays.{Rows, Planes, Arrays, cell, phaseNumber, phaseFor, outFor, entriesIn, shownIn, restIn, restOf, stateOf, Holds}
 use Rattle.arrays.specs.WellFormed.{wellFormed}
 use Rattle.arrays.specs.Form.{lent}
+use Rattle.arrays.specs.Sizes.{Shaped}
 use Rattle.arrays.proofs.Passed.{passed, label-digits}
-use Rattle.arrays.proofs.States.{number-back}
+use Rattle.arrays.proofs.States.{number-back, written-held}
 use Rattle.engine.specs.Scans.{orderOf}
-use Rattle.engine.specs.Contracts.{directly, callOf, actionOf, Prepared, PreparedRest, handsOut, due, outcomeOf, Named, Carries, Judges, Hands}
+use Rattle.engine.specs.Contracts.{actionOf, Prepared, PreparedRest, handsOut, due, outcomeOf, Named, Carries, Judges, Hands}
 use Rattle.engine.specs.Contracts.{rowOf, recordOf}
 use Rattle.engine.proofs.Reports.{result-length, records-read}
 use Rattle.moves.specs.declared.Move.{Move}
 use Rattle.moves.specs.declared.Move.the-variants.{BeginLabel, SnapLabel, SnapScan, EndScan}
 use Rattle.moves.specs.declared.Refusal.{Refusal}
-use Rattle.engine.specs.declared.Request.{Request}
+use Rattle.moves.specs.declared.Request.{Request}
 use Rattle.engine.specs.declared.Task.{Task}
 use Rattle.engine.specs.declared.Handed.{Handed}
 
@@ -247,38 +249,28 @@ module _ {a a′ : Arrays} {c : Call} {r : Handed} (h : Hands a c a′ r) where
   pub bytes-fit : (b : ℕ) → c .room ≡ Calls.Buffer b → r .entries * 29 ≤ b
   bytes-fit b e = leb-true (r .entries * 29) b (ap (λ x. holds x (r .entries)) (sym e) ∙ h .room)
 
-  pub steps-bytes : {buffer buffer′ : Lists.List ℕ} {k : ℕ} → c .room ≡ Calls.Buffer (length buffer) → k ≡ r .entries * 29
+  pub steps-bytes : Shaped a → {buffer buffer′ : Lists.List ℕ} {k : ℕ} → c .room ≡ Calls.Buffer (length buffer) → k ≡ r .entries * 29
       → buffer′ ≡ over (reportLines (c .line) 1 entries) buffer
       → Steps lent a c (Calls.Bytes buffer) a′ (refusalNumber (r .refusal)) k (Calls.Bytes buffer′)
-  steps-bytes {buffer} e w f =
+  steps-bytes g {buffer} e w f =
       let s : stepOf lent a c .report ≡ Calls.Bytes (reportLines (c .line) 1 entries) = h .report ∙ ap (λ x. written (c .line) x entries) e in
-      record {
-        table = h .table;
-        number = h .number;
-        count = w ∙ sym (result-length (c .line) (r .entries) (getD (a′ .results) (r .place) [])) ∙ sym (ap size s);
-        report = ap Calls.Bytes f ∙ sym (ap (λ x. onto x (Calls.Bytes buffer)) s);
-      }
+      steps-of lent (written-held a g) (h .table) (h .number)
+      (w ∙ sym (result-length (c .line) (r .entries) (getD (a′ .results) (r .place) [])) ∙ sym (ap size s))
+      (ap Calls.Bytes f ∙ sym (ap (λ x. onto x (Calls.Bytes buffer)) s))
 
   -- to a panel
-  pub records-fit : (b : ℕ) → c .room ≡ Calls.Panel b → r .entries ≤ b
-  records-fit b e = leb-true (r .entries) b (ap (λ x. holds x (r .entries)) (sym e) ∙ h .room)
-
-  pub steps-records : {panel panel′ : Lists.List PanelRecord} → c .room ≡ Calls.Panel (length panel) → panel′ ≡ over (panelRecords 1 entries) panel
-      → Steps lent a c (Calls.Records panel) a′ (refusalNumber (r .refusal)) (r .entries) (Calls.Records panel′)
-  steps-records {panel} e f =
+  steps-records : Shaped a → {panel panel′ : Lists.List PanelRecord} → c .room ≡ Calls.Panel (length panel)
+      → panel′ ≡ over (panelRecords 1 entries) panel → Steps lent a c (Calls.Records panel) a′ (refusalNumber (r .refusal)) (r .entries) (Calls.Records panel′)
+  steps-records g {panel} e f =
       let s : stepOf lent a c .report ≡ Calls.Records (panelRecords 1 entries) = h .report ∙ ap (λ x. written (c .line) x entries) e in
-      record {
-        table = h .table;
-        number = h .number;
-        count = sym (records-length 1 entries ∙ length-tabulate (r .entries) 0 _) ∙ sym (ap size s);
-        report = ap Calls.Records f ∙ sym (ap (λ x. onto x (Calls.Records panel)) s);
-      }
+      steps-of lent (written-held a g) (h .table) (h .number) (sym (records-length 1 entries ∙ length-tabulate (r .entries) 0 _) ∙ sym (ap size s))
+      (ap Calls.Records f ∙ sym (ap (λ x. onto x (Calls.Records panel)) s))
 
   -- whose records are rows of three numbers
-  pub steps-rows : (panel panel′ : Rows) → c .room ≡ Calls.Panel (length panel) → panel′ ≡ over (map rowOf (panelRecords 1 entries)) panel
+  pub steps-rows : Shaped a → (panel panel′ : Rows) → c .room ≡ Calls.Panel (length panel) → panel′ ≡ over (map rowOf (panelRecords 1 entries)) panel
       → Steps lent a c (Calls.Records (map recordOf panel)) a′ (refusalNumber (r .refusal)) (r .entries) (Calls.Records (map recordOf panel′))
-  steps-rows panel panel′ e f =
-      steps-records (e ∙ ap Calls.Panel (sym (length-map panel recordOf))) (ap (map recordOf) f ∙ records-read (panelRecords 1 entries) panel)
+  steps-rows g panel panel′ e f =
+      steps-records g (e ∙ ap Calls.Panel (sym (length-map panel recordOf))) (ap (map recordOf) f ∙ records-read (panelRecords 1 entries) panel)
 
 -- A DIRECT CALL, on tables of any form
 pub steps-directly : (F : Form) {t t′ : F .Table} {r r′ : Report} {number k : ℕ} (code station job : ℕ) (room : Room) (q : Request)

@@ -14,25 +14,17 @@ use Rattle.simulation.specs.Calls.{Room, Call, holds, judgeIn, PanelRecord, wri
 use Rattle.simulation.specs.Machine as Machine
 use Rattle.simulation.specs.Machine.{digits, State, labelsAfter, outcome, carryOut}
 use Rattle.transition.specs.Forms.{stepOf}
-use Rattle.moves.specs.Moves.{refusalNumber, moveOf, called, placeOf}
+use Rattle.moves.specs.Moves.{refusalNumber, moveOf, callOf, placeOf}
 use Rattle.arrays.specs.Arrays.{Rows, Planes, Arrays, cell, phaseFor, outFor, entriesIn, shownIn, restIn, labelsIn, stateOf, labelsOf, arraysOf, Holds}
 use Rattle.arrays.specs.WellFormed.{wellFormed}
 use Rattle.arrays.specs.Form.{lent}
 use Rattle.engine.specs.Scans.{orderOf}
+use Rattle.moves.specs.declared.Request.{Request}
 use Rattle.moves.specs.declared.Move.{Move}
 use Rattle.moves.specs.declared.Move.the-variants as Moves
 use Rattle.moves.specs.declared.Move.the-variants.{Refused, BeginLabel, SnapLabel, SnapScan, EndLabel, EndScan, LeaveService, ReturnToService}
-use Rattle.engine.specs.declared.Request.{Request}
 use Rattle.engine.specs.declared.Task.{Task}
 use Rattle.engine.specs.declared.Handed.{Handed}
-
--- a request as a call with what is lent for its report
-abbrev pub callOf : Request → Room → Call
-callOf q room = called (q .line) (q .code) (q .station) (q .job) room
-
--- the request of a direct call: its report lines bear the number 0 (01, "The schedule file and the report")
-abbrev pub directly : ℕ → ℕ → ℕ → Request
-directly code station job = record { code = code; station = station; job = job; line = 0 }
 
 -- a task as a move of the machine
 abbrev pub actionOf : Task → Calls.Move

@@ -12,14 +12,14 @@ ghost use Rattle.simulation.specs.Machine.{digits, labelStep, relabelled};
 ghost use Rattle.transition.specs.Forms.{over};
 ghost use Rattle.transition.specs.Questions.{Tells};
 ghost use Rattle.transition.specs.Sequences.{Steps};
-ghost use Rattle.moves.specs.Moves.{roomOf, refusalNumber, moveOf};
+ghost use Rattle.moves.specs.Moves.{roomOf, refusalNumber, moveOf, callOf};
 ghost use Rattle.moves.specs.declared.Move.the-variants.{SnapLabel, SnapScan};
 ghost use Rattle.moves.specs.declared.Refusal.the-variants.{Accepted};
 ghost use Rattle.arrays.specs.Arrays.{arrays, entriesIn, shownIn, labelsIn, labelsOf};
 ghost use Rattle.arrays.specs.WellFormed.{wellFormed};
 ghost use Rattle.arrays.specs.Form.{lent};
 ghost use Rattle.engine.specs.Scans.{orderOf, found, scanRows};
-ghost use Rattle.engine.specs.Contracts.{directly, callOf, Prepared, PreparedRest, PreparedLabels, restAfter, CarriesRest};
+ghost use Rattle.engine.specs.Contracts.{Prepared, PreparedRest, PreparedLabels, restAfter, CarriesRest};
 ghost use Rattle.engine.specs.Contracts.{due, Named, Carries, Judges, Hands, rowOf, recordOf};
 use arrays::CURRENT;
 use arrays::Control;
@@ -36,6 +36,7 @@ use arrays::SNAP;
 use arrays::UPDATE;
 use moves::Move;
 use moves::Refusal;
+use moves::Request;
 use moves::Room;
 use moves::Standing;
 
@@ -48,26 +49,6 @@ const SERVICE: usize = 1;
 pub struct Reply {
     pub refusal: Refusal,
     pub written: usize,
-}
-
-// A step call as its caller makes it; report lines bear the number `line`.
-pub struct Request {
-    pub code: u64,
-    pub station: u64,
-    pub job: u64,
-    pub line: u64,
-}
-
-// A direct call: its report lines bear the number 0.
-pub fn direct(code: u64, station: u64, job: u64) -> Request
-    ensures { λ r. ⌜ r ≡ directly code station job ⌝ }
-{
-    Request {
-        code,
-        station,
-        job,
-        line: 0,
-    }
 }
 
 // A call that has been judged: its move, the place of its station, its job, the newest station, and how many entries the end of a scan hands out.
@@ -130,7 +111,7 @@ pub fn write_result(rows: &[[u32; 32]; 2], k: usize, line: u64, out: &mut [u8]) 
     while p < k {
         let at = p * 29;
         let head = columns::head_of(out);
-        columns::write_listed_line(
+        columns::write_scan_line(
             &mut out[at..at + 29],
             head,
             (p + 1) as u32,
@@ -231,11 +212,11 @@ pub fn carry_rest(
             accepted(place, 0)
         }
         Move::EndLabel => {
-            control[PHASE][place] = IDLE;
+            control[PHASE][place] = IDLE; // pending label and job stay
             accepted(place, 0)
         }
         Move::EndScan => {
-            control[PHASE][place] = IDLE;
+            control[PHASE][place] = IDLE; // the result stays
             accepted(place, task.shown)
         }
         Move::LeaveService => {
@@ -390,7 +371,7 @@ pub fn perform(
     )
 }
 
-// A step call with a report buffer.
+// A step call with a report buffer. `shaped` tells the lengths of the arrays, by which those that a refused call leaves are the ones that it got.
 pub fn step(
     count: u64,
     request: Request,
@@ -405,6 +386,7 @@ pub fn step(
         (arrays count (now (labels .exit)) (now (jobs .exit)) (now (control .exit)) (now (results .exit)))
         (refusalNumber (r .refusal)) (r .written) (Bytes (now (report .exit))) ⌝ }
 {
+    arrays::shaped(*labels, *jobs, *control, *results);
     let room = Room::Buffer(report.len());
     let h = perform(count, request, room, labels, jobs, control, results);
     let refusal = h.refusal;
@@ -428,6 +410,7 @@ pub fn step_shown(
         (arrays count (now (labels .exit)) (now (jobs .exit)) (now (control .exit)) (now (results .exit)))
         (refusalNumber (r .refusal)) (r .written) (Records (map recordOf (now (panel .exit)))) ⌝ }
 {
+    arrays::shaped(*labels, *jobs, *control, *results);
     let room = Room::Panel(panel.len());
     let h = perform(count, request, room, labels, jobs, control, results);
     let refusal = h.refusal;

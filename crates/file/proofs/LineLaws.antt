@@ -21,7 +21,7 @@ use Rattle.simulation.proofs.Touched.{touched, labels-kept}
 use Rattle.transition.specs.Forms.{Form, TableAnswer, over, freshTable, stepOf, after}
 use Rattle.transition.proofs.Theorem.{step-kept, reached-held, reached-written, reached-next}
 use Rattle.transition.proofs.Theorem.{ReachedTable, table-fresh, table-count, table-passes, table-step, table-after}
-use Rattle.moves.specs.Moves.{refusalNumber, moveOf}
+use Rattle.moves.specs.Moves.{refusalNumber, moveOf, callOf}
 use Rattle.moves.proofs.MoveLaws.{by-move}
 use Rattle.moves.specs.declared.Move.{Move}
 use Rattle.moves.specs.declared.Move.the-variants.{Update}
@@ -30,12 +30,12 @@ use Rattle.arrays.specs.WellFormed.{wellFormed}
 use Rattle.arrays.specs.Form.{lent}
 use Rattle.arrays.proofs.States.{lent-lawful}
 use Rattle.engine.specs.Scans.{orderOf}
-use Rattle.engine.specs.Contracts.{callOf, actionOf, Prepared, Carries, Judges, Hands}
+use Rattle.engine.specs.Contracts.{actionOf, Prepared, Carries, Judges, Hands}
 use Rattle.engine.proofs.Reports.{result-length}
 use Rattle.engine.proofs.Served as Served
 use Rattle.engine.proofs.Served.{orderly, ready, judged, served, bytes-fit}
 use Rattle.engine.specs.declared.Handed.{Handed}
-use Rattle.engine.specs.declared.Request.{Request}
+use Rattle.moves.specs.declared.Request.{Request}
 use Rattle.engine.specs.declared.Task.{Task}
 use Rattle.schedule.specs.Files.{printed}
 use Rattle.schedule.proofs.Runs.{printed-accepted}

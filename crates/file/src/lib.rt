@@ -7,13 +7,12 @@ ghost use lib.ListN.{length, take};
 ghost use Rattle.rows.specs.Held.{Orderly, OrderedBefore};
 ghost use Rattle.simulation.specs.Calls.{Buffer};
 ghost use Rattle.transition.specs.Forms.{over, freshTable};
-ghost use Rattle.moves.specs.Moves.{refusalNumber};
+ghost use Rattle.moves.specs.Moves.{refusalNumber, callOf};
 ghost use Rattle.moves.specs.declared.Refusal.the-variants.{Accepted};
 ghost use Rattle.moves.specs.declared.Move.the-variants.{Update};
 ghost use Rattle.arrays.specs.Arrays.{arrays};
 ghost use Rattle.arrays.specs.Form.{lent};
 ghost use Rattle.engine.specs.Scans.{orderOf};
-ghost use Rattle.engine.specs.Contracts.{callOf};
 ghost use Rattle.schedule.specs.Sessions.{session};
 ghost use Rattle.schedule.specs.Files.{cut, pieces, printed, runLines};
 ghost use mathlib.Core.Bool.{cond};
@@ -24,12 +23,12 @@ use arrays::Jobs;
 use arrays::Labels;
 use arrays::Results;
 use engine::Reply;
-use engine::Request;
 use moves::Move;
 use moves::Refusal;
+use moves::Request;
 use moves::Room;
 use schedule::Header;
-use schedule::Line;
+use schedule::Next;
 
 // The most bytes that a line prints: 32 report lines of 29.
 const ROOM: usize = 928;
@@ -160,7 +159,7 @@ fn report_lines(
     let mut count = lines;
     let mut written = 0;
     let mut at = 0;
-    while at < chunk.len() {
+    loop {
         if out.len() - written < ROOM {
             return Progress {
                 lines: count,
@@ -169,10 +168,18 @@ fn report_lines(
                 written,
             };
         }
-        let line = schedule::line_at(chunk, at);
-        let number = count as u64 + 1;
-        match schedule::next_line(count, line) {
-            Line::Refused(refusal) => {
+        match schedule::next_call(count, chunk, at) {
+            Next::End => {
+                return Progress {
+                    lines: count,
+                    refusal: Refusal::Accepted,
+                    read: at,
+                    written,
+                };
+            }
+            Next::Refused(refusal) => {
+                let line = schedule::line_at(chunk, at);
+                let number = count as u64 + 1;
                 let k = print_refusal(number, refusal, &mut out[written..written + ROOM]);
                 return Progress {
                     lines: count,
@@ -181,13 +188,7 @@ fn report_lines(
                     written: written + k,
                 };
             }
-            Line::Step { station, code, job } => {
-                let request = Request {
-                    code,
-                    station,
-                    job,
-                    line: number,
-                };
+            Next::Call(request) => {
                 let k = serve_line(
                     n,
                     request,
@@ -200,15 +201,9 @@ fn report_lines(
                 );
                 count += 1;
                 written += k;
-                at += line.len();
+                at += 18;
             }
         }
-    }
-    Progress {
-        lines: count,
-        refusal: Refusal::Accepted,
-        read: at,
-        written,
     }
 }
 

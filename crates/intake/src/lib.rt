@@ -1,16 +1,91 @@
-// Reading a schedule from a descriptor, for programs that serve at most 4,096 step lines and refuse a longer file before any step is run.
+// Reading a schedule from a descriptor, for programs that serve at most 4,096 step lines and refuse a longer file before any step is run. What is told of a
+// file is decided by functions of its bytes; only the reads stand outside them.
 ghost use mathlib.Core.Path.{_≡_};
-ghost use mathlib.Core.Bool.{true};
-ghost use Prim.Native.Nat.{ℕ, _≤_, _<_};
-ghost use lib.ListN.{length, take};
-ghost use Rattle.schedule.specs.Lines.{headerRead};
-ghost use Rattle.schedule.specs.declared.Header.the-variants.{Stations};
-ghost use Rattle.intake.specs.Contracts.{Taken};
+ghost use mathlib.Core.Bool.{Bool};
+ghost use mathlib.Core.List.{[]};
+ghost use Prim.Native.Nat.{_≤_};
+ghost use lib.ListN.{length};
+ghost use Rattle.intake.specs.Contracts.{ahead, Within, ReadsPart, isSettled, Taken};
+ghost use Rattle.intake.specs.declared.Reading.the-variants.{Start, Lines};
 use moves::Refusal;
 use schedule::Header;
 
 // The bytes of a header and 4,097 step lines, one more than are served: a file that leaves some of them is whole there, and any other is too long.
 pub const ROOM: usize = 73764;
+
+// How far a file is read, of which no line is run: its header is still to come; so many lines are read, the header among them, and none is refused; or it is
+// refused, whatever follows.
+pub enum Reading {
+    Start,
+    Lines(u32),
+    Refused(Refusal),
+}
+
+// Reads a part of a file behind `lines` lines.
+fn read_lines(lines: u32, part: &[u8]) -> Reading
+    requires { ⌜ Within (Lines lines) ⌝ }
+    ensures { λ r. ⌜ ReadsPart (Lines lines) (now (part .entry)) r ⌝ }
+{
+    let s = schedule::survey_lines(lines, part);
+    let refusal = s.refusal;
+    if refusal.number() != 0 {
+        return Reading::Refused(refusal);
+    }
+    Reading::Lines(lines + s.steps)
+}
+
+// Reads the first part of a file.
+fn read_first(part: &[u8]) -> Reading
+    ensures { λ r. ⌜ ReadsPart Start (now (part .entry)) r ⌝ }
+{
+    if part.len() == 0 {
+        return Reading::Start;
+    }
+    let header = schedule::line_at(part, 0);
+    match schedule::read_header(header) {
+        Header::Refused(refusal) => Reading::Refused(refusal),
+        Header::Stations(_) => read_lines(1, schedule::from(part, header.len())),
+    }
+}
+
+// Reads one part more of a file: whole lines, or all that is left of it.
+pub fn read_part(reading: Reading, part: &[u8]) -> Reading
+    requires { ⌜ Within reading ⌝ }
+    ensures { λ r. ⌜ ReadsPart reading (now (part .entry)) r ⌝ }
+{
+    match reading {
+        Reading::Start => read_first(part),
+        Reading::Lines(lines) => read_lines(lines, part),
+        Reading::Refused(refusal) => Reading::Refused(refusal),
+    }
+}
+
+// Whether nothing that follows can change what is told of the file.
+pub fn settled(reading: Reading) -> bool
+    ensures { λ r. ⌜ r ≡ isSettled reading ⌝ }
+{
+    match reading {
+        Reading::Start => false,
+        Reading::Lines(_) => false,
+        Reading::Refused(_) => true,
+    }
+}
+
+// What is told of a file that ends here.
+pub fn told(reading: Reading) -> Refusal
+    ensures { λ r. ⌜ r ≡ ahead reading [] ⌝ }
+{
+    match reading {
+        Reading::Start => Refusal::IncompleteLine,
+        Reading::Lines(lines) => {
+            if 4097 < lines {
+                return Refusal::TooManySteps;
+            }
+            Refusal::Accepted
+        }
+        Reading::Refused(refusal) => refusal,
+    }
+}
 
 // A schedule that was read: it could not be, it is refused, or so many bytes are all of it.
 pub enum Intake {
@@ -19,110 +94,37 @@ pub enum Intake {
     Whole(usize),
 }
 
-// How many lines are counted after a part of a file that is too long, whether there is more to read, and what is told of the file if not.
-struct Turn {
-    lines: u32,
-    more: bool,
-    told: Intake,
-}
-
-// Reads a part of a file that is too long, behind `lines` lines, and runs none of its own. A part that is not full is the last.
-fn read_part(fd: i32, lines: u32, part: &mut [u8], complaint: &[u8]) -> Turn
-    requires { ⌜ (4098 ≤ lines) × (lines ≤ 1000001) ⌝ }
-    requires { ⌜ 0 < length (now part) ⌝ }
-    ensures { λ r. ⌜ (r .more ≡ true → (lines < r .lines) × (r .lines ≤ 1000001)) ⌝ }
-    ensures { λ r. ⌜ Taken (now (part .exit)) (r .told) ⌝ }
-{
-    let r = streams::read_input(fd, part, complaint);
-    if r.failed {
-        return Turn {
-            lines,
-            more: false,
-            told: Intake::Failed,
-        };
-    }
-    let k = r.count;
-    let s = schedule::survey_lines(lines, &part[..k]);
-    let refusal = s.refusal;
-    if refusal.number() != 0 {
-        return Turn {
-            lines,
-            more: false,
-            told: Intake::Refused(refusal),
-        };
-    }
-    Turn {
-        lines: lines + s.steps,
-        more: k == part.len(),
-        told: Intake::Refused(Refusal::TooManySteps),
-    }
-}
-
-// Reads part after part. Each that is not the last counts its lines, which end with the 1,000,001st.
-fn read_parts(fd: i32, lines: u32, part: &mut [u8], complaint: &[u8]) -> Intake
-    requires { ⌜ (4098 ≤ lines) × (lines ≤ 1000001) ⌝ }
-    requires { ⌜ 0 < length (now part) ⌝ }
+// Reads on behind a full buffer, part after part, until the input ends or nothing that follows can change what is told.
+fn read_on(fd: i32, part: &mut [u8], complaint: &[u8]) -> Intake
+    requires { ⌜ length (now part) ≡ 73764 ⌝ }
     ensures { λ r. ⌜ Taken (now (part .exit)) r ⌝ }
 {
-    let mut count = lines;
-    loop {
-        let t = read_part(fd, count, part, complaint);
-        if t.more {
-            count = t.lines;
-        } else {
-            return t.told;
+    let mut reading = read_part(Reading::Start, part);
+    while !settled(reading) {
+        let r = streams::read_input(fd, part, complaint);
+        if r.failed {
+            return Intake::Failed;
+        }
+        let count = r.count;
+        reading = read_part(reading, &part[..count]);
+        if count < part.len() {
+            return Intake::Refused(told(reading));
         }
     }
+    Intake::Refused(told(reading))
 }
 
-// Reads what follows an accepted header, which stands in the first 18 bytes of `part`.
-fn read_lines(fd: i32, part: &mut [u8], complaint: &[u8]) -> Intake
-    requires { ⌜ length (now part) ≡ 73764 ⌝ }
-    requires { ⌜ ((n : ℕ) × (headerRead (take 18 (now part)) ≡ Stations n)) ⌝ }
-    ensures { λ r. ⌜ Taken (now (part .exit)) r ⌝ }
-{
-    let r = streams::read_input(fd, &mut part[18..], complaint);
-    if r.failed {
-        return Intake::Failed;
-    }
-    let end = 18 + r.count;
-    if end < part.len() {
-        return Intake::Whole(end);
-    }
-    let s = schedule::survey_lines(1, &part[18..]);
-    let refusal = s.refusal;
-    if refusal.number() != 0 {
-        return Intake::Refused(refusal);
-    }
-    read_parts(fd, 1 + s.steps, part, complaint)
-}
-
-// Reads the header; if it is refused, nothing else is read.
-fn read_file(fd: i32, part: &mut [u8], complaint: &[u8]) -> Intake
-    requires { ⌜ length (now part) ≡ 73764 ⌝ }
-    ensures { λ r. ⌜ Taken (now (part .exit)) r ⌝ }
-{
-    let r = streams::read_input(fd, &mut part[0..18], complaint);
-    if r.failed {
-        return Intake::Failed;
-    }
-    let k = r.count;
-    match schedule::read_header(&part[..k]) {
-        Header::Refused(refusal) => Intake::Refused(refusal),
-        Header::Stations(_) => read_lines(fd, part, complaint),
-    }
-}
-
-// Reads a schedule, and no more of it than the part by which its refusal is known, if it has a final one or is too long; complains if it cannot be read.
+// Reads a schedule, and no further than the part by which its refusal is known, if it is longer than the buffer; complains if it cannot be read.
 pub fn read_schedule(fd: i32, part: &mut [u8; ROOM], complaint: &[u8]) -> Intake
     ensures { λ r. ⌜ Taken (now (part .exit)) r ⌝ }
 {
-    read_file(fd, part, complaint)
-}
-
-// Prints a refusal, on a line that bears the number 0; complains if it cannot be written.
-pub fn print_refusal(refusal: Refusal, complaint: &[u8]) {
-    let mut out = [0u8; 29];
-    let k = file::print_refusal(0, refusal, &mut out);
-    streams::write_output(&out[..k], complaint);
+    let r = streams::read_input(fd, part, complaint);
+    if r.failed {
+        return Intake::Failed;
+    }
+    let count = r.count;
+    if count < part.len() {
+        return Intake::Whole(count);
+    }
+    read_on(fd, part, complaint)
 }

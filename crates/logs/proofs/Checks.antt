@@ -1,36 +1,35 @@
--- A log, held line by line against the unbounded table: bytes that come next, one call, and the loop over the lines.
-use Prim.Native.Nat.{ℕ, suc, _+_, _*_, _≤_, _<_}
+-- A log, held against the unbounded table: bytes that come next, one call, and the loop over what is shown and the lines.
+use Prim.Native.Nat.{ℕ, suc, _+_, _-_, _*_, _≤_, _<_, min}
 use native.Mathlib.Numerals.{add-one}
 use native.Mathlib.Omega.{arith}
 use native.Mathlib.Decide.{ℕ-discrete}
-use mathlib.Core.Path.{_≡_, refl, sym, ap, ap₂, subst, _∙_}
+use mathlib.Core.Path.{_≡_, refl, sym, ap, ap₂, _∙_}
 use mathlib.Core.Logic.{by-cases}
-use mathlib.Core.Bool.{Bool, true, false, _&&_, and-assoc, and-true}
+use mathlib.Core.Bool.{Bool, true, false, _&&_, and-assoc, and-true, and-false}
 use mathlib.Core.List as Lists
-use mathlib.Core.List.{[], _∷_}
-use lib.ListN.{length, getD, take, drop, length-drop, length-append}
-use lib.Seq.{drop-drop, take-at}
+use mathlib.Core.List.{[], _∷_, _++_, append-nil}
+use lib.ListN.{length, getD, take, drop, set, length-take, length-drop, length-append, take-append-drop, drop-of-length-le}
+use lib.Seq.{drop-drop, take-at, take-take, length-take-le, drop-append-le, take-append-le}
 use lib.Dec.{eqb}
-use borrow.Author.Tests.{eq-eqb, ne-eqb}
+use borrow.Author.Tests.{eq-eqb, ne-eqb, eqb-true, eqb-false}
 use Rattle.basics.proofs.Facts.{tf, and-both}
 use Rattle.simulation.specs.Calls.{Call, Buffer, judge, reportLines}
-use Rattle.simulation.specs.Machine.{original, labelStep, fresh, step, snapsOf}
+use Rattle.simulation.specs.Machine.{original, labelStep, step, snapsOf}
 use Rattle.transition.specs.Forms.{over}
 use Rattle.transition.specs.Logs.{fitsNext, atFront, right}
-use Rattle.transition.proofs.Logs.{front-from, front-end, front-split}
-use Rattle.moves.specs.Moves.{called}
-use Rattle.arrays.specs.Arrays.{entriesIn}
+use Rattle.transition.proofs.Logs.{front-from, front-end, front-short}
+use Rattle.moves.specs.Moves.{callOf}
+use Rattle.moves.specs.declared.Request.{Request}
+use Rattle.arrays.specs.Arrays.{Rows, Planes, entriesIn}
 use Rattle.arrays.specs.Planes.{beside}
 use Rattle.engine.proofs.Reports.{result-length}
-use Rattle.schedule.specs.Lines.{nextLine}
-use Rattle.schedule.proofs.Places.{line-within}
-use Rattle.schedule.proofs.SessionLaws.{next-within}
-use Rattle.schedule.proofs.Surveys.{callsFrom, calls-step}
-use Rattle.schedule.specs.declared.Line.the-variants.{Step}
-use Rattle.unbounded.specs.Tables.{Table, restOf, stateOf, answered, Turns}
+use Rattle.schedule.proofs.Places.{callsFrom, StepAt, calls-step}
+use Rattle.unbounded.specs.Tables.{Table, table, restᵘ, stateᵘ, answeredᵘ, Turnsᵘ, Runnableᵘ}
 use Rattle.unbounded.specs.declared.Turn.{Turn}
-use Rattle.logs.specs.Contracts.{writes, ChecksCall}
-use Rattle.logs.specs.declared.Checked.{Checked}
+use Rattle.logs.specs.Files.{answerBytes}
+use Rattle.logs.specs.Contracts.{writes, RunsCall, numbersLeft, pending, callsLeft, ahead, placed, Checking, workLeft, Drained, Feeds, Finishes}
+use Rattle.logs.specs.declared.Ran.{Ran}
+use Rattle.logs.specs.declared.Progress.{Progress}
 
 -- BYTES THAT COME NEXT
 
@@ -45,80 +44,270 @@ bytes-more l m at i same h k = ap (λ b. same && b) (front-from l m i (at + i) h
 pub bytes-end : (l m : Lists.List ℕ) (i : ℕ) (same : Bool) → length l ≤ i → (same && atFront (drop i l) m) ≡ same
 bytes-end l m i same h = ap (λ b. same && b) (front-end l m i h) ∙ and-true same
 
+-- those of two lists, one after the other; and of one that is not longer than what is there
+front-both : (a b m : Lists.List ℕ) → atFront (a ++ b) m ≡ (atFront a m && atFront b (drop (length a) m))
+unfolding atFront
+front-both [] b m = refl
+front-both (x ∷ a) b [] = refl
+front-both (x ∷ a) b (y ∷ m) = ap (λ c. eqb x y && c) (front-both a b m) ∙ sym (and-assoc (eqb x y) (atFront a m) (atFront b (drop (length a) m)))
+
+front-within : (a m more : Lists.List ℕ) → length a ≤ length m → atFront a (m ++ more) ≡ atFront a m
+unfolding atFront
+front-within [] m more h = refl
+front-within (x ∷ a) [] more h = absurd (omega arith)
+front-within (x ∷ a) (y ∷ m) more h = ap (λ c. eqb x y && c) (front-within a m more (omega arith))
+
+-- the first k of l stand at the front of m or not, and the rest is asked of what follows
+front-part : (l m more : Lists.List ℕ) (k : ℕ) → k ≤ length l → k ≤ length m
+    → atFront l (m ++ more) ≡ (atFront (take k l) m && atFront (drop k l) (drop k m ++ more))
+front-part l m more k h g =
+    let long = length-take-le k l h in
+    ap (λ x. atFront x (m ++ more)) (sym (take-append-drop k l)) ∙ front-both (take k l) (drop k l) (m ++ more)
+    ∙ ap₂ _&&_ (front-within (take k l) m more (omega (arith, long)))
+    (ap (λ j. atFront (drop k l) (drop j (m ++ more))) long ∙ ap (atFront (drop k l)) (drop-append-le k m more g))
+
+-- what is left of the first n behind k of them
+take-behind : (k n : ℕ) (l : Lists.List ℕ) → k ≤ n → n ≤ length l → drop k (take n l) ≡ take (n - k) (drop k l)
+take-behind k n l h g =
+    let long = length-take-le n l g in
+    let left : length (drop k (take n l)) ≡ n - k = simp (length-drop) (omega (arith, long)) in
+    sym (ap (λ x. take (n - k) (drop k x)) (sym (take-append-drop n l))
+    ∙ ap (take (n - k)) (drop-append-le k (take n l) (drop n l) (omega (arith, long))) ∙ take-at (drop k (take n l)) (drop n l) (n - k) left)
+
 -- A CALL
 
-module _ {t t′ : Table} {c : Call} {log : Lists.List ℕ} {used : ℕ} {r : Turn} (g : Turns t c log used t′ r) (report : Lists.List ℕ) (shown : ℕ)
-    (low : shown ≤ length report) where
-  -- a wrong one
-  wrong : {u v : ℕ} → false ≡ (r .fits && atFront (writes t c (drop used log)) (drop shown report))
-      → ChecksCall t c log used report shown t′ (record { right = false; used = u; shown = v })
-  wrong e = record {
-    passes = e ∙ ap (λ b. b && atFront (writes t c (drop used log)) (drop shown report)) (g .fits);
+module _ {t t′ : Table} {order order′ : Lists.List ℕ} {c : Call} {log : Lists.List ℕ} {used : ℕ} {r : Turn}
+    (g : Turnsᵘ t order c log used t′ order′ r) where
+  -- its number does not fit
+  pub run-unfit : (buffer : Lists.List ℕ) → {u v : ℕ} → r .fits ≡ false → RunsCall t c log used t′ buffer (record { fits = false; used = u; written = v })
+  run-unfit buffer e = record {
+    fits = sym e ∙ g .fits;
     state = λ y. absurd (tf y refl);
     numbers = λ y. absurd (tf y refl);
     bytes = λ y. absurd (tf y refl);
   }
 
-  -- its number does not fit
-  pub line-unfit : {u v : ℕ} → r .fits ≡ false → ChecksCall t c log used report shown t′ (record { right = false; used = u; shown = v })
-  line-unfit e = wrong (ap (λ b. b && atFront (writes t c (drop used log)) (drop shown report)) (sym e))
-
   -- it fits, and what is written is k bytes at the front of a buffer
-  module _ (e : r .fits ≡ true) (k : ℕ) (buffer buffer′ : Lists.List ℕ) (w : k ≡ r .entries * 29)
-      (o : buffer′ ≡ over (reportLines (c .line) 1 (entriesIn (r .entries) (getD (t′ .results) (r .place) []))) buffer) where
-    told : take k buffer′ ≡ writes t c (drop used log)
-    told =
-        let rows = getD (t′ .results) (r .place) [] in
-        let l = reportLines (c .line) 1 (entriesIn (r .entries) rows) in
-        ap (take k) o ∙ take-at l (drop (length l) buffer) k (result-length (c .line) (r .entries) rows ∙ sym w) ∙ sym (g .served e .report)
-
-    long : length (writes t c (drop used log)) ≡ k
-    long = let rows = getD (t′ .results) (r .place) [] in
-        ap length (g .served e .report) ∙ result-length (c .line) (r .entries) rows ∙ sym w
-
-    pub line-differs : {u v : ℕ} → atFront (take k buffer′) (drop shown report) ≡ false
-        → ChecksCall t c log used report shown t′ (record { right = false; used = u; shown = v })
-    line-differs d = wrong (sym (ap₂ _&&_ e (ap (λ l. atFront l (drop shown report)) (sym told) ∙ d)))
-
-    module _ (d : atFront (take k buffer′) (drop shown report) ≡ true) where
-      front : atFront (writes t c (drop used log)) (drop shown report) ≡ true
-      front = ap (λ l. atFront l (drop shown report)) (sym told) ∙ d
-
-      pub line-ends : shown + k ≤ length report
-      line-ends = omega (
-        arith,
-        long,
-        length-drop shown report,
-        ap length (front-split (writes t c (drop used log)) (drop shown report) front)
-            ∙ length-append (writes t c (drop used log)) (drop (length (writes t c (drop used log))) (drop shown report)),
-        low,
-      )
-
-      pub line-right : ChecksCall t c log used report shown t′ (record { right = true; used = r .used; shown = shown + k })
-      line-right = record {
-        passes = sym (ap₂ _&&_ (sym (g .fits) ∙ e) front);
+  pub run-fits : r .fits ≡ true → (k : ℕ) (buffer buffer′ : Lists.List ℕ) → k ≡ r .handed .entries * 29
+      → buffer′ ≡ over (reportLines (c .line) 1 (entriesIn (r .handed .entries) (getD (t′ .results) (r .handed .place) []))) buffer
+      → RunsCall t c log used t′ buffer′ (record { fits = true; used = r .used; written = k })
+  run-fits e k buffer buffer′ w o =
+      let rows = getD (t′ .results) (r .handed .place) [] in
+      let l = reportLines (c .line) 1 (entriesIn (r .handed .entries) rows) in record {
+        fits = sym e ∙ g .fits;
         state = λ _. g .served e .state;
-        numbers = λ _. (g .served e .counted, g .served e .inside);
-        bytes = λ _. (ap (λ i. shown + i) (sym long), line-ends);
+        numbers = λ _. (g .served e .counted, g .served e .enough);
+        bytes = λ _. (
+          ap (take k) o ∙ take-at l (drop (length l) buffer) k (result-length (c .line) (r .handed .entries) rows ∙ sym w) ∙ sym (g .served e .report),
+          omega (arith, w, g .served e .few),
+        );
       }
 
--- THE LOOP: the log is right exactly if what is left of it is, for the lines left, from the state that the table holds
-pub record Sofar (rest log report : Lists.List ℕ) (t : Table) (used shown lines at : ℕ) : Type 0 where
-  pub within : at ≤ length rest
-  pub few : lines ≤ 1000001
-  pub numbers : used ≤ length log
-  pub bytes : shown ≤ length report
-  pub same : right original (t .count) (fresh 0) log report (callsFrom 1 rest 0)
-      ≡ right original (t .count) (stateOf t) (drop used log) (drop shown report) (callsFrom lines rest at)
+-- THE LOOP over a part of the report, from the check c₀: `read` bytes of it are used up, and what is told of the log is what is told from here on by the rest
+pub record Sofar (c₀ : Progress) (t₀ : Table) (file list buffer₀ part : Lists.List ℕ) (c : Progress) (t : Table) (buffer : Lists.List ℕ) (read : ℕ) : Type 0 where
+  pub within : read ≤ length part
+  pub going : c .right ≡ true
+  pub same : (more : Lists.List ℕ) → ahead c₀ t₀ file list buffer₀ (part ++ more) ≡ ahead c t file list buffer (drop read part ++ more)
+  pub less : workLeft c file + read ≤ workLeft c₀ file
 
-pub sofar-start : {rest log report : Lists.List ℕ} {t : Table} → stateOf t ≡ fresh 0 → Sofar rest log report t 0 0 1 0
-sofar-start {rest} {log} {report} {t} e = record {
-  within = omega arith;
-  few = omega arith;
-  numbers = omega arith;
-  bytes = omega arith;
-  same = ap (λ s. right original (t .count) s log report (callsFrom 1 rest 0)) (sym e);
+-- a check that is not right stays so
+pub feed-none : {c : Progress} {t : Table} {file list buffer part : Lists.List ℕ} → c .right ≡ false → Feeds c t file list buffer part c t buffer
+feed-none {c} {t} {file} {list} {buffer} {part} e = record {
+  same = λ more. rw e refl;
+  drained = λ y. absurd (tf y e);
+  fewer = λ y. absurd (tf y e);
 }
+
+-- a place of a check, whatever is right so far
+abbrev pub here : Progress → Bool → Progress
+here c b = placed c b (c .used) (c .lines) (c .at) (c .written) (c .shown)
+
+pub sofar-start : {c : Progress} {t : Table} {file list buffer part : Lists.List ℕ} → c .right ≡ true → Sofar c t file list buffer part (here c true) t buffer 0
+sofar-start {c} {t} {file} {list} {buffer} {part} e = record {
+  within = omega arith;
+  going = refl;
+  same = λ more. ap (λ b. ahead (here c b) t file list buffer (part ++ more)) e;
+  less = omega arith;
+}
+
+pub checking-here : {c : Progress} (b : Bool) {t : Table} {order file list buffer : Lists.List ℕ} → Checking c t order file list buffer
+    → Checking (here c b) t order file list buffer
+checking-here b g = record { runnable = g .runnable; numbers = g .numbers; place = g .place; bytes = g .bytes; room = g .room }
+
+-- the check that is handed back, by another name
+abbrev pub FedTo : Progress → Table → Lists.List ℕ → Lists.List ℕ → Lists.List ℕ → Lists.List ℕ → Rows → Rows → Rows → Planes → Lists.List ℕ → Lists.List ℕ
+    → Progress → Type 0
+FedTo c₀ t₀ file list buffer₀ part v j k s order buffer c = Feeds c₀ t₀ file list buffer₀ part c (table (c .stations) v j k s) buffer
+    × Checking c (table (c .stations) v j k s) order file list buffer
+
+module _ {c₀ : Progress} {t₀ : Table} {file list buffer₀ part : Lists.List ℕ} {c : Progress} {t : Table} {order buffer : Lists.List ℕ} {read : ℕ}
+    (f : Sofar c₀ t₀ file list buffer₀ part c t buffer read) (g : Checking c t order file list buffer) where
+  abbrev rest : Lists.List ℕ
+  rest = drop read part
+
+  -- what is pending, and the test of the steps left
+  abbrev due : Lists.List ℕ
+  due = pending c buffer
+
+  abbrev behind : Lists.List ℕ → Bool
+  behind report = right original (t .count) (stateᵘ t) (numbersLeft c list) report (callsLeft c file)
+
+  due-length : length due ≡ c .written - c .shown
+  due-length = simp (length-take, length-drop) (omega (arith, g .bytes, g .room))
+
+  from-here : (more : Lists.List ℕ) → ahead c₀ t₀ file list buffer₀ (part ++ more) ≡ (atFront due (rest ++ more) && behind (drop (length due) (rest ++ more)))
+  from-here more = f .same more ∙ rw (f .going) refl
+
+  -- the check ends here, and the log is wrong
+  wrong : {c′ : Progress} → c′ .right ≡ false → ((more : Lists.List ℕ) → (atFront due (rest ++ more) && behind (drop (length due) (rest ++ more))) ≡ false)
+      → {t′ : Table} {buffer′ : Lists.List ℕ} → Feeds c₀ t₀ file list buffer₀ part c′ t′ buffer′
+  wrong e h = record {
+    same = λ more. from-here more ∙ h more ∙ sym (rw e refl);
+    drained = λ y. absurd (tf y e);
+    fewer = λ y. absurd (tf y e);
+  }
+
+  -- THE PART IS USED UP, and something is still to be shown
+  pub sofar-waits : c .shown < c .written → length part ≤ read → Feeds c₀ t₀ file list buffer₀ part c t buffer
+  sofar-waits h l =
+      let none : drop read part ≡ [] = drop-of-length-le part l in
+      record {
+        same = λ more. f .same more ∙ ap (λ x. ahead c t file list buffer (x ++ more)) none;
+        drained = λ y e. absurd (omega arith);
+        fewer = λ y. omega (arith, f .less, f .within);
+      }
+
+  -- SOME BYTES are to be shown, k of them by this part
+  module _ (k : ℕ) (h : k ≤ c .written - c .shown) (l : k ≤ length part - read) where
+    abbrev next : Progress
+    next = placed c true (c .used) (c .lines) (c .at) (c .written) (c .shown + k)
+
+    front : take k due ≡ take k (drop (c .shown) buffer)
+    front = take-take k (c .written - c .shown) (drop (c .shown) buffer) h
+
+    split : (more : Lists.List ℕ) → atFront due (rest ++ more) ≡ (atFront (take k (drop (c .shown) buffer)) rest && atFront (drop k due) (drop k rest ++ more))
+    split more = front-part due rest more k (omega (arith, due-length)) (omega (arith, length-drop read part))
+        ∙ ap (λ x. atFront x rest && atFront (drop k due) (drop k rest ++ more)) front
+
+    pub sofar-differs : {c′ : Progress} → c′ .right ≡ false → atFront (take k (drop (c .shown) buffer)) rest ≡ false
+        → {t′ : Table} {buffer′ : Lists.List ℕ} → Feeds c₀ t₀ file list buffer₀ part c′ t′ buffer′
+    sofar-differs e d = wrong e (λ more. rw (split more, d) refl)
+
+    left : drop k due ≡ pending next buffer
+    left = take-behind k (c .written - c .shown) (drop (c .shown) buffer) h (omega (arith, g .bytes, g .room, length-drop (c .shown) buffer))
+        ∙ ap₂ (λ i x. take i x) (let e : c .written - c .shown - k ≡ c .written - (c .shown + k) = omega arith in e) (drop-drop k (c .shown) buffer)
+
+    pub sofar-shown : 0 < k → atFront (take k (drop (c .shown) buffer)) rest ≡ true → Sofar c₀ t₀ file list buffer₀ part next t buffer (read + k)
+    sofar-shown some d = record {
+      within = omega (arith, f .within);
+      going = refl;
+      same = λ more.
+          let fewer : length due ≡ k + length (drop k due) = omega (arith, length-drop k due, due-length) in
+          let gone : drop (length due) (rest ++ more) ≡ drop (length (drop k due)) (drop k rest ++ more)
+          = ap (λ i. drop i (rest ++ more)) fewer ∙ sym (drop-drop (length (drop k due)) k (rest ++ more))
+          ∙ ap (drop (length (drop k due))) (drop-append-le k rest more (omega (arith, length-drop read part))) in
+          from-here more
+          ∙ ap (λ b. b && behind (drop (length due) (rest ++ more))) (split more ∙ ap (λ b. b && atFront (drop k due) (drop k rest ++ more)) d)
+          ∙ ap (λ x. atFront (drop k due) (drop k rest ++ more) && behind x) gone
+          ∙ ap₂ (λ x y. atFront x (y ++ more) && behind (drop (length x) (y ++ more))) left (drop-drop k read part);
+      less = omega (arith, f .less);
+    }
+
+    pub next-checking : Checking next t order file list buffer
+    next-checking = record {
+      runnable = g .runnable;
+      numbers = g .numbers;
+      place = g .place;
+      bytes = (omega (arith, g .bytes), g .bytes .1);
+      room = g .room;
+    }
+
+  -- NOTHING IS TO BE SHOWN
+  module _ (h : c .written ≤ c .shown) where
+    nothing : due ≡ []
+    nothing = let e : c .written - c .shown ≡ 0 = omega arith in rw e refl
+
+    steps-only : (more : Lists.List ℕ) → (atFront due (rest ++ more) && behind (drop (length due) (rest ++ more))) ≡ behind (rest ++ more)
+    unfolding atFront
+    steps-only more = rw nothing refl
+
+    -- no step is left, so the report must end with the part
+    pub sofar-ends : callsLeft c file ≡ [] → Feeds c₀ t₀ file list buffer₀ part (here c (eqb read (length part))) t buffer
+    unfolding right atFront
+    sofar-ends e = go (eqb read (length part)) refl
+      where
+        go : (b : Bool) → eqb read (length part) ≡ b → Feeds c₀ t₀ file list buffer₀ part (here c b) t buffer
+        go true d =
+            let all : drop read part ≡ [] = drop-of-length-le part {i = read} (omega (arith, eqb-true read (length part) d)) in
+            record {
+              same = λ more. from-here more ∙ ap (λ x. atFront due (x ++ more) && behind (drop (length due) (x ++ more))) all;
+              drained = λ y z. e;
+              fewer = λ y. omega (arith, f .less, f .within, eqb-true read (length part) d);
+            }
+        go false d =
+            let some : read < length part = omega (arith, f .within, eqb-false read (length part) d) in
+            wrong refl (λ more. steps-only more ∙ ap (right original (t .count) (stateᵘ t) (numbersLeft c list) (rest ++ more)) e
+            ∙ ap (λ b. eqb (length (numbersLeft c list)) 0 && b)
+            (ne-eqb (length (rest ++ more)) 0 (λ z. omega (arith, length-append rest more, length-drop read part, z)))
+            ∙ and-false (eqb (length (numbersLeft c list)) 0))
+
+    -- a step
+    module _ {q : Request} (s : StepAt (c .lines) file (c .at) q) {t′ : Table} {buffer′ : Lists.List ℕ} {r : Ran}
+        (u : RunsCall t (callOf q (Buffer 928)) (take (c .count) list) (c .used) t′ buffer′ r) where
+      abbrev call : Call
+      call = callOf q (Buffer 928)
+
+      abbrev fits : Bool
+      fits = fitsNext (t .count) (beside (t .numbers)) (labelStep (judge false (t .count) (restᵘ t) call)) (numbersLeft c list)
+
+      abbrev bytes : Lists.List ℕ
+      bytes = writes t call (numbersLeft c list)
+
+      abbrev calls : Lists.List Call
+      calls = callsFrom (c .lines + 1) file (c .at + 18)
+
+      -- the test of the steps left begins with this one
+      step-first : (report : Lists.List ℕ) → behind report
+          ≡ (fits && (atFront bytes report
+          && right original (t .count) (answeredᵘ t call (numbersLeft c list) .state) (drop (snapsOf original (t .count) (stateᵘ t) call) (numbersLeft c list))
+          (drop (length bytes) report) calls))
+      unfolding right
+      step-first report = ap (right original (t .count) (stateᵘ t) (numbersLeft c list) report) (calls-step (c .lines) file (c .at) (g .place .0) s .0)
+
+      pub sofar-unfit : {c′ : Progress} → c′ .right ≡ false → r .fits ≡ false → {t′ : Table} {buffer′ : Lists.List ℕ}
+          → Feeds c₀ t₀ file list buffer₀ part c′ t′ buffer′
+      sofar-unfit e d = wrong e (λ more. steps-only more ∙ step-first (rest ++ more) ∙ rw (sym (u .fits) ∙ d) refl)
+
+      module _ (d : r .fits ≡ true) (n : t′ .count ≡ t .count) where
+        abbrev then : Progress
+        then = placed c true (r .used) (c .lines + 1) (c .at + 18) (r .written) 0
+
+        written : pending then buffer′ ≡ bytes
+        written = let all : r .written - 0 ≡ r .written = omega arith in ap (λ i. take i buffer′) all ∙ u .bytes d .0
+
+        pub sofar-step : Sofar c₀ t₀ file list buffer₀ part then t′ buffer′ read
+        sofar-step = record {
+          within = f .within;
+          going = refl;
+          same = λ more.
+              let ns = drop-drop (snapsOf original (t .count) (stateᵘ t) call) (c .used) (take (c .count) list)
+              ∙ ap (λ i. drop i (take (c .count) list)) (sym (u .numbers d .0)) in
+              from-here more ∙ steps-only more ∙ step-first (rest ++ more) ∙ rw (sym (u .fits) ∙ d) refl
+              ∙ (λ i. atFront (sym written i) (rest ++ more)
+              && right original (sym n i) (sym (u .state d) i) (ns i) (drop (length (sym written i)) (rest ++ more)) calls);
+          less = omega (arith, f .less, u .bytes d .1, s .within);
+        }
+
+        pub step-checking : {order′ : Lists.List ℕ} → Runnableᵘ t′ order′ → length buffer′ ≡ 928 → Checking then t′ order′ file list buffer′
+        step-checking o l = record {
+          runnable = o;
+          numbers = (omega (arith, u .numbers d .1, length-take (c .count) list), g .numbers .1);
+          place = (s .within, omega (arith, s .few));
+          bytes = (omega arith, u .bytes d .1);
+          room = l;
+        }
+
+-- THE END of the report: it is right where all is used up
 
 -- nothing is left of a list
 used-up : (l : Lists.List ℕ) (k : ℕ) → k ≤ length l → eqb k (length l) ≡ eqb (length (drop k l)) 0
@@ -126,57 +315,42 @@ used-up l k h = by-cases (ℕ-discrete k (length l))
     (λ e. eq-eqb k (length l) e ∙ sym (eq-eqb (length (drop k l)) 0 (omega (arith, length-drop k l))))
     (λ d. ne-eqb k (length l) d ∙ sym (ne-eqb (length (drop k l)) 0 (λ e. d (omega (arith, length-drop k l)))))
 
-module _ {rest log report : Lists.List ℕ} {t : Table} {used shown lines at : ℕ} (f : Sofar rest log report t used shown lines at) where
-  abbrev n : ℕ
-  n = t .count
+pub finished : (c : Progress) → Finishes c ((c .right && eqb (c .used) (c .count)) && eqb (c .shown) (c .written))
+unfolding right atFront
+finished c = record { told = told }
+  where
+    told : (t : Table) (order file list buffer : Lists.List ℕ) → Checking c t order file list buffer → Drained c file
+        → ((c .right && eqb (c .used) (c .count)) && eqb (c .shown) (c .written)) ≡ ahead c t file list buffer []
+    told t order file list buffer g h = go (eqb (c .shown) (c .written)) (c .right) refl refl
+      where
+        test : Lists.List ℕ → Lists.List Call → Bool
+        test report calls = right original (t .count) (stateᵘ t) (numbersLeft c list) report calls
 
-  -- no line is left
-  pub sofar-end : callsFrom lines rest at ≡ []
-      → (eqb used (length log) && eqb shown (length report)) ≡ right original n (fresh 0) log report (callsFrom 1 rest 0)
-  unfolding right
-  sofar-end e = ap₂ _&&_ (used-up log used (f .numbers)) (used-up report shown (f .bytes))
-      ∙ sym (f .same ∙ ap (right original n (stateOf t) (drop used log) (drop shown report)) e)
+        go : (a b : Bool) → eqb (c .shown) (c .written) ≡ a → c .right ≡ b
+            → ((b && eqb (c .used) (c .count)) && a) ≡ (b && (atFront (pending c buffer) [] && test (drop (length (pending c buffer)) []) (callsLeft c file)))
+        go a false e r = refl
+        go true true e r =
+            let same = eqb-true (c .shown) (c .written) e in
+            let none : c .written - c .shown ≡ 0 = omega arith in
+            let size = length-take-le (c .count) list (g .numbers .1) in
+            let left = used-up (take (c .count) list) (c .used) (omega (arith, g .numbers .0, size)) in
+            rw (none, h r same) (and-true (eqb (c .used) (c .count)) ∙ ap (eqb (c .used)) (sym size) ∙ left ∙ sym (and-true (eqb (length (numbersLeft c list)) 0)))
+        go false true e r =
+            let some : c .shown < c .written = omega (arith, g .bytes, eqb-false (c .shown) (c .written) e) in
+            let long : length (pending c buffer) ≡ c .written - c .shown = simp (length-take, length-drop) (omega (arith, g .bytes, g .room)) in
+            and-false (eqb (c .used) (c .count))
+            ∙ sym (ap (λ b. b && test (drop (length (pending c buffer)) []) (callsLeft c file)) (front-short (pending c buffer) [] (omega (arith, long))))
 
-  -- a step
-  module _ (h : at < length rest) {l : Lists.List ℕ} (p : l ≡ take 18 (drop at rest)) {station code job : ℕ}
-      (e : nextLine lines l ≡ Step station code job) where
-    abbrev call : Call
-    call = called (lines + 1) code station job (Buffer 928)
+-- WHAT IS PRINTED, byte by byte, at the front of a longer buffer
+pub put-yes : (l : Lists.List ℕ) → 29 ≤ length l → set (set (set (set l 0 121) 1 101) 2 115) 3 10 ≡ over (answerBytes true) l
+put-yes [] h = absurd (omega arith)
+put-yes (a ∷ []) h = absurd (omega arith)
+put-yes (a ∷ (b ∷ [])) h = absurd (omega arith)
+put-yes (a ∷ (b ∷ (c ∷ []))) h = absurd (omega arith)
+put-yes (a ∷ (b ∷ (c ∷ (d ∷ l)))) h = refl
 
-    abbrev next : Lists.List Call
-    next = callsFrom (lines + 1) rest (at + length l)
-
-    -- the test of the lines left begins with this one
-    here : right original n (fresh 0) log report (callsFrom 1 rest 0) ≡ right original n (stateOf t) (drop used log) (drop shown report) (call ∷ next)
-    here = f .same ∙ ap (right original n (stateOf t) (drop used log) (drop shown report)) (calls-step lines rest h p station code job e .0)
-
-    -- what its number and what it writes are tried for, and the test of the lines behind it
-    abbrev fits : Bool
-    fits = fitsNext n (beside (t .numbers)) (labelStep (judge false n (restOf t) call)) (drop used log)
-
-    abbrev bytes : Lists.List ℕ
-    bytes = writes t call (drop used log)
-
-    abbrev behind : Bool
-    behind = right original n (answered t call (drop used log) .state) (drop (snapsOf original n (stateOf t) call) (drop used log))
-        (drop (length bytes) (drop shown report)) next
-
-    module _ {t′ : Table} {r : Checked} (g : ChecksCall t call log used report shown t′ r) where
-      pub sofar-stop : r .right ≡ false → false ≡ right original n (fresh 0) log report (callsFrom 1 rest 0)
-      unfolding right
-      sofar-stop d = sym (here ∙ sym (and-assoc fits (atFront bytes (drop shown report)) behind) ∙ ap (λ b. b && behind) (sym (g .passes) ∙ d))
-
-      pub sofar-more : r .right ≡ true → t′ .count ≡ n → Sofar rest log report t′ (r .used) (r .shown) (lines + 1) (at + length l)
-      unfolding right
-      sofar-more d q =
-          let passed = and-both fits (atFront bytes (drop shown report)) (sym (g .passes) ∙ d) in
-          let ns = drop-drop (snapsOf original n (stateOf t) call) used log ∙ ap (λ k. drop k log) (sym (g .numbers d .0)) in
-          let bs = drop-drop (length bytes) shown report ∙ ap (λ k. drop k report) (sym (g .bytes d .0)) in record {
-            within = line-within rest h p .0;
-            few = omega (arith, next-within lines l station code job e);
-            numbers = g .numbers d .1;
-            bytes = g .bytes d .1;
-            same = subst (λ k. right original k (fresh 0) log report (callsFrom 1 rest 0)
-                ≡ right original k (stateOf t′) (drop (r .used) log) (drop (r .shown) report) next) (sym q)
-                (here ∙ ap₂ (λ x y. x && (y && behind)) (passed .0) (passed .1) ∙ (λ i. right original n (sym (g .state d) i) (ns i) (bs i) next));
-          }
+pub put-no : (l : Lists.List ℕ) → 29 ≤ length l → set (set (set l 0 110) 1 111) 2 10 ≡ over (answerBytes false) l
+put-no [] h = absurd (omega arith)
+put-no (a ∷ []) h = absurd (omega arith)
+put-no (a ∷ (b ∷ [])) h = absurd (omega arith)
+put-no (a ∷ (b ∷ (c ∷ l))) h = refl

@@ -2,8 +2,9 @@
 use Prim.Native.Nat.{ℕ}
 use mathlib.Core.Path.{_≡_}
 use mathlib.Core.Logic.{_≢_, _↔_}
-use mathlib.Core.Bool.{Bool, true, false}
-use mathlib.Core.List.{List}
+use mathlib.Core.Bool.{Bool, true, false, cond}
+use mathlib.Core.List.{List, [], _∷_}
+use Rattle.number_lines.specs.Lines.{NumberLines}
 use Rattle.moves.specs.Moves.{refusalNumber}
 use Rattle.schedule.specs.Numbers.{readingRefusal}
 use Rattle.schedule.specs.Logs.{RightLog}
@@ -13,3 +14,13 @@ pub record ChecksLog (bs ns report : List ℕ) (refusal : ℕ) (yes : Bool) : Ty
   pub number : refusal ≡ refusalNumber (readingRefusal bs)
   pub refused : refusal ≢ 0 → yes ≡ false
   pub exactly : refusal ≡ 0 → (yes ≡ true) ↔ RightLog bs ns report
+
+-- a log whose numbers are the bytes of a file: they are the lines of numbers with which the log is right
+pub record RightFile (bs numbers report : List ℕ) : Type 0 where
+  pub given : List ℕ
+  pub lines : NumberLines numbers given
+  pub log : RightLog bs given report
+
+-- yes or no, each on a line of its own; 02 leaves open how it is said
+abbrev pub answerBytes : Bool → List ℕ
+answerBytes b = cond b (121 ∷ (101 ∷ (115 ∷ (10 ∷ [])))) (110 ∷ (111 ∷ (10 ∷ [])))

@@ -14,6 +14,7 @@ use Rattle.moves.specs.declared.Refusal.{Refusal}
 use Rattle.moves.specs.declared.Refusal.the-variants.{Accepted, StationCount, UnknownStation, Busy, NoSnapDue, NoUpdateDue, NothingToEnd}
 use Rattle.moves.specs.declared.Refusal.the-variants.{NoRoom, IncompleteLine, MalformedColumn, UnknownStep, JobOutOfRange, TooManyLines}
 use Rattle.moves.specs.declared.Refusal.the-variants.{IllFormedTable, OutOfService, InService, TooManySteps, ListTooShort}
+use Rattle.moves.specs.declared.Request.{Request}
 use Rattle.moves.specs.declared.Move.{Move}
 use Rattle.moves.specs.declared.Move.the-variants as Moves
 use Rattle.moves.specs.declared.Move.the-variants.{Refused, BeginLabel, SnapLabel, SnapScan, EndLabel, EndScan, LeaveService, ReturnToService}
@@ -70,6 +71,14 @@ moveOf k job ReturnToService = Calls.Move.setsOut k false
 -- a call from its parts
 abbrev pub called : ℕ → ℕ → ℕ → ℕ → Calls.Room → Call
 called line code station job room = record { line = line; code = code; station = station; job = job; room = room }
+
+-- a request as a call with what is lent for its report
+abbrev pub callOf : Request → Calls.Room → Call
+callOf q room = called (q .line) (q .code) (q .station) (q .job) room
+
+-- the request of a direct call: its report lines bear the number 0 (01, "The schedule file and the report")
+abbrev pub directly : ℕ → ℕ → ℕ → Request
+directly code station job = record { code = code; station = station; job = job; line = 0 }
 
 -- the place of a station of n, from 0; 0 if there is no such station
 abbrev pub placeOf : ℕ → ℕ → ℕ

@@ -1,9 +1,10 @@
 // What a step call amounts to, and its refusal.
 ghost use mathlib.Core.Path.{_≡_};
-ghost use mathlib.Core.Bool.{false};
+ghost use mathlib.Core.Bool.{false, not};
 ghost use Prim.Native.Nat.{ℕ, _-_, _≤_};
+ghost use lib.Dec.{eqb};
 ghost use Rattle.simulation.specs.Calls.{refused, unless, jobFits, notDue, needsService, byService, holds, byPhase, judgeIn};
-ghost use Rattle.moves.specs.Moves.{phaseOf, roomOf, refusalNumber, moveOf, called, placeOf};
+ghost use Rattle.moves.specs.Moves.{phaseOf, roomOf, refusalNumber, moveOf, called, directly, placeOf};
 
 // What a process is doing: it takes a label, or it scans (document 01: mark, list).
 pub enum Operation {
@@ -74,6 +75,33 @@ impl Refusal {
             Refusal::TooManySteps => 16,
             Refusal::ListTooShort => 17,
         }
+    }
+
+    // Whether it is one: all are but `Accepted`.
+    pub fn refuses(self) -> bool
+        ensures { λ r. ⌜ r ≡ not (eqb (refusalNumber self) 0) ⌝ }
+    {
+        self.number() != 0
+    }
+}
+
+// A step call as its caller makes it; report lines bear the number `line`.
+pub struct Request {
+    pub code: u64,
+    pub station: u64,
+    pub job: u64,
+    pub line: u64,
+}
+
+// A direct call: its report lines bear the number 0.
+pub fn direct(code: u64, station: u64, job: u64) -> Request
+    ensures { λ r. ⌜ r ≡ directly code station job ⌝ }
+{
+    Request {
+        code,
+        station,
+        job,
+        line: 0,
     }
 }
 

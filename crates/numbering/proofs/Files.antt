@@ -18,9 +18,9 @@ use Rattle.moves.specs.declared.Refusal.the-variants.{Accepted, ListTooShort}
 use Rattle.arrays.specs.Form.{lent}
 use Rattle.arrays.proofs.States.{lent-lawful}
 use Rattle.schedule.specs.Lines.{headerRead}
-use Rattle.schedule.specs.Files.{stepLines}
-use Rattle.schedule.specs.Demand.{stepCalls, roomy, fileCalls}
-use Rattle.schedule.specs.Numbers.{finalAfter, snapCalls, FileNumbers, givenIn, Surveys}
+use Rattle.schedule.specs.Files.{linesOf, stepLines}
+use Rattle.schedule.specs.Demand.{stepCalls, fileCalls}
+use Rattle.schedule.specs.Numbers.{finalAfter, snapCalls, FileNumbers, Surveys}
 use Rattle.schedule.proofs.Runs.{over-short}
 use Rattle.schedule.proofs.Surveys.{surveyed-none, surveyed-header, header-told, calls-told, final-told, steps-told, snaps-told}
 use Rattle.schedule.proofs.Numbers.{file-numbers}
@@ -71,10 +71,10 @@ module _ (bs list : Lists.List ℕ) where
           enough true u w = absurd (omega arith)
           enough false u w = ltb-false (length list) (s .snaps) u
 
-      pub lines-room : snapCalls (stepCalls 1 (givenIn rest)) ≤ length list
+      pub lines-room : snapCalls (stepCalls 1 (linesOf rest)) ≤ length list
       lines-room = omega (arith, passed .1, f .snaps)
 
-      pub lines-number : {k : ℕ} {list′ : Lists.List ℕ} → let ns = numbersOf original n (stepCalls 1 (givenIn rest)) in
+      pub lines-number : {k : ℕ} {list′ : Lists.List ℕ} → let ns = numbersOf original n (stepCalls 1 (linesOf rest)) in
           k ≡ length ns → list′ ≡ over ns list → NumbersFile bs list (refusalNumber r) k list′
       unfolding fileNumbers
       lines-number {k} {list′} u v = record {
@@ -87,7 +87,7 @@ module _ (bs list : Lists.List ℕ) where
           accepted-header,
           subst (FileNumbers lent bs n) (ap (numbersOf original n) (sym (calls-told bs p e q)) ∙ chosen)
               (file-numbers lent lent-lawful bs n accepted-header
-              (sym (ap (λ h. refusalNumber (finalAfter h (map roomy (stepLines bs)))) accepted-header)
+              (sym (ap (λ h. refusalNumber (finalAfter h (stepLines bs))) accepted-header)
               ∙ sym (ap refusalNumber (final-told bs p e q f)) ∙ passed .0)),
         );
       }
@@ -95,7 +95,7 @@ module _ (bs list : Lists.List ℕ) where
           accepted-header : headerRead (take 18 bs) ≡ Stations n
           accepted-header = header-told bs p e q
 
-          chosen : numbersOf original n (stepCalls 1 (givenIn rest)) ≡ fileNumbers bs (length list)
+          chosen : numbersOf original n (stepCalls 1 (linesOf rest)) ≡ fileNumbers bs (length list)
           chosen = ap (numbersOf original n) (calls-told bs p e q) ∙ rw (told, eq-eqb (refusalNumber r) 0 z, accepted-header) refl
 
 -- a list that keeps its length has room for the numbers written

@@ -20,7 +20,7 @@ use Rattle.simulation.proofs.Judged.{Inside, inside, snaps-by-3}
 use Rattle.transition.specs.Forms.{over, freshTable, stepOf}
 use Rattle.transition.proofs.Reached.{reached-fresh}
 use Rattle.transition.proofs.Theorem.{reached-held}
-use Rattle.moves.specs.Moves.{moveOf, called, placeOf}
+use Rattle.moves.specs.Moves.{moveOf, callOf, placeOf}
 use Rattle.moves.proofs.MoveLaws.{step-any, place-below}
 use Rattle.moves.specs.declared.Move as Declared
 use Rattle.moves.specs.declared.Move.the-variants.{SnapLabel}
@@ -29,12 +29,10 @@ use Rattle.arrays.specs.Arrays.{Rows, Arrays, restOf, stateOf}
 use Rattle.arrays.specs.Form.{lent}
 use Rattle.arrays.proofs.Passed.{label-digits, newest-station}
 use Rattle.arrays.proofs.States.{lent-lawful}
-use Rattle.schedule.specs.Lines.{nextLine}
+use Rattle.moves.specs.declared.Request.{Request}
 use Rattle.schedule.specs.Numbers.{snapCalls}
-use Rattle.schedule.proofs.Places.{line-within}
-use Rattle.schedule.proofs.SessionLaws.{next-within}
-use Rattle.schedule.proofs.Surveys.{callsFrom, calls-step, one, one-few, snap-calls}
-use Rattle.schedule.specs.declared.Line.the-variants.{Step}
+use Rattle.schedule.proofs.Places.{callsFrom, StepAt, calls-step}
+use Rattle.schedule.proofs.Surveys.{one, one-few, snap-calls}
 use Rattle.file.specs.Contracts.{Runnable, Turns}
 use Rattle.file.proofs.LineLaws.{run-passes, next-state}
 use Rattle.file.specs.declared.Turn.{Turn}
@@ -152,31 +150,30 @@ module _ {n : ℕ} {rest list₀ : Lists.List ℕ} {a : Arrays} {numbers : Rows}
       long = length-take-le count list (omega (arith, f .room))
 
   -- a step
-  module _ (h : at < length rest) {l : Lists.List ℕ} (p : l ≡ take 18 (drop at rest)) {station code job : ℕ}
-      (e : nextLine lines l ≡ Step station code job) where
+  module _ {q : Request} (e : StepAt lines rest at q) where
     abbrev call : Call
-    call = called (lines + 1) code station job (Buffer 928)
+    call = callOf q (Buffer 928)
 
     abbrev next : Lists.List Call
-    next = callsFrom (lines + 1) rest (at + length l)
+    next = callsFrom (lines + 1) rest (at + 18)
 
     here : callsFrom lines rest at ≡ call ∷ next
-    here = calls-step lines rest h p station code job e .0
+    here = calls-step lines rest at (f .within) e .0
 
-    counts : snapCalls (callsFrom lines rest at) ≡ one (eqb code 3) + snapCalls next
+    counts : snapCalls (callsFrom lines rest at) ≡ one (eqb (q .code) 3) + snapCalls next
     counts = ap snapCalls here ∙ snap-calls call next
 
-    pub step-room : (count ≤ length list) × (code ≡ 3 → count < length list) × (count ≤ 1000000)
-    step-room = (omega (arith, f .room), (λ q. omega (arith, f .room, counts, ap one (eq-eqb code 3 q))), omega (arith, f .few))
+    pub step-room : (count ≤ length list) × (q .code ≡ 3 → count < length list) × (count ≤ 1000000)
+    step-room = (omega (arith, f .room), (λ c. omega (arith, f .room, counts, ap one (eq-eqb (q .code) 3 c))), omega (arith, f .few))
 
     pub sofar-more : a .count ≡ n → {a′ : Arrays} {numbers′ : Rows} {count′ : ℕ} {list′ : Lists.List ℕ}
         → NumbersCall a call numbers count list a′ numbers′ count′ list′
         → stateOf (stepOf lent a call .table) ≡ step original n (digits n) (stateOf a) call .state
-        → Sofar n rest list₀ a′ numbers′ count′ (lines + 1) (at + length l) list′
+        → Sofar n rest list₀ a′ numbers′ count′ (lines + 1) (at + 18) list′
     unfolding renumbered snapsOf
-    sofar-more q {a′} {numbers′} {count′} {list′} g t = record {
-      within = line-within rest h p .0;
-      few = (omega (arith, r .counted, f .few .0, once, one-few (eqb code 3)), omega (arith, next-within lines l station code job e));
+    sofar-more same-count {a′} {numbers′} {count′} {list′} g t = record {
+      within = e .within;
+      few = (omega (arith, r .counted, f .few .0, once, one-few (eqb (q .code) 3)), omega (arith, e .few));
       counted = g .counted;
       room = omega (arith, r .counted, f .room, counts, once, same);
       same = same ∙ f .same;
@@ -197,10 +194,10 @@ module _ {n : ℕ} {rest list₀ : Lists.List ℕ} {a : Arrays} {numbers : Rows}
         r : Renumbered E ℓ count list numbers′ count′ list′
         r = subst (λ k. let v = labelStep (judge false k (restOf a) call) in
             Renumbered (renumber k (digits k) (slotOf (k - 1)) (stateOf a .labels) (Planes.beside numbers) v) (labelSnap v) count list
-            numbers′ count′ list′) q
+            numbers′ count′ list′) same-count
             (g .renumbered)
 
-        once : ℓ ≤ one (eqb code 3)
+        once : ℓ ≤ one (eqb (q .code) 3)
         once = snaps-by-3 n (restOf a) call
 
         fits : count + ℓ ≤ length list

@@ -1,17 +1,16 @@
 -- Numbers beside a table of labels (02, Card 6): those of the stations in two planes, current and pending, and those given so far at the front of a list.
-use Prim.Native.Nat.{ℕ, _+_, _-_, _*_, _≤_, _<_, _^_}
+use Prim.Native.Nat.{ℕ, _+_, _-_, _≤_, _<_}
 use mathlib.Core.Path.{_≡_}
 use mathlib.Core.Bool.{Bool, true, false, cond}
-use mathlib.Core.List.{List, [], _∷_, _++_, map}
-use lib.ListN.{length, getD, take, drop, replicate}
+use mathlib.Core.List.{List, _++_, map}
+use lib.ListN.{getD, take, drop, replicate}
 use lib.Dec.{eqb}
 use Rattle.rows.specs.Held.{held}
-use Rattle.columns.specs.Columns.{column}
 use Rattle.simulation.specs.Calls.{Call, judge}
 use Rattle.simulation.specs.Machine.{Labelling, copy, digits, LabelStep, stay, snap, update, labelStep, labelSnap}
 use Rattle.simulation.specs.Numbering as Numbering
 use Rattle.simulation.specs.Numbering.{slotOf, Renumbering, besideOnly, placed, renumber}
-use Rattle.transition.specs.Forms.{over, stepOf}
+use Rattle.transition.specs.Forms.{stepOf}
 use Rattle.arrays.specs.Arrays.{Rows, Arrays, restOf, stateOf}
 use Rattle.arrays.specs.Planes.{beside}
 use Rattle.arrays.specs.Form.{lent}
@@ -51,29 +50,3 @@ pub record NumbersCall (a : Arrays) (c : Call) (numbers : Rows) (count : ℕ) (l
   pub renumbered : let n = a .count in let w = labelStep (judge false n (restOf a) c) in
       Renumbered (renumber n (digits n) (slotOf (n - 1)) (stateOf a .labels) (beside numbers) w) (labelSnap w) count list numbers′ count′ list′
   pub counted : Counted count′ numbers′ list′
-
--- a number as it is printed, at the right edge of 11 columns on a line of its own; and several
-unfoldable pub numberLine : ℕ → List ℕ
-numberLine v = column 11 v ++ (10 ∷ [])
-
-unfoldable pub numberLines : List ℕ → List ℕ
-numberLines [] = []
-numberLines (v ∷ ns) = numberLine v ++ numberLines ns
-
--- bytes that are printed for a number, or for several, each of which fits its 11 columns; of a larger one only the last digits are printed
-pub record NumberLine (bs : List ℕ) (v : ℕ) : Type 0 where
-  pub line : bs ≡ numberLine v
-  pub fits : v < 10 ^ 11
-
-pub record NumberLines (bs ns : List ℕ) : Type 0 where
-  pub lines : bs ≡ numberLines ns
-  pub fit : (i : ℕ) → getD ns i 0 < 10 ^ 11
-
--- READING THEM BACK into a lent list: at the front of the list that is left are `count` numbers, those of as many lines at the front of the bytes. The bytes
--- are whole exactly where they are the lines of some numbers, of which the list has room for all; then all are read.
-pub record NumbersRead (bs list : List ℕ) (all : Bool) (count : ℕ) (list′ : List ℕ) : Type 0 where
-  pub room : count ≤ length list
-  pub read : NumberLines (take (count * 12) bs) (take count list′)
-  pub left : list′ ≡ over (take count list′) list
-  pub whole : all ≡ true → NumberLines bs (take count list′)
-  pub broken : all ≡ false → (ns : List ℕ) → length ns ≤ length list → NumberLines bs ns → ⊥

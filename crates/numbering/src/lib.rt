@@ -1,30 +1,27 @@
 // Numbers for the unbounded table, kept beside a table of labels (document 02, Card 6): what a step of the labels does to them, and the numbers of a whole
 // schedule file.
 ghost use mathlib.Core.Path.{_≡_};
-ghost use mathlib.Core.Logic.{_↔_};
 ghost use mathlib.Core.Bool.{Bool, cond};
 ghost use mathlib.Core.List.{_++_, map};
-ghost use Prim.Native.Nat.{ℕ, _+_, _-_, _*_, _≤_, _<_, max};
+ghost use Prim.Native.Nat.{ℕ, _+_, _-_, _≤_, _<_, max};
 ghost use lib.ListN.{length, getD, take, drop, set};
 ghost use Rattle.label.specs.Labels.{below};
 ghost use Rattle.label.specs.Rows.{digit};
 ghost use Rattle.label.specs.Valid.{Digit, Valid};
 ghost use Rattle.rows.specs.Held.{held};
-ghost use Rattle.columns.specs.declared.Column.the-variants.{Value};
 ghost use Rattle.simulation.specs.Calls.{Buffer};
 ghost use Rattle.simulation.specs.Machine.{original, put, labelStep, labelSnap, snap};
 ghost use Rattle.simulation.specs.Numbering.{through, bump, number, placed, numbersOf};
 ghost use Rattle.transition.specs.Forms.{over};
-ghost use Rattle.moves.specs.Moves.{refusalNumber, moveOf};
+ghost use Rattle.moves.specs.Moves.{refusalNumber, moveOf, callOf};
 ghost use Rattle.moves.specs.declared.Move.the-variants.{SnapLabel};
 ghost use Rattle.arrays.specs.Arrays.{arrays};
 ghost use Rattle.arrays.specs.Planes.{beside};
-ghost use Rattle.engine.specs.Contracts.{callOf};
 ghost use Rattle.schedule.specs.Demand.{stepCalls};
-ghost use Rattle.schedule.specs.Numbers.{snapCalls, givenIn};
+ghost use Rattle.schedule.specs.Files.{linesOf};
+ghost use Rattle.schedule.specs.Numbers.{snapCalls};
 ghost use Rattle.file.specs.Contracts.{Runnable};
 ghost use Rattle.numbering.specs.Contracts.{slotFor, slotIn, renumberIn, Renumbered, Counted, NumbersCall};
-ghost use Rattle.numbering.specs.Contracts.{numberLine, numberLines, NumberLine, NumbersRead};
 ghost use Rattle.numbering.specs.Files.{refusedBy, NumbersFile};
 use arrays::CURRENT;
 use arrays::Control;
@@ -32,13 +29,12 @@ use arrays::Jobs;
 use arrays::Labels;
 use arrays::PENDING;
 use arrays::Results;
-use columns::Column;
 use engine::Reply;
-use engine::Request;
 use moves::Move;
 use moves::Refusal;
+use moves::Request;
 use schedule::Header;
-use schedule::Line;
+use schedule::Next;
 use schedule::Survey;
 
 // Where the number of a new label goes among those in use: it is one of them, or it comes right after one.
@@ -246,9 +242,9 @@ fn number_line(
 // Runs the lines after a header of n stations, up to one that ends the reading, from the fresh table; the numbers are written to the front of the list.
 fn number_lines(n: usize, rest: &[u8], list: &mut [u32]) -> usize
     requires { ⌜ (2 ≤ n) × (n ≤ 32) ⌝ }
-    requires { ⌜ snapCalls (stepCalls 1 (givenIn (now rest))) ≤ length (now list) ⌝ }
-    ensures { λ r. ⌜ r ≡ length (numbersOf original n (stepCalls 1 (givenIn (now (rest .entry))))) ⌝ }
-    ensures { λ _. ⌜ now (list .exit) ≡ over (numbersOf original n (stepCalls 1 (givenIn (now (rest .entry))))) (now (list .entry)) ⌝ }
+    requires { ⌜ snapCalls (stepCalls 1 (linesOf (now rest))) ≤ length (now list) ⌝ }
+    ensures { λ r. ⌜ r ≡ length (numbersOf original n (stepCalls 1 (linesOf (now (rest .entry))))) ⌝ }
+    ensures { λ _. ⌜ now (list .exit) ≡ over (numbersOf original n (stepCalls 1 (linesOf (now (rest .entry))))) (now (list .entry)) ⌝ }
 {
     let mut labels = [[[0u8; 31]; 32]; 2];
     let mut jobs = [[0u32; 32]; 2];
@@ -260,19 +256,9 @@ fn number_lines(n: usize, rest: &[u8], list: &mut [u32]) -> usize
     let mut count = 0;
     let mut lines: u32 = 1;
     let mut at = 0;
-    while at < rest.len() {
-        let line = schedule::line_at(rest, at);
-        match schedule::next_line(lines, line) {
-            Line::Refused(_) => {
-                return count;
-            }
-            Line::Step { station, code, job } => {
-                let request = Request {
-                    code,
-                    station,
-                    job,
-                    line: lines as u64 + 1,
-                };
+    loop {
+        match schedule::next_call(lines, rest, at) {
+            Next::Call(request) => {
                 count = number_line(
                     n,
                     request,
@@ -286,11 +272,12 @@ fn number_lines(n: usize, rest: &[u8], list: &mut [u32]) -> usize
                     count,
                 );
                 lines += 1;
-                at += line.len();
+                at += 18;
             }
+            Next::End => return count,
+            Next::Refused(_) => return count,
         }
     }
-    count
 }
 
 // The refusal of a schedule whose lines after the header come to this, for a list of so many entries.
@@ -298,7 +285,7 @@ fn refusal_of(s: Survey, entries: usize) -> Refusal
     ensures { λ r. ⌜ r ≡ refusedBy (s .refusal) (s .steps) (s .snaps) entries ⌝ }
 {
     let refusal = schedule::refusal_of(s);
-    if refusal.number() != 0 {
+    if refusal.refuses() {
         return refusal;
     }
     if entries < s.snaps as usize {
@@ -322,7 +309,7 @@ pub fn numbers(file: &[u8], list: &mut [u32]) -> Reply
             let rest = schedule::from(file, header.len());
             let survey = schedule::survey_lines(1, rest);
             let refusal = refusal_of(survey, list.len());
-            if refusal.number() != 0 {
+            if refusal.refuses() {
                 return Reply {
                     refusal,
                     written: 0,
@@ -332,78 +319,4 @@ pub fn numbers(file: &[u8], list: &mut [u32]) -> Reply
             Reply { refusal, written }
         }
     }
-}
-
-// Fills the 12 bytes of a line with a number.
-fn print_number(out: &mut [u8], v: u32)
-    requires { ⌜ length (now out) ≡ 12 ⌝ }
-    ensures { λ _. ⌜ now (out .exit) ≡ numberLine v ⌝ }
-{
-    columns::write_column(&mut out[0..11], v as u64);
-    out[11] = 10;
-}
-
-// Writes numbers to the front of `out`, each on a line of its own, and hands back their bytes.
-pub fn print_numbers(list: &[u32], out: &mut [u8]) -> usize
-    requires { ⌜ length (now list) * 12 ≤ length (now out) ⌝ }
-    ensures { λ r. ⌜ r ≡ length (now (list .entry)) * 12 ⌝ }
-    ensures { λ _. ⌜ now (out .exit) ≡ over (numberLines (now (list .entry))) (now (out .entry)) ⌝ }
-{
-    let mut i = 0;
-    while i < list.len() {
-        let at = i * 12;
-        print_number(&mut out[at..at + 12], list[i]);
-        i += 1;
-    }
-    i * 12
-}
-
-// What some bytes are as lines of numbers: whether they are that through and through, and how many of the lines at their front were read.
-pub struct Read {
-    pub whole: bool,
-    pub count: usize,
-}
-
-// Reads a line of 12 bytes: a number in 11 columns, and byte 10.
-fn read_number(line: &[u8]) -> Column
-    requires { ⌜ length (now line) ≡ 12 ⌝ }
-    ensures { λ r. ⌜ ((v : ℕ) → (r ≡ Value v) ↔ NumberLine (now (line .entry)) v) ⌝ }
-{
-    if line[11] != 10 {
-        return Column::Bad;
-    }
-    columns::read_column(&line[0..11])
-}
-
-// Reads numbers that are printed each on a line of its own, and writes them to the front of the list. Bytes that are no such lines are not whole, and neither
-// are more lines than the list has entries.
-pub fn read_numbers(bytes: &[u8], list: &mut [u64]) -> Read
-    ensures { λ r. ⌜ NumbersRead (now (bytes .entry)) (now (list .entry)) (r .whole) (r .count) (now (list .exit)) ⌝ }
-{
-    let lines = bytes.len() / 12;
-    if bytes.len() != lines * 12 {
-        return Read {
-            whole: false,
-            count: 0,
-        };
-    }
-    if list.len() < lines {
-        return Read {
-            whole: false,
-            count: 0,
-        };
-    }
-    let mut count = 0;
-    while count < lines {
-        let at = count * 12;
-        let Column::Value(v) = read_number(&bytes[at..at + 12]) else {
-            return Read {
-                whole: false,
-                count,
-            };
-        };
-        list[count] = v;
-        count += 1;
-    }
-    Read { whole: true, count }
 }

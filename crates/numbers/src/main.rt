@@ -8,13 +8,13 @@ fn number_file(file: &[u8], complaint: &[u8]) {
     let mut list = [0u32; 4096];
     let r = numbering::numbers(file, &mut list);
     let refusal = r.refusal;
-    if refusal.number() != 0 {
+    if refusal.refuses() {
         intake::print_refusal(refusal, complaint);
         return;
     }
     let count = r.written;
     let mut out = [0u8; 49152];
-    let k = numbering::print_numbers(&list[..count], &mut out);
+    let k = number_lines::print_numbers(&list[..count], &mut out);
     streams::write_output(&out[..k], complaint);
 }
 

@@ -37,7 +37,7 @@ module _ (F : Form) where
           → runLines F s (l ∷ (ls ++ ms)) ≡ runOn (runLines F s (l ∷ ls)) ms
       go true e ih = run-final s (l ∷ (ls ++ ms)) e ∙ sym (rw (run-final s (l ∷ ls) e) (run-final s ms e))
       go false e ih =
-          let o = serveOf F s l 928 in
+          let o = serveOf F s l in
           let p = printed (s .lines + 1) (o .refusal) (o .bytes) in
           let r = runLines F (o .session) ls in
           run-on F s l (ls ++ ms) e ∙ ap (behind p) (ih (o .session)) ∙ behind-twice p (r .bytes) (runLines F (r .session) ms)

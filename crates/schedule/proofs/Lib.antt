@@ -1,10 +1,12 @@
 pub mod SessionLaws
-pub mod SessionTheorem
 pub mod Runs
 pub mod Cuts
 pub mod FileTheorem
+pub mod SessionTheorem
+pub mod Scans
 pub mod Before
 pub mod Places
 pub mod Surveys
 pub mod Numbers
 pub mod Logs
+pub mod Samples

@@ -21,7 +21,7 @@ use Rattle.simulation.specs.Calls.{Call, Entry, Room, Buffer, Panel, reportLine
 use Rattle.simulation.specs.Machine.{original}
 use Rattle.simulation.proofs.Judged.{direct}
 use Rattle.transition.specs.Forms.{Form, TableAnswer, freshTable, stepOf}
-use Rattle.transition.specs.Demand.{run, seen}
+use Rattle.transition.specs.Demand.{runTable, seenIn}
 use Rattle.transition.specs.Logs.{lists, Right}
 use Rattle.transition.proofs.Theorem.{Lawful, ReachedTable, table-fresh, table-count, table-refusals, table-step, step-report, step-kept, reached-held}
 use Rattle.transition.proofs.Logs.{numbers-few, report-half, logged}
@@ -29,11 +29,13 @@ use Rattle.moves.specs.Moves.{refusalNumber}
 use Rattle.moves.specs.declared.Refusal.the-variants.{Accepted}
 use Rattle.schedule.specs.Lines.{nextLine, headerRead}
 use Rattle.schedule.specs.Files.{stepLines, refusalLine, printed, fileReport}
-use Rattle.schedule.specs.Demand.{Given, callThen, stepCalls, ending, roomy, fileCalls, printedCalls, endPrinted, FileDemand}
+use Rattle.schedule.specs.Demand.{callThen, stepCalls, ending, fileCalls, printedCalls, endPrinted, FileDemand}
 use Rattle.schedule.specs.Numbers.{finalOf, readingRefusal, FileNumbers}
-use Rattle.schedule.specs.Logs.{fileLists, RightLog, ofScan, linesOfScans, listLines}
+use Rattle.schedule.specs.Scans.{scanLines}
+use Rattle.schedule.specs.Logs.{fileLists, RightLog}
 use Rattle.schedule.proofs.SessionLaws.{next-within, header-stations}
 use Rattle.schedule.proofs.FileTheorem.{lines-roomy, file-demand}
+use Rattle.schedule.proofs.Scans.{Strikes, strikes-none, strikes-append, strikes-all, strikes-line, strikes-lines}
 use Rattle.schedule.proofs.Surveys.{surveyed-none}
 use Rattle.schedule.specs.declared.Line.{Line}
 use Rattle.schedule.specs.declared.Line.the-variants.{Step, Refused}
@@ -42,18 +44,18 @@ use Rattle.schedule.specs.declared.Header.the-variants.{Stations}
 -- RIGHT LOGS
 
 -- lines past the 1,000,000th step are no steps
-calls-few : (gs : Lists.List Given) (lines : ℕ) → lines ≤ 1000001 → lines + length (stepCalls lines gs) ≤ 1000001
+calls-few : (gs : Lists.List (Lists.List ℕ)) (lines : ℕ) → lines ≤ 1000001 → lines + length (stepCalls lines gs) ≤ 1000001
 unfolding stepCalls
 calls-few [] lines h = omega arith
-calls-few (g ∷ gs) lines h = go (nextLine lines (g .line)) refl (calls-few gs (lines + 1))
+calls-few (g ∷ gs) lines h = go (nextLine lines g) refl (calls-few gs (lines + 1))
   where
-    go : (w : Line) → nextLine lines (g .line) ≡ w → (lines + 1 ≤ 1000001 → lines + 1 + length (stepCalls (lines + 1) gs) ≤ 1000001)
-        → lines + length (callThen lines (g .room) w (stepCalls (lines + 1) gs)) ≤ 1000001
+    go : (w : Line) → nextLine lines g ≡ w → (lines + 1 ≤ 1000001 → lines + 1 + length (stepCalls (lines + 1) gs) ≤ 1000001)
+        → lines + length (callThen lines w (stepCalls (lines + 1) gs)) ≤ 1000001
     go (Refused r) e ih = omega arith
-    go (Step st k j) e ih = omega (arith, ih (omega (arith, next-within lines (g .line) st k j e)))
+    go (Step st k j) e ih = omega (arith, ih (omega (arith, next-within lines g st k j e)))
 
 pub file-log : {F : Form} {bs : Lists.List ℕ} {n : ℕ} {ns : Lists.List ℕ} → FileNumbers F bs n ns → Right (F .board) n (fileCalls bs) ns (fileLists F n bs)
-file-log {bs = bs} N = logged (N .numbers) (omega (arith, calls-few (map roomy (stepLines bs)) 1 (omega arith)))
+file-log {bs = bs} N = logged (N .numbers) (omega (arith, calls-few (stepLines bs) 1 (omega arith)))
 
 -- on the original board: the numbers of every lawful form (02, Card 6) make a right log
 pub right-log : {F : Form} {bs : Lists.List ℕ} {n : ℕ} {ns : Lists.List ℕ} → F .board ≡ original → headerRead (take 18 bs) ≡ Stations n → FileNumbers F bs n ns
@@ -74,60 +76,6 @@ log-bounds {bs} R z =
     (omega (arith, few, short .0), omega (arith, few, short .1))
 
 -- A REPORT WITHOUT ITS REFUSALS
-
--- the bytes are whole report lines, and these are the ones of scans
-record Strikes (bytes kept : Lists.List ℕ) : Type 0 where
-  lines : ℕ
-  long : length bytes ≡ lines * 29
-  kept-are : linesOfScans lines bytes ≡ kept
-
-strikes-none : Strikes [] []
-unfolding linesOfScans
-strikes-none = record { lines = 0; long = refl; kept-are = refl }
-
-scans-append : (k j : ℕ) (a b : Lists.List ℕ) → length a ≡ k * 29 → linesOfScans (k + j) (a ++ b) ≡ linesOfScans k a ++ linesOfScans j b
-unfolding linesOfScans
-scans-append zero j [] b h = ap (λ i. linesOfScans i b) (zero-add j)
-scans-append zero j (x ∷ a) b h = absurd (omega arith)
-scans-append (suc k) j a b h =
-    let n : suc k + j ≡ suc (k + j) = omega arith in
-    let long : 29 ≤ length a = omega arith in
-    let left : length (drop 29 a) ≡ k * 29 = rw length-drop (omega arith) in
-    let first = cond (ofScan (take 29 a)) (take 29 a) [] in
-    rw (n, take-append-le 29 a b long, drop-append-le 29 a b long)
-    (ap (λ l. first ++ l) (scans-append k j (drop 29 a) b left) ∙ sym (append-assoc first (linesOfScans k (drop 29 a)) (linesOfScans j b)))
-
-strikes-append : {a b k l : Lists.List ℕ} → Strikes a k → Strikes b l → Strikes (a ++ b) (k ++ l)
-strikes-append {a} {b} A B = record {
-  lines = A .lines + B .lines;
-  long = omega (arith, length-append a b, A .long, B .long);
-  kept-are = scans-append (A .lines) (B .lines) a b (A .long) ∙ ap₂ _++_ (A .kept-are) (B .kept-are);
-}
-
-strikes-all : {bytes kept : Lists.List ℕ} → Strikes bytes kept → listLines bytes ≡ kept
-strikes-all {bytes} S = let e : length bytes / 29 ≡ S .lines = omega (arith, S .long) in ap (λ k. linesOfScans k bytes) e ∙ S .kept-are
-
--- one line: its refusal column is read back
-module _ (line refusal place station job : ℕ) (small : refusal < 1000) where
-  abbrev whole : Lists.List ℕ
-  whole = reportLine line refusal place station job
-
-  refusal-read : columnRead (take 3 (drop 8 whole)) ≡ Value refusal
-  unfolding reportLine lineHead lineTail
-  refusal-read = column-iff (column 3 refusal) refusal (omega arith) .1 (refl, small)
-
-  strikes-line : Strikes whole (cond (eqb refusal 0) whole [])
-  unfolding linesOfScans ofScan
-  strikes-line = record {
-    lines = 1;
-    long = length-report-line line refusal place station job;
-    kept-are = rw (take-all 29 whole (omega (arith, length-report-line line refusal place station job)), refusal-read) (append-nil _);
-  }
-
-strikes-lines : (line from : ℕ) (l : Lists.List Entry) → Strikes (reportLines line from l) (reportLines line from l)
-unfolding reportLines
-strikes-lines line from [] = strikes-none
-strikes-lines line from (e ∷ l) = strikes-append (strikes-line line 0 from (e .station) (e .job) (omega arith)) (strikes-lines line (suc from) l)
 
 strikes-written : (line : ℕ) (room : Room) (l : Lists.List Entry) → let b = bytesOf (written line room l) in Strikes b b
 strikes-written line (Buffer b) l = strikes-lines line 1 l
@@ -171,15 +119,15 @@ module _ (F : Form) (L : Lawful F) (n : ℕ) (low : 2 ≤ n) (high : n ≤ 32) w
           rw (none (eqb-false x 0 e)) (rw e at s)
 
   strikes-calls : (cs : Lists.List Call) (t : F .Table) → ReachedTable F n t
-      → Strikes (printedCalls cs (map (seen F) (run F t cs))) (lists (map (λ a. a .report) (run F t cs)))
-  unfolding printedCalls run lists
+      → Strikes (printedCalls cs (map (seenIn F) (runTable F t cs))) (lists (map (λ a. a .report) (runTable F t cs)))
+  unfolding printedCalls runTable lists
   strikes-calls [] t r = strikes-none
   strikes-calls (c ∷ cs) t r = strikes-append (strikes-call t r c) (strikes-calls cs (stepOf F t c .table) (table-step F L n low high t r c))
 
 -- THE REPORT OF A FILE all of whose lines are steps, without the lines of refusals
 pub lists-struck : (F : Form) → Lawful F → (bs : Lists.List ℕ) (n : ℕ) → headerRead (take 18 bs) ≡ Stations n
-    → refusalNumber (ending 1 (map roomy (stepLines bs))) ≡ 0 → listLines (fileReport F bs) ≡ fileLists F n bs
-lists-struck F L bs n e z = ap listLines report ∙ strikes-all (strikes-calls F L n low high (fileCalls bs) (freshTable F n) (table-fresh F L n low high))
+    → refusalNumber (ending 1 (stepLines bs)) ≡ 0 → scanLines (fileReport F bs) ≡ fileLists F n bs
+lists-struck F L bs n e z = ap scanLines report ∙ strikes-all (strikes-calls F L n low high (fileCalls bs) (freshTable F n) (table-fresh F L n low high))
   where
     low : 2 ≤ n
     low = header-stations (take 18 bs) n e .0
@@ -191,11 +139,11 @@ lists-struck F L bs n e z = ap listLines report ∙ strikes-all (strikes-calls F
     D = file-demand F L bs n e
 
     shown : Lists.List ℕ
-    shown = printedCalls (fileCalls bs) (map (seen F) (run F (freshTable F n) (fileCalls bs)))
+    shown = printedCalls (fileCalls bs) (map (seenIn F) (runTable F (freshTable F n) (fileCalls bs)))
 
-    none : endPrinted 1 (map roomy (stepLines bs)) ≡ []
+    none : endPrinted 1 (stepLines bs) ≡ []
     none = rw (eq-eqb _ 0 z) refl
 
     report : fileReport F bs ≡ shown
-    report = D .report ∙ ap (λ x. printedCalls (fileCalls bs) x ++ endPrinted 1 (map roomy (stepLines bs))) (sym (D .demand .same))
+    report = D .report ∙ ap (λ x. printedCalls (fileCalls bs) x ++ endPrinted 1 (stepLines bs)) (sym (D .demand .same))
         ∙ ap (λ x. shown ++ x) none ∙ append-nil shown

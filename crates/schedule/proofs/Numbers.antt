@@ -5,7 +5,6 @@ use mathlib.Core.List as Lists
 use mathlib.Core.List.{[], _∷_, _++_, map, append-nil}
 use lib.ListN.{take}
 use borrow.Author.Tests.{eq-eqb}
-use Rattle.simulation.specs.Calls.{Buffer}
 use Rattle.simulation.specs.Machine as Machine
 use Rattle.simulation.specs.Machine.{original}
 use Rattle.simulation.specs.Numbering.{numbersOf}
@@ -13,12 +12,12 @@ use Rattle.transition.specs.Forms.{Form, freshTable}
 use Rattle.transition.specs.Numbers.{withNumbers, Numbers}
 use Rattle.transition.proofs.Theorem.{Lawful}
 use Rattle.transition.proofs.Numbers.{numbers}
-use Rattle.moves.specs.Moves.{refusalNumber, called}
+use Rattle.moves.specs.Moves.{refusalNumber}
 use Rattle.moves.specs.declared.Refusal.the-variants.{Accepted}
-use Rattle.schedule.specs.Lines.{nextLine, headerRead}
+use Rattle.schedule.specs.Lines.{nextLine, headerRead, lineCall}
 use Rattle.schedule.specs.Sessions.{Session, session, Served, ended, stepLine}
 use Rattle.schedule.specs.Files.{stepLines, runLines, fileRefusal}
-use Rattle.schedule.specs.Demand.{ending, endThen, roomy, fileCalls, printedCalls, endPrinted, FileDemand}
+use Rattle.schedule.specs.Demand.{ending, endThen, fileCalls, printedCalls, endPrinted, FileDemand}
 use Rattle.schedule.specs.Numbers.{finalAfter, finalOf, FileNumbers}
 use Rattle.schedule.proofs.SessionLaws.{Numbered, next-numbered, header-stations, Live, fresh-live, live-final, live-serve, next-live}
 use Rattle.schedule.proofs.Runs.{final-run, file-refused, file-served}
@@ -32,24 +31,24 @@ use Rattle.schedule.specs.declared.Header.the-variants.{Stations}
 module _ (F : Form) (L : Lawful F) (n : ℕ) (low : 2 ≤ n) (high : n ≤ 32) where
   -- the run of the lines ends with the refusal that reading them tells
   run-ending : (ls : Lists.List (Lists.List ℕ)) (s : Session (F .Table)) → Live F n s
-      → runLines F s ls .refusal ≡ refusalNumber (ending (s .lines) (map roomy ls))
+      → runLines F s ls .refusal ≡ refusalNumber (ending (s .lines) ls)
   unfolding runLines ending
   run-ending [] s v = ap refusalNumber (v .going)
   run-ending (l ∷ ls) s v =
-      rw (live-final F L n low high s v, live-serve F L n low high s v l 928) (go (nextLine (s .lines) l) (next-numbered (s .lines) l) (run-ending ls))
+      rw (live-final F L n low high s v, live-serve F L n low high s v l) (go (nextLine (s .lines) l) (next-numbered (s .lines) l) (run-ending ls))
     where
-      go : (w : Line) → Numbered w → ((s′ : Session (F .Table)) → Live F n s′ → runLines F s′ ls .refusal ≡ refusalNumber (ending (s′ .lines) (map roomy ls)))
-          → runLines F (stepLine F s 928 w .session) ls .refusal ≡ refusalNumber (endThen w (ending (s .lines + 1) (map roomy ls)))
+      go : (w : Line) → Numbered w → ((s′ : Session (F .Table)) → Live F n s′ → runLines F s′ ls .refusal ≡ refusalNumber (ending (s′ .lines) ls))
+          → runLines F (stepLine F s w .session) ls .refusal ≡ refusalNumber (endThen w (ending (s .lines + 1) ls))
       go (Refused r) d ih = ap (λ (o : Served (F .Table)). o .refusal) (final-run F (ended s r) ls d)
       go (Step st k j) d ih =
-          let c = called (s .lines + 1) k st j (Buffer 928) in
+          let c = lineCall (s .lines) st k j in
           ih _ (next-live F L n low high s v c (s .lines + 1))
 
 -- THE FINAL REFUSAL that reading tells is the one that the run of the file meets
 pub final-met : (F : Form) → Lawful F → (bs : Lists.List ℕ) → refusalNumber (finalOf bs) ≡ fileRefusal F bs
 final-met F L bs = go (headerRead (take 18 bs)) refl
   where
-    go : (h : Header) → headerRead (take 18 bs) ≡ h → refusalNumber (finalAfter h (map roomy (stepLines bs))) ≡ fileRefusal F bs
+    go : (h : Header) → headerRead (take 18 bs) ≡ h → refusalNumber (finalAfter h (stepLines bs)) ≡ fileRefusal F bs
     go (Headers.Refused r) e = sym (ap (λ (o : Served (F .Table)). o .refusal) (file-refused F bs r e))
     go (Stations n) e =
         let size = header-stations (take 18 bs) n e in
@@ -58,10 +57,10 @@ final-met F L bs = go (headerRead (take 18 bs)) refl
 
 -- THE NUMBERS OF A FILE, for every list of bytes whose header is accepted and all of whose lines are steps
 pub file-numbers : (F : Form) → Lawful F → (bs : Lists.List ℕ) (n : ℕ) → headerRead (take 18 bs) ≡ Stations n
-    → refusalNumber (ending 1 (map roomy (stepLines bs))) ≡ 0 → FileNumbers F bs n (numbersOf original n (fileCalls bs))
+    → refusalNumber (ending 1 (stepLines bs)) ≡ 0 → FileNumbers F bs n (numbersOf original n (fileCalls bs))
 file-numbers F L bs n e z = record {
   numbers = N;
-  report = D .report ∙ ap (λ x. printedCalls (fileCalls bs) x ++ endPrinted 1 (map roomy (stepLines bs))) (sym (D .demand .same) ∙ N .same)
+  report = D .report ∙ ap (λ x. printedCalls (fileCalls bs) x ++ endPrinted 1 (stepLines bs)) (sym (D .demand .same) ∙ N .same)
       ∙ ap (λ x. shown ++ x) none ∙ append-nil shown;
 }
   where
@@ -77,5 +76,5 @@ file-numbers F L bs n e z = record {
     N : Numbers F n (fileCalls bs) ns
     N = let size = header-stations (take 18 bs) n e in numbers F L n (size .0) (size .1) (fileCalls bs)
 
-    none : endPrinted 1 (map roomy (stepLines bs)) ≡ []
+    none : endPrinted 1 (stepLines bs) ≡ []
     none = rw (eq-eqb _ 0 z) refl

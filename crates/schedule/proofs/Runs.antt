@@ -13,12 +13,12 @@ use borrow.Author.Tests.{eq-eqb, ne-eqb, leb-true, leb-false}
 use borrow.Rule.Slice.PartMut.{midOf, putMid}
 use Rattle.columns.specs.Columns.{reportLine}
 use Rattle.columns.proofs.ColumnLaws.{length-report-line}
-use Rattle.simulation.specs.Calls.{Call, Buffer, bytesOf}
+use Rattle.simulation.specs.Calls.{Call, bytesOf}
 use Rattle.transition.specs.Forms.{Form, over, freshTable, stepOf}
-use Rattle.moves.specs.Moves.{refusalNumber, called}
+use Rattle.moves.specs.Moves.{refusalNumber}
 use Rattle.moves.specs.declared.Refusal.{Refusal}
 use Rattle.moves.specs.declared.Refusal.the-variants.{Accepted}
-use Rattle.schedule.specs.Lines.{nextLine, headerRead}
+use Rattle.schedule.specs.Lines.{nextLine, headerRead, lineCall}
 use Rattle.schedule.specs.Sessions.{Session, session, isFinal, standing, ended, stepLine, serveOf}
 use Rattle.schedule.specs.Files.{stepLines, refusalLine, printed, behind, runLines, fileRun}
 use Rattle.schedule.proofs.SessionLaws.{header-refused, serve-next}
@@ -36,7 +36,7 @@ module _ (F : Form) where
     final-run [] d = refl
     final-run (l ∷ ls) d = rw (ne-eqb _ _ d) refl
 
-    pub run-on : (l : Lists.List ℕ) (ls : Lists.List (Lists.List ℕ)) → isFinal s ≡ false → let o = serveOf F s l 928 in
+    pub run-on : (l : Lists.List ℕ) (ls : Lists.List (Lists.List ℕ)) → isFinal s ≡ false → let o = serveOf F s l in
         runLines F s (l ∷ ls) ≡ behind (printed (s .lines + 1) (o .refusal) (o .bytes)) (runLines F (o .session) ls)
     unfolding runLines
     run-on l ls e = rw e refl
@@ -47,18 +47,18 @@ module _ (F : Form) where
 
   -- one line, on a well-formed table
   module _ (s : Session (F .Table)) (l : Lists.List ℕ) (going : refusalNumber (s .refusal) ≡ 0) (ok : F .wellFormed (s .table) ≡ true) where
-    run-line : let o = stepLine F s 928 (nextLine (s .lines) l) in
+    run-line : let o = stepLine F s (nextLine (s .lines) l) in
         runLines F s (l ∷ [])
         ≡ record { session = o .session; refusal = refusalNumber (o .session .refusal); bytes = printed (s .lines + 1) (o .refusal) (o .bytes) }
     unfolding runLines
-    run-line = rw (eq-eqb _ _ going, serve-next F s l 928 going ok _ refl, append-nil) refl
+    run-line = rw (eq-eqb _ _ going, serve-next F s l going ok _ refl, append-nil) refl
 
     pub run-refused : (r : Refusal) → nextLine (s .lines) l ≡ Refused r
         → runLines F s (l ∷ [])
         ≡ record { session = ended s r; refusal = refusalNumber r; bytes = printed (s .lines + 1) (refusalNumber r) [] }
     run-refused r e = run-line ∙ rw e refl
 
-    pub run-step : (station code job : ℕ) → nextLine (s .lines) l ≡ Step station code job → let c = called (s .lines + 1) code station job (Buffer 928) in
+    pub run-step : (station code job : ℕ) → nextLine (s .lines) l ≡ Step station code job → let c = lineCall (s .lines) station code job in
         runLines F s (l ∷ [])
         ≡ record {
           session = session (s .lines + 1) (s .refusal) (stepOf F (s .table) c .table);

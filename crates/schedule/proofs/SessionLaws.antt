@@ -27,41 +27,72 @@ use Rattle.schedule.specs.declared.Header.{Header}
 use Rattle.schedule.specs.declared.Header.the-variants as Headers
 use Rattle.schedule.specs.declared.Header.the-variants.{Stations}
 
--- A LINE THAT IS REFUSED WHEN IT IS READ has a number
+-- A LINE THAT IS REFUSED WHEN IT IS READ: by 8, 9 or 12, so what holds of these three holds of its number
 
+module _ (P : ℕ → Type 0) where
+  abbrev pub Says : Line → Type 0
+  Says (Refused r) = P (refusalNumber r)
+  Says (Step s k j) = Unit {0}
+
+  module _ (eight : P 8) (nine : P 9) where
+    read-says : (x y z : Column) → Says (stepRead x y z)
+    read-says Bad y z = nine
+    read-says (Value a) Bad z = nine
+    read-says (Value a) (Value b) Bad = nine
+    read-says (Value a) (Value b) (Value d) = tt
+
+    line-says : (l : Lists.List ℕ) → Says (lineRead l)
+    unfolding lineRead
+    line-says l = go (eqb (length l) 18 && eqb (getD l 17 0) 10)
+      where
+        columns : Line
+        columns = stepRead (columnRead (take 3 l)) (columnRead (take 3 (drop 3 l))) (columnRead (take 11 (drop 6 l)))
+
+        go : (b : Bool) → Says (cond b columns (Refused IncompleteLine))
+        go true = read-says (columnRead (take 3 l)) (columnRead (take 3 (drop 3 l))) (columnRead (take 11 (drop 6 l)))
+        go false = eight
+
+    pub next-says : P 12 → (lines : ℕ) (l : Lists.List ℕ) → Says (nextLine lines l)
+    next-says twelve lines l = go (ltb 1000000 lines)
+      where
+        go : (b : Bool) → Says (cond b (Refused TooManyLines) (lineRead l))
+        go true = twelve
+        go false = line-says l
+
+-- it has a number
 abbrev pub Numbered : Line → Type 0
-Numbered (Refused r) = refusalNumber r ≢ 0
-Numbered (Step s k j) = Unit {0}
-
-read-numbered : (x y z : Column) → Numbered (stepRead x y z)
-read-numbered Bad y z = omega arith
-read-numbered (Value a) Bad z = omega arith
-read-numbered (Value a) (Value b) Bad = omega arith
-read-numbered (Value a) (Value b) (Value d) = tt
+Numbered = Says (λ k. k ≢ 0)
 
 line-numbered : (l : Lists.List ℕ) → Numbered (lineRead l)
+line-numbered = line-says (λ k. k ≢ 0) (omega arith) (omega arith)
+
+-- a step has 18 bytes
+step-length : (l : Lists.List ℕ) (station code job : ℕ) → lineRead l ≡ Step station code job → length l ≡ 18
 unfolding lineRead
-line-numbered l = go (eqb (length l) 18 && eqb (getD l 17 0) 10)
+step-length l station code job = go (eqb (length l) 18) refl
   where
     columns : Line
     columns = stepRead (columnRead (take 3 l)) (columnRead (take 3 (drop 3 l))) (columnRead (take 11 (drop 6 l)))
 
-    go : (b : Bool) → Numbered (cond b columns (Refused IncompleteLine))
-    go true = read-numbered (columnRead (take 3 l)) (columnRead (take 3 (drop 3 l))) (columnRead (take 11 (drop 6 l)))
-    go false = omega arith
+    go : (b : Bool) → eqb (length l) 18 ≡ b → cond (b && eqb (getD l 17 0) 10) columns (Refused IncompleteLine) ≡ Step station code job → length l ≡ 18
+    go true e h = eqb-true (length l) 18 e
+    go false e h = let z : _≡_ {A = ℕ} 0 1 = cc in absurd (omega arith)
 
 module _ (lines : ℕ) (l : Lists.List ℕ) where
   pub next-numbered : Numbered (nextLine lines l)
-  next-numbered = go (ltb 1000000 lines)
-    where
-      go : (b : Bool) → Numbered (cond b (Refused TooManyLines) (lineRead l))
-      go true = omega arith
-      go false = line-numbered l
+  next-numbered = next-says (λ k. k ≢ 0) (omega arith) (omega arith) (omega arith) lines l
 
   pub next-refused : (r : Refusal) → nextLine lines l ≡ Refused r → refusalNumber r ≢ 0
   next-refused r e = subst Numbered e next-numbered
 
-  -- a line that is a step is none too many
+  -- a line that is a step is whole, and none too many
+  pub next-length : (station code job : ℕ) → nextLine lines l ≡ Step station code job → length l ≡ 18
+  next-length station code job = go (ltb 1000000 lines)
+    where
+      go : (b : Bool) → cond b (Refused TooManyLines) (lineRead l) ≡ Step station code job → length l ≡ 18
+      go true h = let z : _≡_ {A = ℕ} 0 1 = cc in absurd (omega arith)
+      go false h = step-length l station code job h
+
   pub next-within : (station code job : ℕ) → nextLine lines l ≡ Step station code job → lines ≤ 1000000
   next-within station code job = go (ltb 1000000 lines) refl
     where
@@ -103,15 +134,12 @@ module _ (l : Lists.List ℕ) where
 
   -- and it is a whole line
   pub header-length : (n : ℕ) → headerRead l ≡ Stations n → length l ≡ 18
-  unfolding headerRead lineRead
-  header-length n = go (eqb (length l) 18) refl
+  unfolding headerRead
+  header-length n = go (lineRead l) refl
     where
-      columns : Line
-      columns = stepRead (columnRead (take 3 l)) (columnRead (take 3 (drop 3 l))) (columnRead (take 11 (drop 6 l)))
-
-      go : (b : Bool) → eqb (length l) 18 ≡ b → headerSaid (cond (b && eqb (getD l 17 0) 10) columns (Refused IncompleteLine)) ≡ Stations n → length l ≡ 18
-      go true e h = eqb-true (length l) 18 e
-      go false e h = let z : _≡_ {A = ℕ} 0 1 = cc in absurd (omega arith)
+      go : (w : Line) → lineRead l ≡ w → headerSaid w ≡ Stations n → length l ≡ 18
+      go (Refused r) e h = let z : _≡_ {A = ℕ} 0 1 = cc in absurd (omega arith)
+      go (Step st k j) e h = step-length l st k j e
 
   -- a session that goes on behind its header has an accepted one
   pub header-accepted : (F : Form) → isFinal (headerOf F l) ≡ false → (n : ℕ) × (headerRead l ≡ Stations n)
@@ -128,17 +156,17 @@ pub serves-as : {T : Type 0} {o o′ : Served T} {s : Session T} {refusal writte
     → Serves o′ s refusal written buffer buffer′ → Serves o s refusal written buffer buffer′
 serves-as e h = rw e h
 
-module _ (F : Form) (s : Session (F .Table)) (line : Lists.List ℕ) (room : ℕ) where
-  pub serve-final : refusalNumber (s .refusal) ≢ 0 → serveOf F s line room ≡ standing s
+module _ (F : Form) (s : Session (F .Table)) (line : Lists.List ℕ) where
+  pub serve-final : refusalNumber (s .refusal) ≢ 0 → serveOf F s line ≡ standing s
   unfolding serveOf
   serve-final f = simp (ne-eqb _ _ f)
 
   module _ (none : refusalNumber (s .refusal) ≡ 0) where
-    pub serve-ill-formed : F .wellFormed (s .table) ≡ false → serveOf F s line room ≡ illFormed s
+    pub serve-ill-formed : F .wellFormed (s .table) ≡ false → serveOf F s line ≡ illFormed s
     unfolding serveOf
     serve-ill-formed w = simp (eq-eqb _ _ none, w)
 
-    pub serve-next : F .wellFormed (s .table) ≡ true → (l : Line) → nextLine (s .lines) line ≡ l → serveOf F s line room ≡ stepLine F s room l
+    pub serve-next : F .wellFormed (s .table) ≡ true → (l : Line) → nextLine (s .lines) line ≡ l → serveOf F s line ≡ stepLine F s l
     unfolding serveOf
     serve-next w l e = simp (eq-eqb _ _ none, w, e)
 
@@ -156,9 +184,9 @@ module _ (F : Form) (L : Lawful F) (n : ℕ) (low : 2 ≤ n) (high : n ≤ 32) w
     pub live-final : isFinal s ≡ false
     live-final = ap (λ (r : Refusal). not (eqb (refusalNumber r) 0)) (v .going)
 
-    pub live-serve : (l : Lists.List ℕ) (room : ℕ) → serveOf F s l room ≡ stepLine F s room (nextLine (s .lines) l)
-    live-serve l room =
-        serve-next F s l room (ap refusalNumber (v .going)) (table-passes F L n low high (s .table) (v .reached)) (nextLine (s .lines) l) refl
+    pub live-serve : (l : Lists.List ℕ) → serveOf F s l ≡ stepLine F s (nextLine (s .lines) l)
+    live-serve l =
+        serve-next F s l (ap refusalNumber (v .going)) (table-passes F L n low high (s .table) (v .reached)) (nextLine (s .lines) l) refl
 
     -- a step keeps the session live
     pub next-live : (c : Call) (lines : ℕ) → Live F n (session lines (s .refusal) (stepOf F (s .table) c .table))

@@ -5,8 +5,8 @@ use native.Mathlib.Omega.{arith}
 use mathlib.Core.Path.{_≡_, refl, sym, ap, _∙_}
 use mathlib.Core.Bool.{Bool, true, false, cond}
 use mathlib.Core.List as Lists
-use mathlib.Core.List.{[], _∷_, _++_, map, map-append, append-nil}
-use lib.ListN.{length, take, drop, length-map, length-drop}
+use mathlib.Core.List.{[], _∷_, _++_, append-nil}
+use lib.ListN.{length, take, drop, length-drop}
 use lib.Seq.{take-at, drop-at}
 use lib.Dec.{eqb, ltb}
 use borrow.Author.Tests.{eq-eqb, ne-eqb, eqb-true, lt-ltb, ltb-false}
@@ -14,48 +14,25 @@ use Rattle.basics.specs.Tests.{passing}
 use Rattle.basics.proofs.Facts.{tf}
 use Rattle.basics.proofs.Passing.{passing-cons}
 use Rattle.simulation.specs.Calls.{Call, Buffer}
-use Rattle.moves.specs.Moves.{refusalNumber, called}
+use Rattle.moves.specs.Moves.{refusalNumber, callOf}
 use Rattle.moves.proofs.MoveLaws.{accepted}
+use Rattle.moves.specs.declared.Request.{Request}
 use Rattle.moves.specs.declared.Refusal.{Refusal}
 use Rattle.moves.specs.declared.Refusal.the-variants.{Accepted, TooManySteps}
 use Rattle.schedule.specs.Lines.{nextLine, headerRead}
-use Rattle.schedule.specs.Files.{cut, pieces, stepLines}
-use Rattle.schedule.specs.Demand.{Given, callThen, stepCalls, endThen, ending, roomy, fileCalls}
-use Rattle.schedule.specs.Numbers.{finalAfter, finalOf, surveyed, snapCalls, givenIn, Surveys}
+use Rattle.schedule.specs.Files.{cut, pieces, linesOf, stepLines}
+use Rattle.schedule.specs.Demand.{callThen, stepCalls, endThen, ending, fileCalls}
+use Rattle.schedule.specs.Numbers.{finalAfter, finalOf, surveyed, snapCalls, Surveys}
 use Rattle.schedule.proofs.SessionLaws.{Numbered, next-numbered, next-refused, next-within, header-refused}
 use Rattle.schedule.proofs.Cuts.{lines-append, joined, Whole}
 use Rattle.schedule.proofs.Runs.{rest-after}
-use Rattle.schedule.proofs.Places.{linesFrom, lines-none, line-within, lines-next}
+use Rattle.schedule.proofs.Places.{linesFrom, callsFrom, StepAt, calls-step}
 use Rattle.schedule.specs.declared.Line.{Line}
 use Rattle.schedule.specs.declared.Line.the-variants.{Step, Refused}
 use Rattle.schedule.specs.declared.Header.{Header}
 use Rattle.schedule.specs.declared.Header.the-variants as Headers
 use Rattle.schedule.specs.declared.Header.the-variants.{Stations}
 use Rattle.schedule.specs.declared.Survey.{Survey}
-
--- the lines from a place on, each with room for a whole scan result; and as calls, behind `lines` others
-abbrev pub givenFrom : Lists.List ℕ → ℕ → Lists.List Given
-givenFrom chunk at = map roomy (linesFrom chunk at)
-
-abbrev pub callsFrom : ℕ → Lists.List ℕ → ℕ → Lists.List Call
-callsFrom lines chunk at = stepCalls lines (givenFrom chunk at)
-
--- the calls at the end, at a line that ends the reading, and at a step
-pub calls-none : (lines : ℕ) (chunk : Lists.List ℕ) (at : ℕ) → length chunk ≤ at
-    → (callsFrom lines chunk at ≡ []) × (ending lines (givenFrom chunk at) ≡ Accepted)
-unfolding stepCalls ending
-calls-none lines chunk at h = rw (lines-none chunk at h) (refl, refl)
-
-module _ (lines : ℕ) (chunk : Lists.List ℕ) {at : ℕ} (h : at < length chunk) {l : Lists.List ℕ} (p : l ≡ take 18 (drop at chunk)) where
-  pub calls-refused : (r : Refusal) → nextLine lines l ≡ Refused r → (callsFrom lines chunk at ≡ []) × (ending lines (givenFrom chunk at) ≡ r)
-  unfolding stepCalls ending
-  calls-refused r e = rw (lines-next chunk h p, e) (refl, refl)
-
-  pub calls-step : (station code job : ℕ) → nextLine lines l ≡ Step station code job
-      → (callsFrom lines chunk at ≡ called (lines + 1) code station job (Buffer 928) ∷ callsFrom (lines + 1) chunk (at + length l))
-      × (ending lines (givenFrom chunk at) ≡ ending (lines + 1) (givenFrom chunk (at + length l)))
-  unfolding stepCalls ending
-  calls-step station code job e = rw (lines-next chunk h p, e) (refl, refl)
 
 -- one, or none
 abbrev pub one : Bool → ℕ
@@ -74,9 +51,9 @@ pub record Surveyed (lines : ℕ) (chunk : Lists.List ℕ) (steps snaps at : ℕ
   pub within : at ≤ length chunk
   pub few : steps ≤ 1000001 - lines
   pub fewer : snaps ≤ steps
-  pub refusal : ending lines (givenIn chunk) ≡ ending (lines + steps) (givenFrom chunk at)
-  pub counted : length (stepCalls lines (givenIn chunk)) ≡ steps + length (callsFrom (lines + steps) chunk at)
-  pub snapped : snapCalls (stepCalls lines (givenIn chunk)) ≡ snaps + snapCalls (callsFrom (lines + steps) chunk at)
+  pub refusal : ending lines (linesOf chunk) ≡ ending (lines + steps) (linesFrom chunk at)
+  pub counted : length (stepCalls lines (linesOf chunk)) ≡ steps + length (callsFrom (lines + steps) chunk at)
+  pub snapped : snapCalls (stepCalls lines (linesOf chunk)) ≡ snaps + snapCalls (callsFrom (lines + steps) chunk at)
 
 pub surveyed-start : (lines : ℕ) (chunk : Lists.List ℕ) → Surveyed lines chunk 0 0 0
 surveyed-start lines chunk =
@@ -85,14 +62,14 @@ surveyed-start lines chunk =
       within = omega arith;
       few = omega arith;
       fewer = omega arith;
-      refusal = ap (λ k. ending k (givenIn chunk)) (sym none);
-      counted = omega (arith, ap (λ k. length (stepCalls k (givenIn chunk))) none);
-      snapped = omega (arith, ap (λ k. snapCalls (stepCalls k (givenIn chunk))) none);
+      refusal = ap (λ k. ending k (linesOf chunk)) (sym none);
+      counted = omega (arith, ap (λ k. length (stepCalls k (linesOf chunk))) none);
+      snapped = omega (arith, ap (λ k. snapCalls (stepCalls k (linesOf chunk))) none);
     }
 
 module _ {lines : ℕ} {chunk : Lists.List ℕ} {steps snaps at : ℕ} (f : Surveyed lines chunk steps snaps at) where
   -- the reading ends with r, and no step is left
-  pub surveyed-end : (r : Refusal) → (callsFrom (lines + steps) chunk at ≡ []) × (ending (lines + steps) (givenFrom chunk at) ≡ r)
+  pub surveyed-end : (r : Refusal) → (callsFrom (lines + steps) chunk at ≡ []) × (ending (lines + steps) (linesFrom chunk at) ≡ r)
       → Surveys lines chunk (record { refusal = r; steps = steps; snaps = snaps })
   unfolding passing
   surveyed-end r e = record {
@@ -102,43 +79,42 @@ module _ {lines : ℕ} {chunk : Lists.List ℕ} {steps snaps at : ℕ} (f : Surv
   }
 
   -- one step more
-  pub surveyed-more : at < length chunk → {l : Lists.List ℕ} → l ≡ take 18 (drop at chunk) → {station code job : ℕ}
-      → nextLine (lines + steps) l ≡ Step station code job → {snaps′ : ℕ} → snaps′ ≡ snaps + one (eqb code 3)
-      → Surveyed lines chunk (steps + 1) snaps′ (at + length l)
-  surveyed-more h {l} p {station} {code} {job} e {snaps′} q =
-      let w = calls-step (lines + steps) chunk h p station code job e in
+  pub surveyed-more : {q : Request} → StepAt (lines + steps) chunk at q → {snaps′ : ℕ} → snaps′ ≡ snaps + one (eqb (q .code) 3)
+      → Surveyed lines chunk (steps + 1) snaps′ (at + 18)
+  surveyed-more {q} g {snaps′} e =
+      let w = calls-step (lines + steps) chunk at (f .within) g in
       let same : lines + steps + 1 ≡ lines + (steps + 1) = omega arith in
-      let low = one-few (eqb code 3) in
-      let c = called (lines + steps + 1) code station job (Buffer 928) in
-      let rest = callsFrom (lines + steps + 1) chunk (at + length l) in
+      let low = one-few (eqb (q .code) 3) in
+      let c = callOf q (Buffer 928) in
+      let rest = callsFrom (lines + steps + 1) chunk (at + 18) in
       record {
-        within = line-within chunk h p .0;
-        few = omega (arith, next-within (lines + steps) l station code job e);
-        fewer = omega (arith, q, low, f .fewer);
-        refusal = f .refusal ∙ w .1 ∙ ap (λ k. ending k (givenFrom chunk (at + length l))) same;
-        counted = omega (arith, f .counted, ap length (w .0), ap (λ k. length (callsFrom k chunk (at + length l))) same);
+        within = g .within;
+        few = omega (arith, g .few);
+        fewer = omega (arith, e, low, f .fewer);
+        refusal = f .refusal ∙ w .1 ∙ ap (λ k. ending k (linesFrom chunk (at + 18))) same;
+        counted = omega (arith, f .counted, ap length (w .0), ap (λ k. length (callsFrom k chunk (at + 18))) same);
         snapped = omega (
           arith,
-          q,
+          e,
           f .snapped,
           ap snapCalls (w .0) ∙ snap-calls c rest,
-          ap (λ k. snapCalls (callsFrom k chunk (at + length l))) same,
+          ap (λ k. snapCalls (callsFrom k chunk (at + 18))) same,
         );
       }
 
 -- A PART WITHOUT A FINAL REFUSAL: all its lines are steps, and none is one too many
-all-steps : (gs : Lists.List Given) (lines : ℕ) → lines ≤ 1000001 → refusalNumber (ending lines gs) ≡ 0
+all-steps : (gs : Lists.List (Lists.List ℕ)) (lines : ℕ) → lines ≤ 1000001 → refusalNumber (ending lines gs) ≡ 0
     → (length (stepCalls lines gs) ≡ length gs) × (lines + length gs ≤ 1000001)
 unfolding stepCalls ending
 all-steps [] lines h z = (refl, omega arith)
-all-steps (g ∷ gs) lines h z = go (nextLine lines (g .line)) refl z (all-steps gs)
+all-steps (g ∷ gs) lines h z = go (nextLine lines g) refl z (all-steps gs)
   where
-    go : (w : Line) → nextLine lines (g .line) ≡ w → refusalNumber (endThen w (ending (lines + 1) gs)) ≡ 0
+    go : (w : Line) → nextLine lines g ≡ w → refusalNumber (endThen w (ending (lines + 1) gs)) ≡ 0
         → ((lines : ℕ) → lines ≤ 1000001 → refusalNumber (ending lines gs) ≡ 0 → (length (stepCalls lines gs) ≡ length gs) × (lines + length gs ≤ 1000001))
-        → (length (callThen lines (g .room) w (stepCalls (lines + 1) gs)) ≡ length (g ∷ gs)) × (lines + length (g ∷ gs) ≤ 1000001)
-    go (Refused r) e z ih = absurd (next-refused lines (g .line) r e z)
+        → (length (callThen lines w (stepCalls (lines + 1) gs)) ≡ length (g ∷ gs)) × (lines + length (g ∷ gs) ≤ 1000001)
+    go (Refused r) e z ih = absurd (next-refused lines g r e z)
     go (Step station code job) e z ih =
-        let u = ih (lines + 1) (omega (arith, next-within lines (g .line) station code job e)) z in
+        let u = ih (lines + 1) (omega (arith, next-within lines g station code job e)) z in
         (omega (arith, u .0), omega (arith, u .1))
 
 length-cut : (k : ℕ) (bs : Lists.List ℕ) → length (cut k bs) ≡ k
@@ -146,11 +122,11 @@ unfolding cut
 length-cut zero bs = refl
 length-cut (suc k) bs = omega (arith, length-cut k (drop 18 bs))
 
-pub all-lines : (chunk : Lists.List ℕ) (lines : ℕ) → lines ≤ 1000001 → refusalNumber (ending lines (givenIn chunk)) ≡ 0
-    → (length (stepCalls lines (givenIn chunk)) ≡ pieces chunk) × (lines + pieces chunk ≤ 1000001)
+pub all-lines : (chunk : Lists.List ℕ) (lines : ℕ) → lines ≤ 1000001 → refusalNumber (ending lines (linesOf chunk)) ≡ 0
+    → (length (stepCalls lines (linesOf chunk)) ≡ pieces chunk) × (lines + pieces chunk ≤ 1000001)
 all-lines chunk lines h z =
-    let u = all-steps (givenIn chunk) lines h z in
-    let long : length (givenIn chunk) ≡ pieces chunk = length-map (cut (pieces chunk) chunk) roomy ∙ length-cut (pieces chunk) chunk in
+    let u = all-steps (linesOf chunk) lines h z in
+    let long : length (linesOf chunk) ≡ pieces chunk = length-cut (pieces chunk) chunk in
     (u .0 ∙ long, omega (arith, u .1, long))
 
 pub survey-on : {lines : ℕ} {chunk : Lists.List ℕ} {r : Survey} → Surveys lines chunk r → lines ≤ 1000001 → 0 < length chunk → refusalNumber (r .refusal) ≡ 0
@@ -179,26 +155,26 @@ firstOf r s = cond (eqb (refusalNumber r) 0) s r
 
 abbrev pub surveyParts : ℕ → Lists.List (Lists.List ℕ) → Refusal
 surveyParts lines [] = Accepted
-surveyParts lines (p ∷ ps) = firstOf (ending lines (givenIn p)) (surveyParts (lines + length (stepCalls lines (givenIn p))) ps)
+surveyParts lines (p ∷ ps) = firstOf (ending lines (linesOf p)) (surveyParts (lines + length (stepCalls lines (linesOf p))) ps)
 
-ending-append : (gs hs : Lists.List Given) (lines : ℕ) → ending lines (gs ++ hs) ≡ firstOf (ending lines gs) (ending (lines + length (stepCalls lines gs)) hs)
+ending-append : (gs hs : Lists.List (Lists.List ℕ)) (lines : ℕ) → ending lines (gs ++ hs) ≡ firstOf (ending lines gs) (ending (lines + length (stepCalls lines gs)) hs)
 unfolding ending stepCalls
 ending-append [] hs lines = ap (λ k. ending k hs) (sym (add-zero lines))
-ending-append (g ∷ gs) hs lines = go (nextLine lines (g .line)) (next-numbered lines (g .line)) (ending-append gs hs (lines + 1))
+ending-append (g ∷ gs) hs lines = go (nextLine lines g) (next-numbered lines g) (ending-append gs hs (lines + 1))
   where
     go : (w : Line) → Numbered w
         → ending (lines + 1) (gs ++ hs) ≡ firstOf (ending (lines + 1) gs) (ending (lines + 1 + length (stepCalls (lines + 1) gs)) hs)
         → endThen w (ending (lines + 1) (gs ++ hs))
-        ≡ firstOf (endThen w (ending (lines + 1) gs)) (ending (lines + length (callThen lines (g .room) w (stepCalls (lines + 1) gs))) hs)
+        ≡ firstOf (endThen w (ending (lines + 1) gs)) (ending (lines + length (callThen lines w (stepCalls (lines + 1) gs))) hs)
     go (Refused r) d ih = rw (ne-eqb (refusalNumber r) 0 d) refl
     go (Step station code job) d ih =
         let same : lines + 1 + length (stepCalls (lines + 1) gs) ≡ lines + suc (length (stepCalls (lines + 1) gs)) = omega arith in
         ih ∙ ap (λ k. firstOf (ending (lines + 1) gs) (ending k hs)) same
 
-pub survey-parts : (ps : Lists.List (Lists.List ℕ)) (lines : ℕ) → Whole ps → ending lines (givenIn (joined ps)) ≡ surveyParts lines ps
+pub survey-parts : (ps : Lists.List (Lists.List ℕ)) (lines : ℕ) → Whole ps → ending lines (linesOf (joined ps)) ≡ surveyParts lines ps
 unfolding cut ending stepCalls
 survey-parts [] lines w = refl
-survey-parts (p ∷ []) lines w = ap (λ b. ending lines (givenIn b)) (append-nil p) ∙ go (ending lines (givenIn p))
+survey-parts (p ∷ []) lines w = ap (λ b. ending lines (linesOf b)) (append-nil p) ∙ go (ending lines (linesOf p))
   where
     go : (r : Refusal) → r ≡ firstOf r Accepted
     go r = by (eqb (refusalNumber r) 0) refl
@@ -208,9 +184,8 @@ survey-parts (p ∷ []) lines w = ap (λ b. ending lines (givenIn b)) (append-ni
         by false e = refl
 survey-parts (p ∷ (q ∷ ps)) lines w =
     let b = joined (q ∷ ps) in
-    ap (λ ls. ending lines (map roomy ls)) (lines-append (w .0 .0) p b (w .0 .1)) ∙ ap (ending lines) (map-append roomy (cut (pieces p) p) (cut (pieces b) b))
-    ∙ ending-append (givenIn p) (givenIn b) lines
-    ∙ ap (firstOf (ending lines (givenIn p))) (survey-parts (q ∷ ps) (lines + length (stepCalls lines (givenIn p))) (w .1))
+    ap (ending lines) (lines-append (w .0 .0) p b (w .0 .1)) ∙ ending-append (linesOf p) (linesOf b) lines
+    ∙ ap (firstOf (ending lines (linesOf p))) (survey-parts (q ∷ ps) (lines + length (stepCalls lines (linesOf p))) (w .1))
 
 -- the header before such parts
 pub parts-final : (h : Lists.List ℕ) (ps : Lists.List (Lists.List ℕ)) → length h ≡ 18 → Whole ps → (n : ℕ) → headerRead h ≡ Stations n
@@ -261,13 +236,13 @@ module _ (bs : Lists.List ℕ) {l : Lists.List ℕ} (p : l ≡ take 18 bs) {n : 
   pub header-told : headerRead (take 18 bs) ≡ Stations n
   header-told = ap headerRead (sym p) ∙ e
 
-  pub calls-told : stepCalls 1 (givenIn rest) ≡ fileCalls bs
-  calls-told = ap (λ x. stepCalls 1 (givenIn x)) (q ∙ rest-after bs l p)
+  pub calls-told : stepCalls 1 (linesOf rest) ≡ fileCalls bs
+  calls-told = ap (λ x. stepCalls 1 (linesOf x)) (q ∙ rest-after bs l p)
 
   module _ {s : Survey} (f : Surveys 1 rest s) where
     pub final-told : s .refusal ≡ finalOf bs
-    final-told = f .refusal ∙ ap (λ x. ending 1 (givenIn x)) (q ∙ rest-after bs l p)
-        ∙ sym (ap (λ h. finalAfter h (map roomy (stepLines bs))) header-told)
+    final-told = f .refusal ∙ ap (λ x. ending 1 (linesOf x)) (q ∙ rest-after bs l p)
+        ∙ sym (ap (λ h. finalAfter h (stepLines bs)) header-told)
 
     pub steps-told : s .steps ≡ length (fileCalls bs)
     steps-told = f .steps ∙ ap length calls-told

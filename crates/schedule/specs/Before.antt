@@ -1,20 +1,16 @@
 -- What Card 1 leaves as it was (the last sentence of 02's Card 1): schedules that snapped right after they began a scan list what they would if scans still had
 -- a snap of their own. Stated over the bytes of a file and of its two reports.
-use Prim.Native.Nat.{ℕ, zero, suc, _/_}
+use Prim.Native.Nat.{ℕ}
 use mathlib.Core.Path.{_≡_}
-use mathlib.Core.Bool.{Bool, true, false, cond}
+use mathlib.Core.Bool.{true}
 use mathlib.Core.List as Lists
-use mathlib.Core.List.{[], _∷_, _++_}
-use lib.ListN.{length, take, drop}
-use lib.Dec.{eqb}
-use Rattle.columns.specs.Reading.{columnRead}
-use Rattle.columns.specs.declared.Column.{Column}
-use Rattle.columns.specs.declared.Column.the-variants.{Value, Bad}
+use mathlib.Core.List.{[], _∷_}
 use Rattle.label.specs.Labels as Labels
 use Rattle.simulation.specs.Machine.{Board, apart, State}
 use Rattle.transition.specs.Forms.{Form}
 use Rattle.schedule.specs.Lines.{lineRead}
 use Rattle.schedule.specs.Files.{stepLines, fileReport}
+use Rattle.schedule.specs.Scans.{scanLines}
 use Rattle.schedule.specs.declared.Line.the-variants.{Step}
 
 -- BEFORE: document 01's board, where step 2 only begins a scan; which stations a scan shows is the same on both (02, Cards 2 and 4), and so are steps 6 and 7.
@@ -41,24 +37,7 @@ abbrev pub Followed : Lists.List (Lists.List ℕ) → Type 0
 Followed [] = Unit {0}
 Followed (l ∷ ls) = ((station job : ℕ) → lineRead l ≡ Step station 2 job → SnapNext station ls) × Followed ls
 
--- WHAT IT LISTS: the report's lines of 29 bytes that have the refusal 0. All others tell of a refusal: behind a step 2 that is accepted the step 3 is refused
--- by 4 now.
-
-abbrev pub isZero : Column → Bool
-isZero Bad = false
-isZero (Value v) = eqb v 0
-
--- the refusal stands in 3 bytes after the 8 of the line number
-abbrev pub accepted : Lists.List ℕ → Bool
-accepted line = isZero (columnRead (take 3 (drop 8 line)))
-
-unfoldable pub listedLines : ℕ → Lists.List ℕ → Lists.List ℕ
-listedLines zero bs = []
-listedLines (suc k) bs = let line = take 29 bs in cond (accepted line) line [] ++ listedLines k (drop 29 bs)
-
-abbrev pub listed : Lists.List ℕ → Lists.List ℕ
-listed bs = listedLines (length bs / 29) bs
-
--- both list the same
-abbrev pub ListsAsBefore : Form → Lists.List ℕ → Type 0
-ListsAsBefore F bs = Followed (stepLines bs) → listed (fileReport F bs) ≡ listed (fileReport (asStates apart) bs)
+-- both show the same scans: the lines of their reports that are of scans. All others tell of a refusal: behind a step 2 that is accepted the step 3 is
+-- refused by 4 now.
+abbrev pub ScansAsBefore : Form → Lists.List ℕ → Type 0
+ScansAsBefore F bs = Followed (stepLines bs) → scanLines (fileReport F bs) ≡ scanLines (fileReport (asStates apart) bs)

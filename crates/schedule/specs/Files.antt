@@ -18,9 +18,12 @@ cut (suc k) bs = take 18 bs ∷ cut k (drop 18 bs)
 abbrev pub pieces : Lists.List ℕ → ℕ
 pieces bs = (length bs + 17) / 18
 
+abbrev pub linesOf : Lists.List ℕ → Lists.List (Lists.List ℕ)
+linesOf bs = cut (pieces bs) bs
+
 -- the lines of a file after its header
 abbrev pub stepLines : Lists.List ℕ → Lists.List (Lists.List ℕ)
-stepLines bs = let rest = drop 18 bs in cut (pieces rest) rest
+stepLines bs = linesOf (drop 18 bs)
 
 -- what a line prints: its report lines, or one line with its refusal
 abbrev pub refusalLine : ℕ → ℕ → Lists.List ℕ
@@ -38,12 +41,12 @@ abbrev pub behind : {T : Type 0} → Lists.List ℕ → Served T → Served T
 behind bytes o = record { session = o .session; refusal = o .refusal; bytes = bytes ++ o .bytes }
 
 module _ (F : Form) where
-  -- the lines one after the other, up to a final refusal, with its number and all that they print; each has room for a whole scan result, 32 lines of 29
+  -- the lines one after the other, up to a final refusal, with its number and all that they print
   unfoldable pub runLines : Session (F .Table) → Lists.List (Lists.List ℕ) → Served (F .Table)
   runLines s [] = standing s
   runLines s (l ∷ ls) =
       cond (isFinal s) (standing s)
-      (let o = serveOf F s l 928 in behind (printed (s .lines + 1) (o .refusal) (o .bytes)) (runLines (o .session) ls))
+      (let o = serveOf F s l in behind (printed (s .lines + 1) (o .refusal) (o .bytes)) (runLines (o .session) ls))
 
   -- the header, then the lines after it
   unfoldable pub fileRun : Lists.List ℕ → Served (F .Table)

@@ -1,5 +1,5 @@
 -- A line of a schedule file (01, "The schedule file and the report"; refusals 1 and 8 to 12 of "When a step is turned down").
-use Prim.Native.Nat.{ℕ}
+use Prim.Native.Nat.{ℕ, _+_}
 use mathlib.Core.Bool.{not, _&&_, cond}
 use mathlib.Core.List.{List}
 use lib.ListN.{length, getD, take, drop}
@@ -8,9 +8,13 @@ use Rattle.basics.specs.Tests.{within}
 use Rattle.columns.specs.Reading.{columnRead}
 use Rattle.columns.specs.declared.Column.{Column}
 use Rattle.columns.specs.declared.Column.the-variants.{Value, Bad}
+use Rattle.simulation.specs.Calls.{Call, Buffer}
+use Rattle.moves.specs.Moves.{called}
 use Rattle.moves.specs.declared.Refusal.the-variants.{StationCount, IncompleteLine, MalformedColumn, UnknownStep, JobOutOfRange, TooManyLines}
 use Rattle.schedule.specs.declared.Line.{Line}
 use Rattle.schedule.specs.declared.Line.the-variants.{Step, Refused}
+use Rattle.schedule.specs.declared.Next.{Next}
+use Rattle.schedule.specs.declared.Next.the-variants as Nexts
 use Rattle.schedule.specs.declared.Header.{Header}
 use Rattle.schedule.specs.declared.Header.the-variants as Headers
 use Rattle.schedule.specs.declared.Header.the-variants.{Stations}
@@ -31,6 +35,19 @@ lineRead l = cond (eqb (length l) 18 && eqb (getD l 17 0) 10)
 -- the line that follows `lines` others, the header among them: past 1,000,000 step lines each is one too many
 abbrev pub nextLine : ℕ → List ℕ → Line
 nextLine lines l = cond (ltb 1000000 lines) (Refused TooManyLines) (lineRead l)
+
+-- the call of a step line that follows `lines` others: its report lines bear its line number, and it has room for the longest scan result, 32 lines of 29
+-- bytes, so that none is refused by 7
+abbrev pub lineCall : ℕ → ℕ → ℕ → ℕ → Call
+lineCall lines station code job = called (lines + 1) code station job (Buffer 928)
+
+-- what stands at the front of the bytes behind `lines` others: their end, a step call, or the refusal that ends the reading
+abbrev pub sayNext : ℕ → Line → Next
+sayNext lines (Refused r) = Nexts.Refused r
+sayNext lines (Step station code job) = Nexts.Call (record { code = code; station = station; job = job; line = lines + 1 })
+
+unfoldable pub nextCall : ℕ → List ℕ → Next
+nextCall lines bs = cond (eqb (length bs) 0) Nexts.End (sayNext lines (nextLine lines (take 18 bs)))
 
 -- the header is n, code 0, job 0; its refusals come in the order 8, 9, 10, 1, 11
 abbrev pub headerSaid : Line → Header

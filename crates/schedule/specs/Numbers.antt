@@ -15,20 +15,20 @@ use Rattle.moves.specs.Moves.{refusalNumber}
 use Rattle.moves.specs.declared.Refusal.{Refusal}
 use Rattle.moves.specs.declared.Refusal.the-variants.{Accepted, TooManySteps}
 use Rattle.schedule.specs.Lines.{headerRead}
-use Rattle.schedule.specs.Files.{cut, pieces, stepLines, fileReport}
-use Rattle.schedule.specs.Demand.{Given, stepCalls, ending, roomy, fileCalls, printedCalls}
+use Rattle.schedule.specs.Files.{linesOf, stepLines, fileReport}
+use Rattle.schedule.specs.Demand.{stepCalls, ending, fileCalls, printedCalls}
 use Rattle.schedule.specs.declared.Header.{Header}
 use Rattle.schedule.specs.declared.Header.the-variants as Headers
 use Rattle.schedule.specs.declared.Header.the-variants.{Stations}
 use Rattle.schedule.specs.declared.Survey.{Survey}
 
 -- the final refusal of a file: the header's, or that of the first line that has one
-abbrev pub finalAfter : Header → Lists.List Given → Refusal
-finalAfter (Headers.Refused r) gs = r
-finalAfter (Stations n) gs = ending 1 gs
+abbrev pub finalAfter : Header → Lists.List (Lists.List ℕ) → Refusal
+finalAfter (Headers.Refused r) ls = r
+finalAfter (Stations n) ls = ending 1 ls
 
 abbrev pub finalOf : Lists.List ℕ → Refusal
-finalOf bs = finalAfter (headerRead (take 18 bs)) (map roomy (stepLines bs))
+finalOf bs = finalAfter (headerRead (take 18 bs)) (stepLines bs)
 
 -- REFUSALS of a file that is read before any step is run (02, Cards 6 and 7): the final one; then 16 for more than 4,096 step lines; then `next`, what a card
 -- has of its own
@@ -51,10 +51,7 @@ pub record FileNumbers (F : Form) (bs : Lists.List ℕ) (n : ℕ) (ns : Lists.Li
 
 -- A PART OF A FILE, only read: the lines behind `lines` others, up to a final refusal; how many of them are steps, and how many of these are of step 3
 
-abbrev pub givenIn : Lists.List ℕ → Lists.List Given
-givenIn chunk = map roomy (cut (pieces chunk) chunk)
-
 pub record Surveys (lines : ℕ) (chunk : Lists.List ℕ) (r : Survey) : Type 0 where
-  pub refusal : r .refusal ≡ ending lines (givenIn chunk)
-  pub steps : r .steps ≡ length (stepCalls lines (givenIn chunk))
-  pub snaps : r .snaps ≡ snapCalls (stepCalls lines (givenIn chunk))
+  pub refusal : r .refusal ≡ ending lines (linesOf chunk)
+  pub steps : r .steps ≡ length (stepCalls lines (linesOf chunk))
+  pub snaps : r .snaps ≡ snapCalls (stepCalls lines (linesOf chunk))

@@ -7,12 +7,12 @@ use mathlib.Core.List as Lists
 use mathlib.Core.List.{[]}
 use lib.ListN.{length}
 use lib.Dec.{eqb, ltb}
-use Rattle.simulation.specs.Calls.{Buffer, bytesOf}
+use Rattle.simulation.specs.Calls.{bytesOf}
 use Rattle.transition.specs.Forms.{Form, over, freshTable, stepOf}
-use Rattle.moves.specs.Moves.{refusalNumber, called}
+use Rattle.moves.specs.Moves.{refusalNumber}
 use Rattle.moves.specs.declared.Refusal.{Refusal}
 use Rattle.moves.specs.declared.Refusal.the-variants.{Accepted}
-use Rattle.schedule.specs.Lines.{nextLine, headerRead}
+use Rattle.schedule.specs.Lines.{nextLine, headerRead, lineCall}
 use Rattle.schedule.specs.declared.Line.{Line}
 use Rattle.schedule.specs.declared.Line.the-variants.{Step, Refused}
 use Rattle.schedule.specs.declared.Header.{Header}
@@ -64,19 +64,19 @@ module _ (F : Form) where
   abbrev pub headerOf : Lists.List ℕ → Session (F .Table)
   headerOf line = openedBy (headerRead line)
 
-  -- a step line on a well-formed table: it bears its line number, and its step has the room that is lent
-  abbrev pub stepLine : Session (F .Table) → ℕ → Line → Served (F .Table)
-  stepLine s room (Refused r) = stopped s r
-  stepLine s room (Step station code job) =
-      let a = stepOf F (s .table) (called (s .lines + 1) code station job (Buffer room)) in
+  -- a step line on a well-formed table
+  abbrev pub stepLine : Session (F .Table) → Line → Served (F .Table)
+  stepLine s (Refused r) = stopped s r
+  stepLine s (Step station code job) =
+      let a = stepOf F (s .table) (lineCall (s .lines) station code job) in
       record { session = session (s .lines + 1) (s .refusal) (a .table); refusal = a .refusal; bytes = bytesOf (a .report) }
 
   -- a line: the final refusal comes first, then 13, 12, 8, 9, and then what the step gives
-  unfoldable pub serveOf : Session (F .Table) → Lists.List ℕ → ℕ → Served (F .Table)
-  serveOf s line room =
+  unfoldable pub serveOf : Session (F .Table) → Lists.List ℕ → Served (F .Table)
+  serveOf s line =
       cond (isFinal s) (standing s)
       (cond (not (F .wellFormed (s .table))) (illFormed s)
-      (stepLine s room (nextLine (s .lines) line)))
+      (stepLine s (nextLine (s .lines) line)))
 
 -- what a call that serves a line hands back, the session, the refusal number and the count of bytes, and the report buffer that it leaves: all of it is
 -- what is specified

@@ -5,16 +5,24 @@ ghost use Prim.Native.Nat.{_+_, _≤_};
 ghost use lib.ListN.{length, take, drop};
 ghost use lib.Dec.{eqb};
 ghost use Rattle.moves.specs.declared.Refusal.the-variants.{Accepted};
-ghost use Rattle.schedule.specs.Lines.{lineRead, nextLine, headerRead};
+ghost use Rattle.schedule.specs.Lines.{lineRead, nextLine, nextCall, headerRead};
 ghost use Rattle.schedule.specs.Numbers.{surveyed, Surveys};
 use columns::Column;
 use columns::read_column;
 use columns::read_three;
 use moves::Refusal;
+use moves::Request;
 
 // What a line of the file says: a step call, or the refusal that ends the reading.
 pub enum Line {
     Step { station: u64, code: u64, job: u64 },
+    Refused(Refusal),
+}
+
+// What stands at a place of a file: a step call, the end, or the refusal that ends the reading.
+pub enum Next {
+    Call(Request),
+    End,
     Refused(Refusal),
 }
 
@@ -92,6 +100,25 @@ pub fn line_at(chunk: &[u8], at: usize) -> &[u8]
     }
 }
 
+// What stands at a place of a part of a file, behind `lines` lines. A call takes up 18 bytes.
+pub fn next_call(lines: u32, chunk: &[u8], at: usize) -> Next
+    requires { ⌜ at ≤ length (now chunk) ⌝ }
+    ensures { λ r. ⌜ r ≡ nextCall lines (drop at (now (chunk .entry))) ⌝ }
+{
+    if at == chunk.len() {
+        return Next::End;
+    }
+    match next_line(lines, line_at(chunk, at)) {
+        Line::Refused(refusal) => Next::Refused(refusal),
+        Line::Step { station, code, job } => Next::Call(Request {
+            code,
+            station,
+            job,
+            line: lines as u64 + 1,
+        }),
+    }
+}
+
 // What stands from a place on.
 pub fn from(file: &[u8], at: usize) -> &[u8]
     requires { ⌜ at ≤ length (now file) ⌝ }
@@ -126,27 +153,28 @@ pub fn survey_lines(lines: u32, chunk: &[u8]) -> Survey
     let mut steps: u32 = 0;
     let mut snaps: u32 = 0;
     let mut at = 0;
-    while at < chunk.len() {
-        let line = line_at(chunk, at);
-        match next_line(lines + steps, line) {
-            Line::Refused(refusal) => {
+    loop {
+        match next_call(lines + steps, chunk, at) {
+            Next::End => {
+                return Survey {
+                    refusal: Refusal::Accepted,
+                    steps,
+                    snaps,
+                };
+            }
+            Next::Refused(refusal) => {
                 return Survey {
                     refusal,
                     steps,
                     snaps,
                 };
             }
-            Line::Step { code, .. } => {
-                snaps = count_snap(snaps, code);
+            Next::Call(request) => {
+                snaps = count_snap(snaps, request.code);
                 steps += 1;
-                at += line.len();
+                at += 18;
             }
         }
-    }
-    Survey {
-        refusal: Refusal::Accepted,
-        steps,
-        snaps,
     }
 }
 
@@ -155,7 +183,7 @@ pub fn refusal_of(s: Survey) -> Refusal
     ensures { λ r. ⌜ r ≡ surveyed (s .refusal) (s .steps) Accepted ⌝ }
 {
     let refusal = s.refusal;
-    if refusal.number() != 0 {
+    if refusal.refuses() {
         return refusal;
     }
     if 4096 < s.steps {

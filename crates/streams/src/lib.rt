@@ -2,6 +2,7 @@
 ghost use mathlib.Core.Path.{_≡_};
 ghost use mathlib.Core.Bool.{true};
 ghost use Rattle.io.specs.Counts.{Counts};
+ghost use Rattle.streams.specs.Contracts.{Descriptor};
 use libc::STDERR_FILENO;
 use libc::STDOUT_FILENO;
 
@@ -11,20 +12,26 @@ pub struct Input {
     pub failed: bool,
 }
 
-// Opens the file that argument i names for reading, and hands back its descriptor; complains if there is no such argument, or it names no file that can be
-// opened, and hands back a negative number.
-pub fn open_argument(i: usize, complaint: &[u8]) -> i32 {
+// A file that was to be opened: there is none that can be, or its descriptor.
+pub enum Opened {
+    Missing,
+    File(i32),
+}
+
+// Opens the file that argument i names for reading; complains if there is no such argument, or it names no file that can be opened.
+pub fn open_argument(i: usize, complaint: &[u8]) -> Opened
+    ensures { λ r. ⌜ Descriptor r ⌝ }
+{
     let mut path = io::buffer();
     let k = os::arg(i, &mut path);
-    if os::errno() != 0 {
-        io::write_all(STDERR_FILENO, complaint);
-        return -1;
+    if os::errno() == 0 {
+        let fd = os::open_read(&path[..k]);
+        if fd >= 0 {
+            return Opened::File(fd);
+        }
     }
-    let fd = os::open_read(&path[..k]);
-    if fd < 0 {
-        io::write_all(STDERR_FILENO, complaint);
-    }
-    fd
+    io::write_all(STDERR_FILENO, complaint);
+    Opened::Missing
 }
 
 // Reads from a descriptor until `buf` is full or the input ends; complains if it cannot be read.

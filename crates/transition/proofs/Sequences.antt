@@ -1,6 +1,8 @@
 -- Demand 3 of sequences of calls, from the contract that each call keeps and the theorem about `stepOf`.
 use Prim.Native.Nat.{ℕ, _≤_}
 use mathlib.Core.Path.{_≡_, refl, sym, ap, ap₂, _∙_}
+use mathlib.Core.Logic.{_≢_}
+use mathlib.Core.Bool.{true}
 use mathlib.Core.List as Lists
 use mathlib.Core.List.{[], _∷_, map, map-map}
 use lib.ListN.{length, take}
@@ -8,11 +10,11 @@ use lib.Seq.{take-at}
 use Rattle.basics.specs.Tests.{All}
 use Rattle.simulation.specs.Machine as Machine
 use Rattle.simulation.specs.Machine.{Seen}
-use Rattle.simulation.specs.Calls.{Buffer, Call, Entry, reportLines, panelRecords, Report, Bytes, Records, capacity, size, bytesOf, written}
-use Rattle.transition.specs.Forms.{Form, over, onto, freshTable, stepOf}
-use Rattle.transition.specs.Demand.{run, seen, unbounded, Demand3}
-use Rattle.transition.specs.Sequences.{Steps, Made, callOf, firstOf, told, Sequence, SequenceDemand}
-use Rattle.transition.proofs.Theorem.{Lawful, step-report, step-bytes, demand}
+use Rattle.simulation.specs.Calls.{Room, Buffer, Panel, Call, Entry, reportLines, panelRecords, Report, Bytes, Records, capacity, size, bytesOf, written}
+use Rattle.transition.specs.Forms.{Form, TableAnswer, over, onto, freshTable, stepOf}
+use Rattle.transition.specs.Demand.{runTable, seenIn, unbounded, Demand3}
+use Rattle.transition.specs.Sequences.{Steps, Made, callMade, firstOf, told, Sequence, SequenceDemand}
+use Rattle.transition.proofs.Theorem.{Lawful, step-report, step-bytes, step-kept, demand}
 
 -- a buffer with these bytes at its front, read by their count
 module _ (l buffer : Lists.List ℕ) {buffer′ : Lists.List ℕ} {written : ℕ} (w : written ≡ length l) (r : buffer′ ≡ over l buffer) where
@@ -31,6 +33,33 @@ pub report-read : (line : ℕ) (lent : Report) (l : Lists.List Entry) {lent′ :
 report-read line (Bytes b) l w r = ap₂ firstOf w r ∙ ap Bytes (take-at (reportLines line 1 l) _ _ refl)
 report-read line (Records b) l w r = ap₂ firstOf w r ∙ ap Records (take-at (panelRecords 1 l) _ _ refl)
 
+-- a report of no entries has no size, and leaves what was lent
+none-written : (line : ℕ) (room : Room) (lent : Report) → let r = written line room [] in (size r ≡ 0) × (onto r lent ≡ lent)
+unfolding reportLines panelRecords
+none-written line (Buffer b) (Bytes l) = (refl, refl)
+none-written line (Buffer b) (Records l) = (refl, refl)
+none-written line (Panel b) (Bytes l) = (refl, refl)
+none-written line (Panel b) (Records l) = (refl, refl)
+
+-- the contract of a call, from the answer of `stepOf`: a refused call leaves a table that is the one of the state that it holds
+pub steps-of : (F : Form) {t t′ : F .Table} {c : Call} {lent lent′ : Report} {number k : ℕ}
+    → (F .wellFormed t ≡ true → F .written (F .count t) (F .state t) ≡ t) → t′ ≡ stepOf F t c .table → number ≡ stepOf F t c .refusal
+    → k ≡ size (stepOf F t c .report) → lent′ ≡ onto (stepOf F t c .report) lent → Steps F t c lent t′ number k lent′
+steps-of F {t} {t′} {c} {lent} {lent′} {number} {k} same table refusal count report = record {
+  table = table;
+  number = refusal;
+  count = count;
+  report = report;
+  kept = kept;
+}
+  where
+    kept : number ≢ 0 → (t′ ≡ t) × (k ≡ 0) × (lent′ ≡ lent)
+    kept d =
+        let s = step-kept F t same c (λ z. d (refusal ∙ z)) in
+        let r = ap (λ (a : TableAnswer (F .Table)). a .report) s in
+        let z = none-written (c .line) (c .room) lent in
+        (table ∙ ap (λ (a : TableAnswer (F .Table)). a .table) s, count ∙ ap size r ∙ z .0, report ∙ ap (λ x. onto x lent) r ∙ z .1)
+
 -- a call with a report buffer: the count, and the buffer left
 pub steps-bytes : (F : Form) {t t′ : F .Table} {c : Call} {b b′ : Lists.List ℕ} {number k : ℕ} → Steps F t c (Bytes b) t′ number k (Bytes b′) → (room : ℕ)
     → c .room ≡ Buffer room → let l = bytesOf (stepOf F t c .report) in
@@ -47,20 +76,20 @@ same-counts n f xs ys e =
 
 module _ (F : Form) where
   -- what a call hands back is the answer of `stepOf`
-  module _ (t : F .Table) (x : Made (F .Table)) (s : Steps F t (callOf x) (x .lent) (x .table) (x .refusal) (x .written) (x .lent′)) where
-    answer-read : told x .report ≡ stepOf F t (callOf x) .report
+  module _ (t : F .Table) (x : Made (F .Table)) (s : Steps F t (callMade x) (x .lent) (x .table) (x .refusal) (x .written) (x .lent′)) where
+    answer-read : told x .report ≡ stepOf F t (callMade x) .report
     answer-read =
-        let h = step-report F t (callOf x) in
+        let h = step-report F t (callMade x) in
         report-read (x .line) (x .lent) (h .0) (s .count ∙ ap size (h .1)) (s .report ∙ ap (λ r. onto r (x .lent)) (h .1)) ∙ sym (h .1)
 
-    answer-is : told x ≡ stepOf F t (callOf x)
+    answer-is : told x ≡ stepOf F t (callMade x)
     answer-is i = record { table = s .table i; refusal = s .number i; report = answer-read i }
 
-  sequence-run : (t : F .Table) (xs : Lists.List (Made (F .Table))) → Sequence F t xs → map told xs ≡ run F t (map callOf xs)
-  unfolding run
+  sequence-run : (t : F .Table) (xs : Lists.List (Made (F .Table))) → Sequence F t xs → map told xs ≡ runTable F t (map callMade xs)
+  unfolding runTable
   sequence-run t [] q = refl
   sequence-run t (x ∷ xs) q =
-      ap₂ _∷_ (answer-is t x (q .0)) (sequence-run (x .table) xs (q .1) ∙ ap (λ a. run F a (map callOf xs)) (q .0 .table))
+      ap₂ _∷_ (answer-is t x (q .0)) (sequence-run (x .table) xs (q .1) ∙ ap (λ a. runTable F a (map callMade xs)) (q .0 .table))
 
   sequence-counted : (t : F .Table) (xs : Lists.List (Made (F .Table))) → Sequence F t xs → map (λ x. x .written) xs ≡ map (λ x. size (told x .report)) xs
   sequence-counted t [] q = refl
@@ -75,12 +104,12 @@ module _ (F : Form) where
   sequence-demand L n p q xs s = record {
     demand = d;
     same = same;
-    counted = sequence-counted (freshTable F n) xs s ∙ same-counts n (λ x. seen F (told x)) xs (unbounded (F .board) n (d .advances) (map callOf xs)) same;
+    counted = sequence-counted (freshTable F n) xs s ∙ same-counts n (λ x. seenIn F (told x)) xs (unbounded (F .board) n (d .advances) (map callMade xs)) same;
     kept = sequence-kept (freshTable F n) xs s;
   }
     where
-      d : Demand3 F n (map callOf xs)
-      d = demand F L n p q (map callOf xs)
+      d : Demand3 F n (map callMade xs)
+      d = demand F L n p q (map callMade xs)
 
-      same : map (λ x. seen F (told x)) xs ≡ map (Machine.seen n) (unbounded (F .board) n (d .advances) (map callOf xs))
-      same = sym (map-map (seen F) told xs) ∙ ap (map (seen F)) (sequence-run (freshTable F n) xs s) ∙ d .same
+      same : map (λ x. seenIn F (told x)) xs ≡ map (Machine.seen n) (unbounded (F .board) n (d .advances) (map callMade xs))
+      same = sym (map-map (seenIn F) told xs) ∙ ap (map (seenIn F)) (sequence-run (freshTable F n) xs s) ∙ d .same

@@ -5,10 +5,9 @@ use mathlib.Core.Path.{_≡_, refl, sym, ap, ap₂, subst, _∙_}
 use mathlib.Core.Bool.{false}
 use mathlib.Core.List.{[]}
 use Rattle.simulation.specs.Calls.{judgeIn}
-use Rattle.moves.specs.Moves.{roomOf, moveOf}
+use Rattle.moves.specs.Moves.{roomOf, moveOf, callOf}
 use Rattle.moves.proofs.MoveLaws.{place-below}
 use Rattle.arrays.specs.Arrays.{cell, outFor, phaseFor}
-use Rattle.engine.specs.Contracts.{callOf}
 use Rattle.engine.proofs.Served.{due-few}
 use borrow.Author.Needs.{needs}
 use Rattle.engine.proofs.judge.Statement.{statement}

@@ -8,7 +8,10 @@ fill-requires : tie.Need-fill-requires
 fill-requires c κs = search needs
 
 returns : tie.Need-returns
-returns c = steps-rows (c .before .before .before .before .perform .ensures) _ _ refl (c .before .fill .ensures)
+returns c =
+    let p = c .before .before .before .before in
+    let x = p .before .before .before .before .before in
+    steps-rows (p .perform .ensures) (x .shaped .ensures _) _ _ refl (c .before .fill .ensures)
 
 pub step-shown-spec : {M : Type 1} → statement M
-step-shown-spec = tie.close (tie.spec (λ c κs. search needs) (λ c. search needs) (λ c. search needs) fill-requires (λ c. search needs) returns)
+step-shown-spec = tie.close (tie.spec (λ c κs. search needs) (λ c κs. search needs) (λ c. search needs) (λ c. search needs) fill-requires (λ c. search needs) returns)

@@ -29,8 +29,8 @@ loop-holds c =
     let start = head .before .before .before .before in
     (omega arith, refl, head-first _ _ (start .args .out .now) (head .write-head .ensures), refl)
 
-write-listed-line-requires : tie.Need-write-listed-line-requires Inv-loop μ-loop
-write-listed-line-requires c κs =
+write-scan-line-requires : tie.Need-write-scan-line-requires Inv-loop μ-loop
+write-scan-line-requires c κs =
     let l = c .before .before .before .before .before .before in
     let start = l .before .before .before .before .before .before .before in
     (simp (length-take, length-drop) (omega arith), (omega arith, omega (arith, start .pre .1 .0 (l .loop .p) (omega arith))))
@@ -41,7 +41,7 @@ loop-again c =
     let l = c .before .before .before .before .before .before .before .before .before .loop in
     let entered = c .before .before .before .before .before .before .before .before .before .before .before in
     let rows = entered .before .before .before .before .before .args .rows .now in
-    let written = c .before .before .write-listed-line in
+    let written = c .before .before .write-scan-line in
     let kept = same-len-mid (l .p * 29) (l .p * 29 + 29 - l .p * 29) (l .out) (written .last .0) (written .kept .0) in
     let more = one-line-more _ rows _ _ _ _ _ (head .ensures ∙ l .inv .2) (l .inv .3) (written .ensures) in
     (omega arith, kept ∙ l .inv .1, ap (take 11) more ∙ head-stands _ (l .p) rows _, more)
@@ -73,4 +73,4 @@ write-result-spec = tie.close (tie.spec Inv-loop μ-loop returns (λ c. search n
     (λ c κs. search needs) loop-holds (λ c. omega arith) (λ c κs. omega arith) (λ c. omega arith) (λ c. omega arith)
     (λ c. omega arith) (λ c. omega arith) (λ c. omega arith) (λ c. omega arith) (λ c. omega arith) (λ c. omega arith)
     (λ c. omega arith) (λ c. omega arith) (λ c. omega arith) (λ c. omega arith)
-    write-listed-line-requires (λ c. omega arith) (λ c. omega arith) loop-again (λ c. omega arith) same-length returns-2)
+    write-scan-line-requires (λ c. omega arith) (λ c. omega arith) loop-again (λ c. omega arith) same-length returns-2)

@@ -7,8 +7,8 @@ returns : tie.Need-returns
 returns c =
     let s = c .before .before .before in
     let d = s .before .before .before .before .before .before in
-    exported _ _ _ _ (d .direct .result) (s .step .result .refusal) (d .before .shaped .ensures _) (d .direct .ensures) (s .step .ensures) (c .number .ensures)
+    exported _ _ _ _ (d .direct .result) (s .step .result .refusal) (d .direct .ensures) (s .step .ensures) (c .number .ensures)
 
 pub tickets-step-spec : {M : Type 1} → statement M
-tickets-step-spec = tie.close (tie.spec (λ c κs. search needs) (λ c κs. search needs) (λ c κs. search needs) (λ c κs. search needs)
+tickets-step-spec = tie.close (tie.spec (λ c κs. search needs) (λ c κs. search needs) (λ c κs. search needs)
     (λ c. search needs) returns)

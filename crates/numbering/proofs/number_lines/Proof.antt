@@ -1,12 +1,10 @@
--- The invariant is `Sofar` of Lines: what the lines left make of the numbers so far are the numbers of all lines. At a line, `x` is what is known when it has
--- been found.
+-- The invariant is `Sofar` of Lines: what the lines left make of the numbers so far are the numbers of all lines.
 use Prim.Native.Nat.{_+_, _-_, _≤_, _<_}
 use native.Mathlib.Omega.{arith}
-use mathlib.Core.Path.{refl, sym, _∙_}
+use mathlib.Core.Path.{refl}
 use lib.ListN.{length}
 use Rattle.arrays.specs.Arrays.{arrays}
-use Rattle.schedule.proofs.Places.{line-within}
-use Rattle.schedule.proofs.Surveys.{calls-none, calls-refused}
+use Rattle.schedule.proofs.Places.{StepAt, at-end, at-refused, at-call, calls-none, calls-refused}
 use Rattle.file.specs.Contracts.{Runnable}
 use Rattle.file.proofs.LineLaws.{fresh-orderly, fresh-runnable, next-state}
 use Rattle.arrays.proofs.Planes.{none-beside}
@@ -35,50 +33,52 @@ loop-holds c =
     let fresh = c .before .before .refresh .ensures in
     (sofar-start (s .args .n) low high _ _ (s .pre .1) fresh none-beside, fresh-runnable (s .args .n) low high fresh (c .order .ensures))
 
--- the line lies within the rest
-here : (x : tie.After-line-at Inv-loop μ-loop) → let l = x .before .before .loop in let end = l .at + length (x .line-at .result .now) in
-    (end ≤ length (x .before .before .before .before .before .before .before .before .before .before .before .before .args .rest .now)) × (l .at < end)
-    × (end ≤ 18446744073709551615)
+-- the call that stands at a place
+here : (x : tie.After-request Inv-loop μ-loop) → let l = x .before .before .before .loop in
+    StepAt (l .lines) (x .before .before .before .before .before .before .before .before .before .before .before .before .before .args .rest .now) (l .at)
+    (x .request .given .0 .0)
 here x =
-    let s = x .before .before .before .before .before .before .before .before .before .before .before .before in
-    let next = line-within (s .args .rest .now) (x .before .loop-test .taken) (x .line-at .ensures) in
-    (next .0, omega (arith, next .1), omega (arith, next .0, s .good .1 .0 .0))
+    let k = x .before .before in
+    at-call _ _ _ (k .before .loop .inv .0 .within) _ (k .next-call .ensures) _ (x .request .given .1)
 
 returns : tie.Need-returns Inv-loop μ-loop
 returns c =
-    let x = c .before .before .before in
-    let l = x .before .before .loop in
-    let said = sym (c .before .before .next-line .ensures) ∙ c .enum-told .given .1 in
-    sofar-end (l .inv .0) (calls-refused _ _ (x .before .loop-test .taken) (x .line-at .ensures) _ said .0)
+    let k = c .before .before in
+    let f = k .before .loop .inv .0 in
+    sofar-end f (calls-none _ _ _ (f .within) (at-end _ _ _ (f .within) _ (k .next-call .ensures) (c .enum-told .given .1)) .0)
 
 returns-2 : tie.Need-returns-2 Inv-loop μ-loop
-returns-2 c = sofar-end (c .before .loop .inv .0) (calls-none _ _ _ (c .loop-test .left) .0)
+returns-2 c =
+    let k = c .before .before in
+    let f = k .before .loop .inv .0 in
+    sofar-end f (calls-refused _ _ _ (f .within) (at-refused _ _ _ (f .within) _ (k .next-call .ensures) _ (c .enum-told2 .given .1)) .0)
 
 number-line-requires : tie.Need-number-line-requires Inv-loop μ-loop
 number-line-requires c κs =
-    let x = c .before .before .before .before .before .before .before .before .before .before .before in
-    let l = x .before .before .loop in
-    let read = c .before .before .before .before .before .before .before .before in
-    let said = sym (read .before .before .next-line .ensures) ∙ read .station .given .1 in
-    let room = step-room (l .inv .0) (x .before .loop-test .taken) (x .line-at .ensures) said in
+    let x = c .before .before .before .before .before .before .before .before in
+    let l = x .before .before .before .loop in
+    let room = step-room (l .inv .0) (here x) in
     (l .inv .1, (room .1, ((room .0, room .2), l .inv .0 .counted)))
+
+-- a line that has been numbered
+abbrev read : tie.After-slice-known2 Inv-loop μ-loop → tie.After-request Inv-loop μ-loop
+read c = c .before .before .before .before .before .before .before .before .before .before .before
 
 loop-again : tie.Need-loop-again Inv-loop μ-loop
 loop-again c =
-    let x = c .before .before .before .before .before .before .before .before .before .before .before .before .before .before in
-    let l = x .before .before .loop in
-    let read = c .before .before .before .before .before .before .before .before .before .before .before in
-    let said = sym (read .before .before .next-line .ensures) ∙ read .station .given .1 in
+    let x = read c in
+    let l = x .before .before .before .loop in
     let g = c .before .before .number-line .ensures in
-    (sofar-more (l .inv .0) (x .before .loop-test .taken) (x .line-at .ensures) said refl (g .0) (next-state (l .inv .1) _), g .1)
+    (sofar-more (l .inv .0) (here x) refl (g .0) (next-state (l .inv .1) _), g .1)
 
 pub number-lines-spec : {M : Type 1} → statement M
 number-lines-spec = tie.close (tie.spec Inv-loop μ-loop (λ c κs. search needs) (λ c. search needs) order-requires loop-holds
-    (λ c κs. c .before .loop .inv .0 .within) (λ c κs. search needs) (λ c. search needs)
-    (λ c. c .before .before .before .before .before .loop .inv .0 .same) returns (λ c. search needs) (λ c. search needs)
-    (λ c. let l = c .before .before .before .before .before .before .loop in omega (arith, l .inv .0 .few .1)) number-line-requires
-    (λ c. let l = c .before .before .before .before .before .before .before .before .before .before .before .before .before .before .before .before .loop in
-    omega (arith, l .inv .0 .few .1))
-    (λ c. omega (arith, here (c .before .before .before .before .before .before .before .before .before .before .before .before .before .before)))
-    (λ c. omega (arith, here (c .before .before .before .before .before .before .before .before .before .before .before .before .before .before)))
-    loop-again (λ c. c .before .loop .inv .0 .same) returns-2)
+    (λ c κs. c .loop .inv .0 .within) (λ c. search needs) number-line-requires (λ c. let f = here (read c) in omega (arith, f .few))
+    (λ c. let f = here (read c) in omega (
+      arith,
+      f .within,
+      read c .before .before .before .before .before .before .before .before .before .before .before .before
+          .before .good .1 .0 .0,
+    ))
+    (λ c. let f = here (read c) in omega (arith, f .within)) loop-again (λ c. search needs) (λ c. c .before .before .before .loop .inv .0 .same) returns
+    (λ c. search needs) (λ c. c .before .before .before .loop .inv .0 .same) returns-2)
