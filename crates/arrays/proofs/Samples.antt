@@ -1,32 +1,34 @@
--- Samples P1 to P12, and those of Cards 4 to 7, hold of the tables of every lawful form: computed without the test for 13, which no table on the way
--- fails.
+-- All samples hold of the tables of every lawful form: computed without the test for 13, which no table on the way fails.
 use Prim.Native.Nat.{ℕ, zero, suc, _≤_, _<_}
 use native.Mathlib.Omega.{arith}
-use mathlib.Core.Path.{_≡_, refl, sym, ap, subst, _∙_}
+use mathlib.Core.Path.{_≡_, refl, sym, ap, subst, _∙_, fun-ext}
 use mathlib.Core.Bool.{true, false, true≢false}
 use mathlib.Core.List as Lists
-use mathlib.Core.List.{[], _∷_, _++_, List·Memᴰ, List·Memᴰ·head, List·Memᴰ·tail}
-use Rattle.basics.specs.Tests.{every, count, firstFrom, lastOf, newest, inserted, ordered, passing, tabulate, All}
-use Rattle.basics.proofs.Facts.{tf, all-append, all-weaken}
+use mathlib.Core.List.{[], _∷_, _++_, map, List·Memᴰ, List·Memᴰ·head, List·Memᴰ·tail}
+use lib.ListN.{length}
+use Rattle.basics.specs.Tests.{within, every, count, firstFrom, lastOf, newest, inserted, ordered, passing, tabulate, All}
+use Rattle.basics.proofs.Facts.{tf, within-true, all-weaken}
 use Rattle.columns.specs.Columns.{lineHead, lineTail, reportLine}
 use Rattle.label.specs.Labels as Labels
 use Rattle.label.specs.Labels.{below, next, agrees, firstDifference, labelBelow, labelBefore, nextLabel, others, level, newLabel, holders}
-use Rattle.label.specs.Rows.{row}
-use Rattle.simulation.specs.Calls.{Call, unless, judgeIn, reportLines}
+use Rattle.label.specs.Rows.{digit, row}
+use Rattle.simulation.specs.Calls.{Call, unless, judgeIn, reportLines, panelRecords}
 use Rattle.simulation.specs.Machine.{original, digits, pendingAfter, relabelled, scanOf, carryOut, State, fresh, step, snapsOf, run, snaps, numberBefore}
 use Rattle.simulation.specs.Numbered.{met, labelSnaps, Fit, newestSnap, newestSnaps}
-use Rattle.simulation.specs.Numbering.{bump, highest, slotOf, renumber, renumbered}
-use Rattle.transition.specs.Forms.{Form, freshTable, after}
+use Rattle.simulation.specs.Numbering.{bump, highest, slotOf, renumber, renumbered, numbersOf}
+use Rattle.transition.specs.Forms.{Form, TableAnswer, freshTable, answered, stepOf, after}
 use Rattle.transition.specs.Questions.{topHolders, Tells}
 use Rattle.transition.specs.Logs.{fitsNext, atFront, right}
-use Rattle.transition.specs.Samples.{Sample, digitsBelow, labelsBelow, numbersDo, numbersFound, logRight, logWrong, scanned, ended, logSamples}
-use Rattle.transition.specs.Samples.{call, labelled, shown, order, shownBy, reaches, scanShows, topHeld, Holds, one, two, three, together}
-use Rattle.transition.specs.Samples.{stalled, samples, absent, serviceSamples, topSamples, overtaken, numberSamples, SamplesHold}
+use Rattle.transition.specs.Samples.{Sample, digitsBelow, labelsBelow, reaches, scanShows, topHeld, numbersDo, numbersFound, logRight, logWrong, answers, replies}
+use Rattle.transition.specs.Samples.{callWith, call, takesJob, labelled, shown, order, shownBy, SampleHolds, one, two, three, nine, together, stalled, absent}
+use Rattle.transition.specs.Samples.{overtaken, scanBytes, scanEnded, codes, codesWith, ascii, twoOfThree, samples, habitSamples, serviceSamples, topSamples}
+use Rattle.transition.specs.Samples.{numberSamples, logSamples, refusalSamples, reportSamples, SamplesHold}
 use Rattle.simulation.proofs.Follow as Follow
+use Rattle.simulation.proofs.Simulation.{numbering}
 use Rattle.transition.proofs.Reached.{Reached, reached-fresh}
-use Rattle.transition.proofs.Theorem.{Lawful, reached-held, reached-written, reached-next, same-after, table-fresh, table-after}
+use Rattle.transition.proofs.Theorem.{Lawful, reached-held, reached-written, reached-next, same-after, ReachedTable, table-fresh, table-after}
 use Rattle.transition.proofs.Questions.{reached-tells}
-use Rattle.transition.proofs.Numbers.{numbers-do, numbers}
+use Rattle.transition.proofs.Numbers.{numbers-do}
 use Rattle.transition.proofs.Logs.{right-exactly}
 use Rattle.arrays.specs.Arrays.{Arrays, stateOf, arraysOf}
 use Rattle.arrays.specs.Form.{lent}
@@ -34,7 +36,7 @@ use Rattle.arrays.proofs.States.{lent-lawful}
 
 carried : ℕ → Arrays → Lists.List Call → Arrays
 unfolding row arraysOf unless judgeIn pendingAfter relabelled scanOf carryOut step below next agrees firstDifference labelBelow labelBefore nextLabel others
-    level newLabel every count firstFrom newest inserted ordered passing tabulate call labelled
+    level newLabel every count firstFrom newest inserted ordered passing tabulate callWith call labelled
 carried n a [] = a
 carried n a (c ∷ cs) = carried n (arraysOf n (step original n (digits n) (stateOf a) c .state)) cs
 
@@ -52,142 +54,135 @@ module _ (n : ℕ) (low : 2 ≤ n) (high : n ≤ 32) where
   leads F L P cs =
       subst P (sym (same-after F lent L lent-lawful n low high cs ∙ ap stateOf (carried-same cs (fresh (λ p. 1)) (reached-fresh n (omega arith)))))
 
--- the answer of the test to a log of the samples
-abbrev Judged : Sample → Type 0
-Judged (logRight n cs ns l) = right original n (fresh 0) ns (scanned l) cs ≡ true
-Judged (logWrong n cs ns l) = right original n (fresh 0) ns (scanned l) cs ≡ false
-Judged (digitsBelow d e) = ⊥
-Judged (labelsBelow a b) = ⊥
-Judged (reaches n cs l o) = ⊥
-Judged (scanShows n cs k l) = ⊥
-Judged (topHeld n cs k) = ⊥
-Judged (numbersDo n cs ns) = ⊥
-Judged (numbersFound n cs ns) = ⊥
+-- what is computed of a row
+abbrev left : ℕ → Lists.List Call → State Labels.Label
+left n cs = stateOf (carried n (freshTable lent n) cs)
 
-judged : All Judged logSamples
+abbrev Computed : Sample → Type 0
+Computed (digitsBelow d e) = below d e ≡ true
+Computed (labelsBelow a b) = labelBelow (length a) (digit a) (digit b) ≡ true
+Computed (reaches n cs l o) = (within 2 32 n ≡ true) × (shown n (left n cs) ≡ l) × (order n (left n cs) ≡ o)
+Computed (scanShows n cs k l) = (within 2 32 n ≡ true) × (shownBy k (left n cs) ≡ l)
+Computed (topHeld n cs k) = (within 2 32 n ≡ true) × (topHolders n (left n cs .labels) ≡ k)
+Computed (numbersDo n cs ns) = (within 2 32 n ≡ true) × Follow.Numbers original n (digits n) (λ p. 1) cs ns
+Computed (numbersFound n cs ns) = numbersOf original n cs ≡ ns
+Computed (logRight n cs ns l) = right original n (fresh 0) ns (scanBytes l) cs ≡ true
+Computed (logWrong n cs ns l) = right original n (fresh 0) ns (scanBytes l) cs ≡ false
+Computed (answers n cs xs ks) = (within 2 32 n ≡ true) × (map (λ c. step original n (digits n) (left n cs) c .refusal) xs ≡ ks)
+Computed (replies n cs c k r) =
+    let a = step original n (digits n) (left n cs) c in
+    (within 2 32 n ≡ true) × (a .refusal ≡ k) × (a .report ≡ r)
+
+-- row by row
+infixr 40 _and_
+_and_ : {A B : Type 0} → A → B → A × B
+a and b = (a, b)
+
+scope : All Computed samples
+unfolding shown order carried one two three together stalled callWith
+scope =
+    refl and refl and (refl, refl, refl) and (refl, refl, refl) and (refl, refl, refl) and (refl, refl, refl) and (refl, refl, refl)
+    and (refl, refl, refl) and (refl, refl, refl) and (refl, refl, refl) and (refl, refl, refl) and (refl, refl, refl) and tt
+
+habits : All Computed habitSamples
+unfolding shown order carried one two three callWith
+habits = (refl, refl, refl) and tt
+
+service : All Computed serviceSamples
+unfolding shown order shownBy carried one two three absent lastOf callWith
+service = (refl, refl, refl) and (refl, refl, refl) and (refl, refl) and (refl, refl) and (refl, refl) and tt
+
+shared : All Computed topSamples
+unfolding topHolders holders carried one two three together callWith
+shared = (refl, refl) and (refl, refl) and (refl, refl) and (refl, refl) and (refl, refl) and tt
+
+-- another list for 1 and 2, which have equal labels: a number for each
+apart : Follow.Numbers original 3 (digits 3) (λ p. 1) (together ++ one (call 3 2)) (two 1 2)
+unfolding run snaps labelSnaps met newestSnap newestSnaps numberBefore snapsOf unless judgeIn pendingAfter relabelled scanOf carryOut step below next agrees
+    firstDifference labelBelow labelBefore nextLabel others level newLabel every count firstFrom newest inserted ordered passing tabulate call callWith one two
+    together
+apart = record {
+  each = refl;
+  fits = record { one = refl; each = (above (omega arith) (omega arith), (above (omega arith) (omega arith), tt)) };
+  same = refl;
+  newest = refl;
+  gapless = record { most = 2; upto = (omega arith, (omega arith, tt)); each = member };
+}
+  where
+    above : {v : ℕ} → 0 < v → v ≤ 2 → Fit 2 (record { byNewest = false; top = 0; number = v })
+    above l u = record { newest = λ e. absurd (true≢false (sym e)); other = λ _. (l, u) }
+
+    member : (v : ℕ) → 1 ≤ v → v ≤ 2 → List·Memᴰ v (two 1 2)
+    member zero l u = absurd (omega arith)
+    member (suc zero) l u = List·Memᴰ·head refl
+    member (suc (suc zero)) l u = List·Memᴰ·tail (List·Memᴰ·head refl)
+    member (suc (suc (suc v))) l u = absurd (omega arith)
+
+numbered : All Computed numberSamples
+unfolding renumbered renumber highest slotOf bump snapsOf unless judgeIn pendingAfter relabelled scanOf carryOut step below next agrees firstDifference
+    labelBelow labelBefore nextLabel others level newLabel every count firstFrom newest inserted ordered passing tabulate call callWith labelled one two three
+    together overtaken
+numbered = refl and refl and refl and (refl, numbering 3 (omega arith) _ .0) and (refl, apart) and tt
+
+logs : All Computed logSamples
 unfolding right fitsNext atFront numberBefore snapsOf unless judgeIn pendingAfter relabelled scanOf carryOut step every firstFrom newest inserted ordered
-    passing reportLines reportLine lineHead lineTail scanned call labelled one two three overtaken ended
-judged = (refl, (refl, (refl, (refl, (refl, (refl, (refl, (refl, (refl, (refl, (refl, (refl, tt))))))))))))
+    passing reportLines reportLine lineHead lineTail scanBytes call callWith labelled one two three overtaken scanEnded
+logs = refl and refl and refl and refl and refl and refl and refl and refl and refl and refl and refl and refl and tt
+
+refusals : All Computed refusalSamples
+unfolding carried lastOf one two three nine codes codesWith callWith
+refusals =
+    (refl, refl) and (refl, refl) and (refl, refl) and (refl, refl) and (refl, refl) and (refl, refl) and (refl, refl) and (refl, refl)
+    and (refl, refl) and (refl, refl) and (refl, refl) and (refl, refl) and (refl, refl) and (refl, refl) and (refl, refl) and (refl, refl)
+    and (refl, refl) and (refl, refl) and (refl, refl) and tt
+
+reports : All Computed reportSamples
+unfolding carried lastOf one two takesJob twoOfThree callWith ascii reportLines panelRecords reportLine lineHead lineTail
+reports =
+    (refl, refl, refl) and (refl, refl, refl) and (refl, refl, refl) and (refl, refl, refl) and (refl, refl, refl) and (refl, refl, refl)
+    and (refl, refl, refl) and (refl, refl, refl) and tt
 
 module _ (F : Form) (L : Lawful F) where
-  two-stations : (cs : Lists.List Call) {l : Lists.List (Lists.List ℕ)} {o : Lists.List ℕ}
-      → let s = stateOf (carried 2 (freshTable lent 2) cs) in (shown 2 s ≡ l) × (order 2 s ≡ o) → Holds F (reaches 2 cs l o)
-  two-stations cs {l} {o} = leads 2 (omega arith) (omega arith) F L (λ s. (shown 2 s ≡ l) × (order 2 s ≡ o)) cs
+  -- a call on the table that some calls leave is the machine's step, written down
+  module _ (n : ℕ) (low : 2 ≤ n) (high : n ≤ 32) (cs : Lists.List Call) (c : Call) where
+    abbrev table : F .Table
+    table = after F (freshTable F n) cs
 
-  three-stations : (cs : Lists.List Call) {l : Lists.List (Lists.List ℕ)} {o : Lists.List ℕ}
-      → let s = stateOf (carried 3 (freshTable lent 3) cs) in (shown 3 s ≡ l) × (order 3 s ≡ o) → Holds F (reaches 3 cs l o)
-  three-stations cs {l} {o} = leads 3 (omega arith) (omega arith) F L (λ s. (shown 3 s ≡ l) × (order 3 s ≡ o)) cs
+    stepped : stepOf F table c ≡ answered F n (step original n (digits n) (F .state table) c)
+    stepped = ap (λ t. stepOf F t c) (r .holds) ∙ reached-written F L n low high (r .reached) c
+        ∙ ap (λ s. answered F n (step original n (digits n) s c)) (sym (ap (F .state) (r .holds) ∙ reached-held F L n low high (r .reached)))
+      where
+        r : ReachedTable F n table
+        r = table-after F L n low high cs (freshTable F n) (table-fresh F L n low high)
 
-  scan-of-two : (cs : Lists.List Call) (k : ℕ) (l : Lists.List ℕ) → shownBy k (stateOf (carried 2 (freshTable lent 2) cs)) ≡ l → Holds F (scanShows 2 cs k l)
-  scan-of-two cs k l = leads 2 (omega arith) (omega arith) F L (λ s. shownBy k s ≡ l) cs
-
-  held-by : (cs : Lists.List Call) {k : ℕ} → topHolders 3 (stateOf (carried 3 (freshTable lent 3) cs) .labels) ≡ k → Holds F (topHeld 3 cs k)
-  held-by cs {k} e =
-      let low : 2 ≤ 3 = omega arith in
-      let high : 3 ≤ 32 = omega arith in
-      subst (Tells F (after F (freshTable F 3) cs) 0) (leads 3 low high F L (λ s. topHolders 3 (s .labels) ≡ k) cs e)
-      (reached-tells F L 3 low high _ (table-after F L 3 low high cs (freshTable F 3) (table-fresh F L 3 low high)))
-
-  scope : All (Holds F) samples
-  unfolding shown order carried one two three together stalled
-  scope = (
-    refl,
-    (
-      refl,
-      (
-        two-stations _ (refl, refl),
-        (
-          two-stations _ (refl, refl),
-          (
-            three-stations _ (refl, refl),
-            (
-              three-stations _ (refl, refl),
-              (
-                three-stations _ (refl, refl),
-                (
-                  three-stations _ (refl, refl),
-                  (
-                    three-stations _ (refl, refl),
-                    (
-                      three-stations _ (refl, refl),
-                      (three-stations _ (refl, refl), (three-stations _ (refl, refl), tt)),
-                    ),
-                  ),
-                ),
-              ),
-            ),
-          ),
-        ),
-      ),
-    ),
-  )
-
-  service : All (Holds F) serviceSamples
-  unfolding shown order shownBy carried one two three absent lastOf
-  service = (
-    two-stations _ (refl, refl),
-    (
-      three-stations _ (refl, refl),
-      (
-        scan-of-two (absent ++ one (call 2 2)) 2 (two 1 2) refl,
-        (
-          scan-of-two (labelled (two 1 2) ++ two (call 1 6) (call 2 2)) 2 (one 2) refl,
-          (scan-of-two (labelled (two 1 2) ++ two (call 2 2) (call 1 6)) 2 (two 1 2) refl, tt),
-        ),
-      ),
-    ),
-  )
-
-  shared : All (Holds F) topSamples
-  unfolding topHolders holders carried one two three together
-  shared = (held-by _ refl, (held-by _ refl, (held-by _ refl, (held-by _ refl, (held-by _ refl, tt)))))
-
-  -- another list for 1 and 2, which have equal labels: a number for each
-  apart : Follow.Numbers original 3 (digits 3) (λ p. 1) (together ++ one (call 3 2)) (two 1 2)
-  unfolding run snaps labelSnaps met newestSnap newestSnaps numberBefore snapsOf unless judgeIn pendingAfter relabelled scanOf carryOut step below next agrees
-      firstDifference labelBelow labelBefore nextLabel others level newLabel every count firstFrom newest inserted ordered passing tabulate call one two
-      together
-  apart = record {
-    each = refl;
-    fits = record { one = refl; each = (above (omega arith) (omega arith), (above (omega arith) (omega arith), tt)) };
-    same = refl;
-    newest = refl;
-    gapless = record { most = 2; upto = (omega arith, (omega arith, tt)); each = member };
-  }
-    where
-      above : {v : ℕ} → 0 < v → v ≤ 2 → Fit 2 (record { byNewest = false; top = 0; number = v })
-      above l u = record { newest = λ e. absurd (true≢false (sym e)); other = λ _. (l, u) }
-
-      member : (v : ℕ) → 1 ≤ v → v ≤ 2 → List·Memᴰ v (two 1 2)
-      member zero l u = absurd (omega arith)
-      member (suc zero) l u = List·Memᴰ·head refl
-      member (suc (suc zero)) l u = List·Memᴰ·tail (List·Memᴰ·head refl)
-      member (suc (suc (suc v))) l u = absurd (omega arith)
-
-  numbered : All (Holds F) numberSamples
-  unfolding renumbered renumber highest slotOf bump snapsOf unless judgeIn pendingAfter relabelled scanOf carryOut step below next agrees firstDifference
-      labelBelow labelBefore nextLabel others level newLabel every count firstFrom newest inserted ordered passing tabulate call labelled one two three
-      together overtaken
-  numbered = (
-    refl,
-    (refl, (refl, (numbers F L 3 (omega arith) (omega arith) _, (numbers-do F L 3 (omega arith) (omega arith) apart, tt)))),
-  )
-
-  logs : All (Holds F) logSamples
-  logs = all-weaken {P = Judged} {Q = Holds F} told logSamples judged
-    where
-      told : (x : Sample) → Judged x → Holds F x
-      told (logRight n cs ns l) e = right-exactly original n cs ns (scanned l) .0 e
-      told (logWrong n cs ns l) e = λ r. tf (right-exactly original n cs ns (scanned l) .1 r) e
-      told (digitsBelow d e) h = absurd h
-      told (labelsBelow a b) h = absurd h
-      told (reaches n cs l o) h = absurd h
-      told (scanShows n cs k l) h = absurd h
-      told (topHeld n cs k) h = absurd h
-      told (numbersDo n cs ns) h = absurd h
-      told (numbersFound n cs ns) h = absurd h
+  told : (x : Sample) → Computed x → SampleHolds F x
+  told (digitsBelow d e) h = h
+  told (labelsBelow a b) h = h
+  told (reaches n cs l o) h =
+      let b = within-true 2 32 n (h .0) in
+      leads n (b .0) (b .1) F L (λ s. (shown n s ≡ l) × (order n s ≡ o)) cs (h .1, h .2)
+  told (scanShows n cs k l) h = let b = within-true 2 32 n (h .0) in leads n (b .0) (b .1) F L (λ s. shownBy k s ≡ l) cs (h .1)
+  told (topHeld n cs k) h =
+      let b = within-true 2 32 n (h .0) in
+      subst (Tells F (after F (freshTable F n) cs) 0) (leads n (b .0) (b .1) F L (λ s. topHolders n (s .labels) ≡ k) cs (h .1))
+      (reached-tells F L n (b .0) (b .1) _ (table-after F L n (b .0) (b .1) cs (freshTable F n) (table-fresh F L n (b .0) (b .1))))
+  told (numbersDo n cs ns) h = let b = within-true 2 32 n (h .0) in numbers-do F L n (b .0) (b .1) (h .1)
+  told (numbersFound n cs ns) h = h
+  told (logRight n cs ns l) h = right-exactly original n cs ns (scanBytes l) .0 h
+  told (logWrong n cs ns l) h = λ r. tf (right-exactly original n cs ns (scanBytes l) .1 r) h
+  told (answers n cs xs ks) h =
+      let b = within-true 2 32 n (h .0) in
+      ap (λ f. map f xs) (fun-ext (λ c. ap (λ (a : TableAnswer (F .Table)). a .refusal) (stepped n (b .0) (b .1) cs c)))
+      ∙ leads n (b .0) (b .1) F L (λ s. map (λ c. step original n (digits n) s c .refusal) xs ≡ ks) cs (h .1)
+  told (replies n cs c k r) h =
+      let b = within-true 2 32 n (h .0) in
+      subst (λ (a : TableAnswer (F .Table)). (a .refusal ≡ k) × (a .report ≡ r)) (sym (stepped n (b .0) (b .1) cs c))
+      (leads n (b .0) (b .1) F L (λ s. let a = step original n (digits n) s c in (a .refusal ≡ k) × (a .report ≡ r)) cs (h .1, h .2))
 
   pub samples-hold : SamplesHold F
-  samples-hold = all-append (Holds F) samples (serviceSamples ++ topSamples ++ numberSamples ++ logSamples) scope
-      (all-append (Holds F) serviceSamples (topSamples ++ numberSamples ++ logSamples) service
-      (all-append (Holds F) topSamples (numberSamples ++ logSamples) shared (all-append (Holds F) numberSamples logSamples numbered logs)))
+  samples-hold =
+      each samples scope and each habitSamples habits and each serviceSamples service and each topSamples shared and each numberSamples numbered
+      and each logSamples logs and each refusalSamples refusals and each reportSamples reports and tt
+    where
+      each : (l : Lists.List Sample) → All Computed l → All (SampleHolds F) l
+      each = all-weaken {P = Computed} {Q = SampleHolds F} told

@@ -1,6 +1,6 @@
-// Direct calls of the steps, and questions, as the command file on standard input asks for them. The file is run twice: step calls and questions get their
-// tables by value, and then from an owner that lends them. Calls by name and sessions get them by value both times, and calls with a panel from an owner both
-// times. A call shows the buffer or the panel, its refusal number and its count, of bytes or of records. The file `stdout` beside this folder has what
+// Direct calls of the steps, and questions, as the command file on standard input asks for them. The file is run twice: step calls, by code and by name, and
+// questions get their tables by value, and then from an owner that lends them. Sessions get them by value both times, and calls with a panel from an owner
+// both times. A call shows the buffer or the panel, its refusal number and its count, of bytes or of records. The file `stdout` beside this folder has what
 // document 01 asks with Cards 1, 2, 4 and 5.
 //
 // A line that starts with # or is empty is shown as it is. Any other is a command: a letter and four columns of 12 bytes, with 0 in those that it
@@ -20,11 +20,12 @@
 //     u place 0 out              changes whether the station is out of service: 1 if it is, 0 if not
 //     c place other              changes the record to the one at another place
 //     o, a line                  opens a session with this header, and shows the number of its refusal
-//     v room, a line             serves the line, and lends so many bytes, each a dot
+//     v bytes, a line            serves the line, and shows so many bytes of its buffer, which were dots
 //     t                          puts the table into the session
 //     x lines                    makes it so many lines that the session has counted, the header among them
 mod commands;
 mod edits;
+mod owners;
 mod panels;
 mod sessions;
 
@@ -48,12 +49,12 @@ pub fn number(before: u8, v: u64) {
     io::print_decimal(STDOUT_FILENO, v);
 }
 
-// A form of the step calls: on a lent table. 1 to 7 are the calls with the names of these steps, and 0 is the call by value.
-const LENT: u64 = 8;
+// A form of the calls: on a lent table. Any other is the one on a table by value.
+const LENT: u64 = 1;
 
-// Makes a step call in one of its forms.
-fn stepped(t: Table, form: u64, c: Command, report: &mut [u8]) -> Outcome {
-    match form {
+// Makes a step call on a table by value: 1 to 7 are the calls with the names of these steps, and any other is the call by code.
+fn by_value(t: Table, name: u64, c: Command, report: &mut [u8]) -> Outcome {
+    match name {
         1 => step::begin_label(t, c.b, c.c),
         2 => step::scan(t, c.b),
         3 => step::snap(t, c.b),
@@ -61,8 +62,29 @@ fn stepped(t: Table, form: u64, c: Command, report: &mut [u8]) -> Outcome {
         5 => step::end(t, c.b, report),
         6 => step::leave_service(t, c.b),
         7 => step::return_to_service(t, c.b),
-        LENT => lent_table::step_owned(t, c.a, c.b, c.c, report),
         _ => step::step(t, c.a, c.b, c.c, report),
+    }
+}
+
+// The same on a lent table.
+fn lent(t: Table, name: u64, c: Command, report: &mut [u8]) -> Outcome {
+    match name {
+        1 => owners::begin_label(t, c.b, c.c),
+        2 => owners::scan(t, c.b),
+        3 => owners::snap(t, c.b),
+        4 => owners::update(t, c.b),
+        5 => owners::end(t, c.b, report),
+        6 => owners::leave_service(t, c.b),
+        7 => owners::return_to_service(t, c.b),
+        _ => lent_table::step_owned(t, c.a, c.b, c.c, report),
+    }
+}
+
+// Makes a step call in one of its forms.
+fn stepped(t: Table, form: u64, name: u64, c: Command, report: &mut [u8]) -> Outcome {
+    match form {
+        LENT => lent(t, name, c, report),
+        _ => by_value(t, name, c, report),
     }
 }
 
@@ -75,18 +97,18 @@ pub fn show(report: &[u8], r: Reply) {
 }
 
 // Makes a step call, and shows its buffer and its reply.
-fn shown(t: Table, form: u64, c: Command, report: &mut [u8]) -> Table {
-    let o = stepped(t, form, c, report);
+fn shown(t: Table, form: u64, name: u64, c: Command, report: &mut [u8]) -> Table {
+    let o = stepped(t, form, name, c, report);
     let r = o.reply;
     show(report, r);
     o.table
 }
 
 // Lends a buffer for a step call. A command has room for 929 bytes at most (`fits`).
-fn call(t: Table, form: u64, c: Command) -> Table {
+fn call(t: Table, form: u64, name: u64, c: Command) -> Table {
     let mut buffer = [b'.'; 929];
     let n = (c.d % 930) as usize;
-    shown(t, form, c, &mut buffer[..n])
+    shown(t, form, name, c, &mut buffer[..n])
 }
 
 // Puts the question to a table in one of its forms.
@@ -112,8 +134,8 @@ fn obey(t: Table, form: u64, c: Command) -> Table {
     match letter {
         b'#' | b'o' | b'v' | b't' | b'x' => t,
         b'f' => Table::fresh(c.a as usize),
-        b's' => call(t, form, c),
-        b'n' => call(t, c.a, c),
+        b's' => call(t, form, 0, c),
+        b'n' => call(t, form, c.a, c),
         b'r' => panels::call(t, c),
         b'a' => ask(t, form),
         _ => edits::edited(t, c),

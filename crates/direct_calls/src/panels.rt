@@ -22,8 +22,8 @@ fn show(r: Record) {
 }
 
 // Shows all records, those that were not lent too.
-fn show_all(records: [Record; 32]) {
-    for i in 0..32 {
+fn show_all(records: [Record; Table::MAX_STATIONS]) {
+    for i in 0..Table::MAX_STATIONS {
         show(records[i]);
     }
 }
@@ -35,7 +35,7 @@ pub fn call(t: Table, c: Command) -> Table {
         station: OLD,
         job: OLD,
     };
-    let o = panel::step_owned(t, c.a, c.b, c.c, [old; 32], c.d as usize);
+    let o = panel::step_owned(t, c.a, c.b, c.c, [old; Table::MAX_STATIONS], c.d as usize);
     let r = o.reply;
     let records = o.panel;
     show_all(records);

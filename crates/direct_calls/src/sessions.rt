@@ -1,5 +1,6 @@
 // The commands on the session. Those that open it or serve a line end with a line of a schedule file, its byte 10 too.
 use crate::commands::Command;
+use engine::Reply;
 use session::Session;
 use table::Table;
 ghost use Prim.Native.Nat.{_≤_};
@@ -24,19 +25,19 @@ fn opened(header: &[u8]) -> Session {
     s
 }
 
-// Serves a line, and shows its buffer and its reply.
-fn shown(s: Session, line: &[u8], report: &mut [u8]) -> Session {
-    let o = session::serve(s, line, report);
-    let r = o.reply;
-    crate::show(report, r);
-    o.session
+// Shows the first bytes of a buffer, so many as the command asks for, and a reply.
+fn show_front(buffer: [u8; 928], bytes: u64, r: Reply) {
+    let n = (bytes % 929) as usize;
+    crate::show(&buffer[..n], r);
 }
 
-// Lends a buffer for a line. A command has room for 929 bytes at most.
-fn served(s: Session, line: &[u8], room: u64) -> Session {
-    let mut buffer = [b'.'; 929];
-    let n = (room % 930) as usize;
-    shown(s, line, &mut buffer[..n])
+// Serves a line, and shows its buffer and its reply.
+fn served(s: Session, line: &[u8], bytes: u64) -> Session {
+    let mut buffer = [b'.'; 928];
+    let o = session::serve(s, line, &mut buffer);
+    let r = o.reply;
+    show_front(buffer, bytes, r);
+    o.session
 }
 
 // The session with this table, and so many lines counted.

@@ -259,10 +259,7 @@ module _ {a a′ : Arrays} {c : Call} {r : Handed} (h : Hands a c a′ r) where
       (ap Calls.Bytes f ∙ sym (ap (λ x. onto x (Calls.Bytes buffer)) s))
 
   -- to a panel
-  pub records-fit : (b : ℕ) → c .room ≡ Calls.Panel b → r .entries ≤ b
-  records-fit b e = leb-true (r .entries) b (ap (λ x. holds x (r .entries)) (sym e) ∙ h .room)
-
-  pub steps-records : Shaped a → {panel panel′ : Lists.List PanelRecord} → c .room ≡ Calls.Panel (length panel)
+  steps-records : Shaped a → {panel panel′ : Lists.List PanelRecord} → c .room ≡ Calls.Panel (length panel)
       → panel′ ≡ over (panelRecords 1 entries) panel → Steps lent a c (Calls.Records panel) a′ (refusalNumber (r .refusal)) (r .entries) (Calls.Records panel′)
   steps-records g {panel} e f =
       let s : stepOf lent a c .report ≡ Calls.Records (panelRecords 1 entries) = h .report ∙ ap (λ x. written (c .line) x entries) e in

@@ -212,11 +212,11 @@ pub fn carry_rest(
             accepted(place, 0)
         }
         Move::EndLabel => {
-            control[PHASE][place] = IDLE;
+            control[PHASE][place] = IDLE; // pending label and job stay
             accepted(place, 0)
         }
         Move::EndScan => {
-            control[PHASE][place] = IDLE;
+            control[PHASE][place] = IDLE; // the result stays
             accepted(place, task.shown)
         }
         Move::LeaveService => {
@@ -371,7 +371,7 @@ pub fn perform(
     )
 }
 
-// A step call with a report buffer. That a refused call leaves the arrays is told by their lengths.
+// A step call with a report buffer. `shaped` tells the lengths of the arrays, by which those that a refused call leaves are the ones that it got.
 pub fn step(
     count: u64,
     request: Request,

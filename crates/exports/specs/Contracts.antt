@@ -15,7 +15,7 @@ pub record Starts (n : ℕ) (a a′ : Arrays) (r : ℕ) : Type 0 where
   pub table : a′ ≡ cond (within 2 32 n) (freshTable lent n) a
 
 -- what is told of a log (02, Card 7): yes as 1, no as 0
-pub record Judges (bs ns report : List ℕ) (refusal right : ℕ) : Type 0 where
+pub record TellsOfLog (bs ns report : List ℕ) (refusal right : ℕ) : Type 0 where
   pub yes : Bool
   pub checks : ChecksLog bs ns report refusal yes
   pub told : right ≡ cond yes 1 0

@@ -13,7 +13,7 @@ ghost use Rattle.arrays.specs.Form.{lent};
 ghost use Rattle.engine.specs.Contracts.{recordOf};
 ghost use Rattle.file.specs.Contracts.{ReportsFile};
 ghost use Rattle.numbering.specs.Files.{NumbersFile};
-ghost use Rattle.exports.specs.Contracts.{Starts, Judges};
+ghost use Rattle.exports.specs.Contracts.{Starts, TellsOfLog};
 use arrays::Control;
 use arrays::Jobs;
 use arrays::Labels;
@@ -178,7 +178,7 @@ fn flag(yes: bool) -> u64
 // Checks the log of a whole schedule file, its numbers and its report, against the unbounded table. A refusal is answered before any step is run.
 #[no_mangle]
 pub extern "C" fn tickets_check_log(schedule: &[u8], numbers: &[u64], report: &[u8]) -> Verdict
-    ensures { λ r. ⌜ Judges (now (schedule .entry)) (now (numbers .entry)) (now (report .entry)) (r .refusal) (r .right) ⌝ }
+    ensures { λ r. ⌜ TellsOfLog (now (schedule .entry)) (now (numbers .entry)) (now (report .entry)) (r .refusal) (r .right) ⌝ }
 {
     let verdict = logs::check(schedule, numbers, report);
     let refusal = verdict.refusal;

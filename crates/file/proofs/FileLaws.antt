@@ -1,35 +1,29 @@
--- All lines of a file, however much room there is for what they print, and the whole file.
-use mathlib.Core.Path.{_≡_, refl, sym, ap, subst, _∙_}
-use mathlib.Core.Logic.{⊎-elim}
-use mathlib.Core.Bool.{cond}
+-- A whole file, run in parts however much room there is for its report.
+use mathlib.Core.Path.{_≡_, refl, sym, ap, _∙_}
+use mathlib.Core.Logic.{inl}
+use mathlib.Core.Bool.{Bool, true, false, cond}
 use mathlib.Core.List as Lists
 use mathlib.Core.List.{[], _∷_, _++_, append-assoc, append-nil}
-use Prim.Native.Nat.{ℕ, suc, _+_, _-_, _*_, _≤_, _<_}
+use Prim.Native.Nat.{ℕ, suc, _+_, _-_, _*_, _/_, _≤_, _<_}
 use native.Mathlib.Numerals.{add-one}
 use native.Mathlib.Omega.{arith}
 use lib.ListN.{length, getD, take, drop, set, length-append, length-take, length-drop, take-append-drop}
 use lib.Seq.{take-at, drop-at, drop-drop, take-suc, drop-cons, set-at, length-take-le}
 use lib.Dec.{leb}
-use borrow.Author.Tests.{le-leb, lt-leb, ne-eqb}
-use Rattle.columns.proofs.ColumnLaws.{length-report-line}
+use borrow.Author.Tests.{le-leb, lt-leb}
 use Rattle.transition.specs.Forms.{over, freshTable}
 use Rattle.moves.specs.Moves.{refusalNumber}
-use Rattle.moves.proofs.MoveLaws.{accepted}
-use Rattle.moves.specs.declared.Refusal.{Refusal}
 use Rattle.moves.specs.declared.Refusal.the-variants.{Accepted}
 use Rattle.arrays.specs.Arrays.{Arrays}
 use Rattle.arrays.specs.Form.{lent}
-use Rattle.engine.specs.declared.Reply.{Reply}
-use Rattle.schedule.specs.Lines.{headerRead}
-use Rattle.schedule.specs.Sessions.{Session, session, Served, standing}
-use Rattle.schedule.specs.Files.{cut, pieces, refusalLine, printed, behind, runLines, fileRun}
-use Rattle.schedule.proofs.SessionLaws.{header-refused}
-use Rattle.schedule.proofs.Runs.{final-run, file-refused, file-served, rest-after}
-use Rattle.schedule.specs.declared.Header.the-variants as Headers
-use Rattle.schedule.specs.declared.Header.the-variants.{Stations}
-use Rattle.file.specs.Contracts.{Reports, Follows, ReportsAll, Sizes, ReportsFile}
-use Rattle.file.proofs.ChunkLaws.{reports-within, reports-shown, reports-left, reports-rest, reports-on}
-use Rattle.file.specs.declared.Progress.{Progress}
+use Rattle.schedule.specs.Sessions.{Session, Served, standing}
+use Rattle.schedule.specs.Files.{pieces, behind, fileRun, fileReport}
+use Rattle.file.specs.Contracts.{RunsFile, ReportsFile}
+use Rattle.file.specs.Feeds.{sessionOf, awaits, ready, ahead, Feeds}
+use Rattle.file.proofs.FeedLaws.{run-started, behind-twice, feeds-within, feeds-shown, feeds-more, feeds-on, feeds-rest, feeds-done}
+use Rattle.file.specs.declared.Run.{Run}
+use Rattle.file.specs.declared.Fed.{Fed}
+use Rattle.file.specs.declared.Ending.{Ending}
 
 -- BYTES
 
@@ -57,166 +51,131 @@ put-behind bytes x buffer e l =
     (sym (drop-drop (length x) (length bytes) (bytes ++ rest)) ∙ ap (drop (length x)) (drop-at bytes rest (length bytes) refl)
     ∙ drop-drop (length x) (length bytes) buffer))
 
-behind-twice : {T : Type 0} (a b : Lists.List ℕ) (o : Served T) → behind a (behind b o) ≡ behind (a ++ b) o
-behind-twice a b o = ap (λ x. record { session = o .session; refusal = o .refusal; bytes = x }) (sym (append-assoc a b (o .bytes)))
+-- PART AFTER PART
 
--- ALL LINES
+-- how many lines there are at most
+ready-few : (s : Session Arrays) (rest : Lists.List ℕ) → ready s true rest ≤ length rest / 18 + 1
+ready-few s rest = go (awaits s)
+  where
+    go : (w : Bool) → cond w (suc (pieces (drop 18 rest))) (pieces rest) ≤ length rest / 18 + 1
+    go true = omega (arith, length-drop 18 rest)
+    go false = omega arith
 
-abbrev runOf : Session Arrays → Lists.List ℕ → Served Arrays
-runOf s rest = runLines lent s (cut (pieces rest) rest)
-
--- nothing is left to read
-none-left : (s : Session Arrays) (rest : Lists.List ℕ) (at : ℕ) → length rest ≤ at → runOf s (drop at rest) ≡ standing s
-unfolding cut runLines
-none-left s rest at h = let z : pieces (drop at rest) ≡ 0 = omega (arith, length-drop at rest) in rw z refl
-
--- the lines so far, in any number of parts: what they printed, and that the run goes on from where they left it
-pub record Gathered (s : Session Arrays) (rest out₀ : Lists.List ℕ) (a : Arrays) (lines : ℕ) (refusal : Refusal) (written at : ℕ) (out : Lists.List ℕ)
-    : Type 0 where
-  pub within : at ≤ length rest
-  pub going : at < length rest → (refusal ≡ Accepted) × (written ≤ 928 * lines) × (lines ≤ 1000001)
+-- the parts so far: what they printed, and that the file goes on from where they left it
+pub record Gathered (file out₀ : Lists.List ℕ) (run : Run) (a : Arrays) (long at : ℕ) (out : Lists.List ℕ) : Type 0 where
+  pub within : at ≤ length file
+  pub going : refusalNumber (run .refusal) ≡ 0
+  pub placed : at ≡ 18 * run .lines
+  pub few : long ≤ 928 * run .lines
   pub bytes : Lists.List ℕ
-  pub long : written ≡ length bytes
+  pub counted : long ≡ length bytes
   pub same : length out ≡ length out₀
-  pub area : written ≤ length out₀ → out ≡ over bytes out₀
-  pub runs : runOf s rest ≡ behind bytes (runOf (session lines refusal a) (drop at rest))
-  pub short : written + 928 * pieces (drop at rest) ≤ 928 * pieces rest
+  pub area : long ≤ length out₀ → out ≡ over bytes out₀
+  pub runs : fileRun lent file ≡ behind bytes (ahead (sessionOf run a) (drop at file))
 
-pub gathered-start : (n : ℕ) {a : Arrays} → a ≡ freshTable lent n → (rest out : Lists.List ℕ)
-    → Gathered (session 1 Accepted (freshTable lent n)) rest out a 1 Accepted 0 0 out
-gathered-start n e rest out = record {
+pub gathered-start : (file out : Lists.List ℕ) {run : Run} {a : Arrays} → run ≡ record { lines = 0; count = 2; refusal = Accepted } → a ≡ freshTable lent 2
+    → Gathered file out run a 0 0 out
+gathered-start file out {run} {a} e q = record {
   within = omega arith;
-  going = λ _. (refl, omega arith, omega arith);
+  going = ap (λ (u : Run). refusalNumber (u .refusal)) e;
+  placed = omega (arith, ap (λ (u : Run). u .lines) e);
+  few = omega arith;
   bytes = [];
-  long = refl;
+  counted = refl;
   same = refl;
   area = λ _. refl;
-  runs = ap (λ x. runOf (session 1 Accepted x) rest) (sym e);
-  short = omega arith;
+  runs = sym (run-started file) ∙ (λ i. ahead (sessionOf (sym e i) (sym q i)) file);
 }
 
-module _ {s : Session Arrays} {rest out₀ : Lists.List ℕ} {a : Arrays} {lines : ℕ} {refusal : Refusal} {written at : ℕ} {out : Lists.List ℕ}
-    (f : Gathered s rest out₀ a lines refusal written at out) where
-  -- all lines are served, or one is refused for good
-  pub gathered-end : length rest ≤ at → ReportsAll (runOf s rest) rest (record { refusal = refusal; written = written }) out₀ out
-  gathered-end h =
-      let e = f .runs ∙ ap (behind (f .bytes)) (none-left (session lines refusal a) rest at h) in
-      let b : f .bytes ≡ runOf s rest .bytes = sym (append-nil (f .bytes)) ∙ sym (ap (λ (x : Served Arrays). x .bytes) e) in
-      record {
-        number = sym (ap (λ (x : Served Arrays). x .refusal) e);
-        count = f .long ∙ ap length b;
-        report = λ l. f .area l ∙ ap (λ (x : Lists.List ℕ). over x out₀) b;
-        short = omega (arith, f .short);
+module _ {file out₀ : Lists.List ℕ} {run : Run} {a : Arrays} {long at : ℕ} {out : Lists.List ℕ} (f : Gathered file out₀ run a long at out)
+    {part : Lists.List ℕ} (p : part ≡ drop at file) {r : Fed} {a′ : Arrays} {buffer buffer′ : Lists.List ℕ} (fed : Feeds run a true part r a′ buffer buffer′) where
+  g : Feeds run a true (drop at file) r a′ buffer buffer′
+  g = rw p at fed
+
+  pub part-within : at + r .read ≤ length file
+  part-within = omega (arith, f .within, feeds-within g, length-drop at file)
+
+  pub part-few : run .lines ≤ 1000001 → length buffer′ ≡ 4096 → long + length (take (r .written) buffer′) ≤ 1000000000
+  part-few h e = omega (arith, e, f .few, length-take (r .written) buffer′)
+
+  on : fileRun lent file ≡ behind (f .bytes ++ g .bytes) (ahead (sessionOf (r .run) a′) (drop (r .read) (drop at file) ++ []))
+  on = f .runs ∙ ap (λ x. behind (f .bytes) (ahead (sessionOf run a) x)) (sym (append-nil (drop at file)))
+      ∙ ap (behind (f .bytes)) (feeds-rest g [] (λ _. refl)) ∙ behind-twice (f .bytes) (g .bytes) _
+
+  -- its bytes stand behind those so far, if they fit
+  module _ {w : ℕ} {out′ : Lists.List ℕ} (put : let x = take (r .written) buffer′ in
+      (w ≡ long + length x) × (w ≤ length out → out′ ≡ over (take long out ++ x) out)) (q : length out′ ≡ length out) where
+    total : w ≡ length (f .bytes ++ g .bytes)
+    total = let n : w ≡ long + length (g .bytes) = rw (feeds-shown g) at put .0 in omega (arith, n, f .counted, length-append (f .bytes) (g .bytes))
+
+    put-in : w ≤ length out₀ → out′ ≡ over (f .bytes ++ g .bytes) out₀
+    put-in l = rw (feeds-shown g) at put .1 (omega (arith, f .same))
+        ∙ put-behind (f .bytes) (g .bytes) out₀ (f .area (omega (arith, put .0))) (f .counted)
+
+    -- all lines are served, or one is refused for good
+    pub gathered-end : r .more ≡ false → RunsFile file (record { refusal = r .run .refusal; length = w }) out₀ out′
+    gathered-end m =
+        let e = on ∙ ap (behind (f .bytes ++ g .bytes)) (feeds-done g [] (λ _. refl) m (inl refl)) in
+        let b : f .bytes ++ g .bytes ≡ fileReport lent file = sym (append-nil (f .bytes ++ g .bytes)) ∙ sym (ap (λ (x : Served Arrays). x .bytes) e) in
+        record {
+          refusal = sym (ap (λ (x : Served Arrays). x .refusal) e);
+          long = total ∙ ap length b;
+          report = λ l. put-in l ∙ ap (λ (x : Lists.List ℕ). over x out₀) b;
+          short = omega (
+            arith,
+            put .0,
+            ap length (feeds-shown g),
+            g .written,
+            g .short,
+            g .most,
+            f .few,
+            f .placed,
+            ready-few (sessionOf run a) (drop at file),
+            length-drop at file,
+            f .within,
+          );
+        }
+
+    -- there is more
+    module _ (m : r .more ≡ true) (room : length buffer ≡ 4096) where
+      step : (0 < r .read) × (r .read ≡ 18 * g .served) × (r .run .lines ≡ run .lines + g .served)
+      step = feeds-on g m (omega (arith, room))
+
+      pub part-less : length file - (at + r .read) < length file - at
+      part-less = omega (arith, part-within, step)
+
+      pub gathered-more : Gathered file out₀ (r .run) a′ w (at + r .read) out′
+      gathered-more = record {
+        within = part-within;
+        going = feeds-more g m .0;
+        placed = omega (arith, f .placed, step);
+        few = omega (arith, put .0, ap length (feeds-shown g), g .written, g .short, f .few, step);
+        bytes = f .bytes ++ g .bytes;
+        counted = total;
+        same = q ∙ f .same;
+        area = put-in;
+        runs = on ∙ ap (λ x. behind (f .bytes ++ g .bytes) (ahead (sessionOf (r .run) a′) x)) (append-nil _ ∙ drop-drop (r .read) at file);
       }
 
-  -- one part more
-  module _ (h : at < length rest) {l : Lists.List ℕ} (p : l ≡ drop at rest) {a′ : Arrays} {r : Progress} {buffer buffer′ : Lists.List ℕ}
-      (reported : Reports (session lines Accepted a) l a′ r buffer buffer′) where
-    g : Reports (session lines Accepted a) (drop at rest) a′ r buffer buffer′
-    g = rw p at reported
+-- THE REPORT
 
-    pub part-within : at + r .read ≤ length rest
-    part-within = omega (arith, f .within, reports-within g, length-drop at rest)
+module _ {bs : Lists.List ℕ} {r : Ending} {buffer buffer′ : Lists.List ℕ} (f : RunsFile bs r buffer buffer′) where
+  -- it fits, and is written
+  pub file-fits : r .length ≤ length buffer → ReportsFile bs buffer 0 (refusalNumber (r .refusal)) (r .length) (r .length) buffer′
+  file-fits h = record {
+    number = rw fit refl;
+    final = f .refusal;
+    count = rw fit (f .long);
+    long = f .long;
+    report = rw fit (f .report h);
+  }
+    where
+      fit : leb (length (fileReport lent bs)) (length buffer) ≡ true
+      fit = le-leb (length (fileReport lent bs)) (length buffer) (omega (arith, f .long))
 
-    pub part-few : length buffer′ ≡ 4096 → written + length (take (r .written) buffer′) ≤ 1000000000
-    part-few e = omega (arith, e, f .going h, length-take (r .written) buffer′)
-
-    abbrev left : Session Arrays
-    left = session (r .lines) (r .refusal) a′
-
-    on : runOf s rest ≡ behind (f .bytes ++ g .bytes) (runOf left (drop (at + r .read) rest))
-    on = f .runs ∙ ap (λ x. behind (f .bytes) (runOf (session lines x a) (drop at rest))) (f .going h .0)
-        ∙ ap (behind (f .bytes)) (reports-rest g) ∙ behind-twice (f .bytes) (g .bytes) _
-        ∙ ap (λ x. behind (f .bytes ++ g .bytes) (runOf left x)) (drop-drop (r .read) at rest)
-
-    -- its bytes stand behind those so far, if they fit
-    module _ {w : ℕ} {out′ : Lists.List ℕ} (put : let x = take (r .written) buffer′ in
-        (w ≡ written + length x) × (w ≤ length out → out′ ≡ over (take written out ++ x) out)) (q : length out′ ≡ length out) where
-      turn : (k : ℕ) → at + r .read ≤ k → k ≤ length rest → (k < length rest → refusalNumber (r .refusal) ≡ 0)
-          → runOf left (drop (at + r .read) rest) ≡ runOf left (drop k rest) → Gathered s rest out₀ a′ (r .lines) (r .refusal) w k out′
-      turn k low high goes e =
-          let n : w ≡ written + length (g .bytes) = rw (reports-shown g) at put .0 in
-          record {
-            within = high;
-            going = λ l. let z = goes l in (accepted _ z, omega (arith, f .going h, n, g .written, g .short, g .counted z), g .counted z .1 (f .going h .2));
-            bytes = f .bytes ++ g .bytes;
-            long = omega (arith, n, f .long, length-append (f .bytes) (g .bytes));
-            same = q ∙ f .same;
-            area = λ l. rw (reports-shown g) at put .1 (omega (arith, f .same)) ∙ put-behind (f .bytes) (g .bytes) out₀ (f .area (omega (arith, n))) (f .long);
-            runs = on ∙ ap (behind (f .bytes ++ g .bytes)) e;
-            short = omega (
-              arith,
-              n,
-              g .written,
-              f .short,
-              g .short,
-              reports-left g,
-              ap pieces (drop-drop (r .read) at rest),
-              length-drop k rest,
-              length-drop (at + r .read) rest,
-            );
-          }
-
-      pub gathered-more : {k : ℕ} → Follows at r (length rest) k → Gathered s rest out₀ a′ (r .lines) (r .refusal) w k out′
-      gathered-more {k} = ⊎-elim
-          (λ x. turn k (omega (arith, x .1)) (omega (arith, x .1, part-within)) (λ _. x .0) (ap (λ i. runOf left (drop i rest)) (sym (x .1))))
-          (λ x. turn k (omega (arith, x .1, part-within)) (omega (arith, x .1)) (λ l. absurd (omega (arith, x .1)))
-          (final-run lent left _ (x .0) ∙ sym (none-left left rest k (omega (arith, x .1)))))
-
-    pub part-less : length buffer ≡ 4096 → {k : ℕ} → Follows at r (length rest) k → length rest - k < length rest - at
-    part-less e = ⊎-elim (λ x. omega (arith, x .1, part-within, reports-on g (rw length-drop (omega arith)) (omega (arith, e)) (x .0)))
-        (λ x. omega (arith, x .1))
-
--- THE WHOLE FILE
-
--- a report that fits, and one that does not
-module _ (bs buffer : Lists.List ℕ) {o : Served Arrays} (e : fileRun lent bs ≡ o) where
-  abbrev Told : ℕ → ℕ → Lists.List ℕ → Served Arrays → Type 0
-  Told refusal written buffer′ o = let fit = leb (length (o .bytes)) (length buffer) in
-      (refusal ≡ cond fit (o .refusal) 7) × (written ≡ cond fit (length (o .bytes)) 0) × (buffer′ ≡ cond fit (over (o .bytes) buffer) buffer)
-
-  told : {refusal written : ℕ} {buffer′ : Lists.List ℕ} → Told refusal written buffer′ o → ReportsFile bs buffer refusal written buffer′
-  told {refusal} {written} {buffer′} h = let x = subst (Told refusal written buffer′) (sym e) h in record { number = x .0; count = x .1; report = x .2 }
-
-  pub file-fits : {refusal written : ℕ} {buffer′ : Lists.List ℕ} → refusal ≡ o .refusal → written ≡ length (o .bytes)
-      → length (o .bytes) ≤ length buffer → buffer′ ≡ over (o .bytes) buffer → ReportsFile bs buffer refusal written buffer′
-  file-fits n w h p = told (rw (le-leb _ _ h) (n, w, p))
-
-  pub file-short : length buffer < length (o .bytes) → ReportsFile bs buffer 7 0 buffer
-  file-short h = told (rw (lt-leb _ _ h) (refl, refl, refl))
-
--- a header that is refused: its line is the report
-module _ (bs : Lists.List ℕ) {l : Lists.List ℕ} (e : l ≡ take 18 bs) {x : Refusal} (h : headerRead l ≡ Headers.Refused x) where
-  only : fileRun lent bs ≡ record { session = session 0 x (freshTable lent 2); refusal = refusalNumber x; bytes = refusalLine 1 (refusalNumber x) }
-  only = file-refused lent bs x (ap headerRead (sym e) ∙ h)
-
-  long : length (refusalLine 1 (refusalNumber x)) ≡ 29
-  long = length-report-line 1 (refusalNumber x) 0 0 0
-
-  pub refused-short : (buffer : Lists.List ℕ) → length buffer < 29 → ReportsFile bs buffer 7 0 buffer
-  refused-short buffer s = file-short bs buffer only (omega (arith, long))
-
-  pub refused-told : (buffer : Lists.List ℕ) {w : ℕ} {buffer′ : Lists.List ℕ} → 29 ≤ length buffer → let line = printed 1 (refusalNumber x) [] in
-      w ≡ length line → buffer′ ≡ over line buffer → ReportsFile bs buffer (refusalNumber x) w buffer′
-  refused-told buffer s w p =
-      let q : printed 1 (refusalNumber x) [] ≡ refusalLine 1 (refusalNumber x) = rw (ne-eqb _ _ (header-refused l x h)) refl in
-      file-fits bs buffer only refl (w ∙ ap length q) (omega (arith, long)) (p ∙ ap (λ b. over b buffer) q)
-
--- an accepted header: the lines after it give the report
-module _ (bs : Lists.List ℕ) {l : Lists.List ℕ} (e : l ≡ take 18 bs) {n : ℕ} (h : headerRead l ≡ Stations n)
-    {rest : Lists.List ℕ} (q : rest ≡ drop (length l) bs) (buffer : Lists.List ℕ) where
-  abbrev served : Served Arrays
-  served = runOf (session 1 Accepted (freshTable lent n)) rest
-
-  whole : fileRun lent bs ≡ served
-  whole = file-served lent bs n (ap headerRead (sym e) ∙ h) ∙ ap (runOf (session 1 Accepted (freshTable lent n))) (sym (q ∙ rest-after bs l e))
-
-  module _ {k : ℕ} (s : Sizes served rest (length buffer) k) where
-    pub steps-short : length buffer < k → ReportsFile bs buffer 7 0 buffer
-    steps-short d = ⊎-elim (λ x. file-short bs buffer whole (omega (arith, x))) (λ x. absurd (omega (arith, x .0))) s
-
-    pub steps-told : k ≤ length buffer → {r : Reply} {buffer′ : Lists.List ℕ} → ReportsAll served rest r buffer buffer′
-        → ReportsFile bs buffer (refusalNumber (r .refusal)) (r .written) buffer′
-    steps-told d {r} g =
-        let fit : r .written ≤ length buffer = ⊎-elim (λ x. omega (arith, x, g .count)) (λ x. omega (arith, x .1, g .short)) s in
-        file-fits bs buffer whole (g .number) (g .count) (omega (arith, g .count, fit)) (g .report fit)
+  -- it does not fit, whatever it was written to
+  pub file-short : (out : Lists.List ℕ) → length out < r .length → ReportsFile bs out 7 (refusalNumber (r .refusal)) 0 (r .length) out
+  file-short out h = record { number = rw none refl; final = f .refusal; count = rw none refl; long = f .long; report = rw none refl }
+    where
+      none : leb (length (fileReport lent bs)) (length out) ≡ false
+      none = lt-leb (length (fileReport lent bs)) (length out) (omega (arith, f .long))

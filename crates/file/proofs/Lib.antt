@@ -1,4 +1,6 @@
 pub mod LineLaws
 pub mod ChunkLaws
+pub mod FeedLaws
 pub mod FileLaws
 pub mod Demand
+pub mod Samples

@@ -16,12 +16,12 @@ use Rattle.arrays.specs.Arrays.{Arrays, restOf}
 use Rattle.arrays.specs.Form.{lent}
 use Rattle.engine.specs.Contracts.{Hands}
 use Rattle.engine.specs.Scans.{orderOf}
-use Rattle.schedule.specs.Sessions.{Session, session, Served}
-use Rattle.schedule.specs.Files.{cut, pieces, printed, runLines, fileReport, fileRefusal}
+use Rattle.schedule.specs.Sessions.{Session, session}
+use Rattle.schedule.specs.Files.{cut, printed, runLines, fileReport, fileRefusal}
 use Rattle.engine.specs.declared.Handed.{Handed}
-use Rattle.engine.specs.declared.Reply.{Reply}
 use Rattle.file.specs.declared.Turn.{Turn}
 use Rattle.file.specs.declared.Progress.{Progress}
+use Rattle.file.specs.declared.Ending.{Ending}
 
 -- a table that step calls leave of the fresh one, with its scan order
 pub record Runnable (a : Arrays) (order : Lists.List ℕ) : Type 0 where
@@ -52,9 +52,9 @@ pub record Prints (a : Arrays) (c : Call) (buffer : Lists.List ℕ) (a′ : Arra
 abbrev pub readLines : ℕ → ℕ
 readLines read = (read + 17) / 18
 
--- a part of the file, served from the session s: the whole outcome (proved unique: ChunkLaws, `reports-one`). The lines read leave the session and print
--- the bytes. Before each of them none was refused for good and there was room for 928 bytes; after them one of the two fails, or the part is at its end.
--- Each prints at most 928 bytes and, if none is refused for good, is counted.
+-- the lines of a part of the file, served from the session s. Those read leave the session and print the bytes. Before each of them none was refused for
+-- good and there was room for 928 bytes; after them one of the two fails, or the part is at its end. Each prints at most 928 bytes and, if none is refused for
+-- good, is counted.
 pub record Reports (s : Session Arrays) (chunk : Lists.List ℕ) (a : Arrays) (r : Progress) (buffer buffer′ : Lists.List ℕ) : Type 0 where
   pub whole : r .read ≡ min (18 * readLines (r .read)) (length chunk)
   pub bytes : Lists.List ℕ
@@ -68,26 +68,20 @@ pub record Reports (s : Session Arrays) (chunk : Lists.List ℕ) (a : Arrays) (r
   pub short : r .written ≤ 928 * readLines (r .read)
   pub counted : refusalNumber (r .refusal) ≡ 0 → (r .lines ≡ s .lines + readLines (r .read)) × (s .lines ≤ 1000001 → r .lines ≤ 1000001)
 
--- the place k where the lines go on after a part: the end after a final refusal
-abbrev pub Follows : ℕ → Progress → ℕ → ℕ → Type 0
-Follows at r end k = ((refusalNumber (r .refusal) ≡ 0) × (k ≡ at + r .read)) ⊎ ((refusalNumber (r .refusal) ≢ 0) × (k ≡ end))
+-- the run of a whole file: its final refusal, and how long its report is, at most 928 bytes for each line; if it fits, it is written
+pub record RunsFile (bs : Lists.List ℕ) (r : Ending) (buffer buffer′ : Lists.List ℕ) : Type 0 where
+  pub refusal : refusalNumber (r .refusal) ≡ fileRefusal lent bs
+  pub long : r .length ≡ length (fileReport lent bs)
+  pub report : r .length ≤ length buffer → buffer′ ≡ over (fileReport lent bs) buffer
+  pub short : r .length ≤ 928 * (length bs / 18 + 1)
 
--- the run o of all lines of `rest`: its final refusal, and how many bytes it prints, at most 928 for each line; if they fit, they are written
-pub record ReportsAll (o : Served Arrays) (rest : Lists.List ℕ) (r : Reply) (buffer buffer′ : Lists.List ℕ) : Type 0 where
-  pub number : refusalNumber (r .refusal) ≡ o .refusal
-  pub count : r .written ≡ length (o .bytes)
-  pub report : r .written ≤ length buffer → buffer′ ≡ over (o .bytes) buffer
-  pub short : r .written ≤ 928 * pieces rest
-
--- how many bytes the run o of all lines of `rest` prints; or 0 where there is room for 928 bytes for each line
-abbrev pub Sizes : Served Arrays → Lists.List ℕ → ℕ → ℕ → Type 0
-Sizes o rest room k = (k ≡ length (o .bytes)) ⊎ ((k ≡ 0) × (928 * pieces rest ≤ room))
-
--- a whole file: its final refusal and its report; 7, and nothing is written, exactly if that report does not fit
+-- the report of a whole file: 7, and nothing is written, exactly if it does not fit; in either case the final refusal of the file and the length of its report
 abbrev pub fits : Lists.List ℕ → Lists.List ℕ → Bool
 fits bs buffer = leb (length (fileReport lent bs)) (length buffer)
 
-pub record ReportsFile (bs buffer : Lists.List ℕ) (refusal written : ℕ) (buffer′ : Lists.List ℕ) : Type 0 where
-  pub number : refusal ≡ cond (fits bs buffer) (fileRefusal lent bs) 7
+pub record ReportsFile (bs buffer : Lists.List ℕ) (refusal ended written size : ℕ) (buffer′ : Lists.List ℕ) : Type 0 where
+  pub number : refusal ≡ cond (fits bs buffer) 0 7
+  pub final : ended ≡ fileRefusal lent bs
   pub count : written ≡ cond (fits bs buffer) (length (fileReport lent bs)) 0
+  pub long : size ≡ length (fileReport lent bs)
   pub report : buffer′ ≡ cond (fits bs buffer) (over (fileReport lent bs) buffer) buffer

@@ -2,7 +2,7 @@
 ghost use mathlib.Core.Path.{_≡_};
 ghost use mathlib.Core.Logic.{_≢_};
 ghost use mathlib.Core.List.{[], _++_};
-ghost use Prim.Native.Nat.{_+_, _≤_, _<_};
+ghost use Prim.Native.Nat.{_+_, _*_, _/_, _≤_, _<_};
 ghost use lib.ListN.{length, take};
 ghost use Rattle.rows.specs.Held.{Orderly, OrderedBefore};
 ghost use Rattle.simulation.specs.Calls.{Buffer};
@@ -15,7 +15,9 @@ ghost use Rattle.arrays.specs.Form.{lent};
 ghost use Rattle.engine.specs.Scans.{orderOf};
 ghost use Rattle.schedule.specs.Sessions.{session};
 ghost use Rattle.schedule.specs.Files.{cut, pieces, printed, runLines};
-ghost use Rattle.file.specs.Contracts.{Runnable, Turns, Prints, Reports, Follows, ReportsAll, Sizes, ReportsFile};
+ghost use mathlib.Core.Bool.{cond};
+ghost use Rattle.file.specs.Feeds.{Standing, Feeds, fedOf};
+ghost use Rattle.file.specs.Contracts.{Runnable, Turns, Prints, Reports, RunsFile, ReportsFile};
 use arrays::Control;
 use arrays::Jobs;
 use arrays::Labels;
@@ -31,13 +33,13 @@ use schedule::Next;
 // The most bytes that a line prints: 32 report lines of 29.
 const ROOM: usize = 928;
 
-// What the lines of a part of the file leave beside the table and the output buffer: how many lines are counted, the final refusal if there is one, the
+// What lines leave beside the table and the output buffer: how many lines are counted, the final refusal if there is one, the
 // bytes of the part that were read, and the bytes that were printed.
-pub struct Progress {
-    pub lines: u32,
-    pub refusal: Refusal,
-    pub read: usize,
-    pub written: usize,
+struct Progress {
+    lines: u32,
+    refusal: Refusal,
+    read: usize,
+    written: usize,
 }
 
 // Writes the refusal line that bears the number `line` to the front of `out`, and nothing for no refusal; hands back its bytes.
@@ -137,7 +139,7 @@ fn serve_line(
 
 // Serves the lines of a part of the file after `lines` others, and writes what they print: up to a final refusal, or until there is no room for the report
 // of another line.
-pub fn report_lines(
+fn report_lines(
     lines: u32,
     n: usize,
     order: &mut [usize; 32],
@@ -205,6 +207,174 @@ pub fn report_lines(
     }
 }
 
+// A file in its run: how many lines are counted, 0 before the header; how many stations its table has; and its final refusal, if there is one.
+pub struct Run {
+    pub lines: u32,
+    pub count: usize,
+    pub refusal: Refusal,
+}
+
+// What a part of the file leaves beside the table and the output buffer: the run, the bytes of the part that were read, the bytes that were printed, and
+// whether more can be served of the part, for which there is no room.
+pub struct Fed {
+    pub run: Run,
+    pub read: usize,
+    pub written: usize,
+    pub more: bool,
+}
+
+// Writes the fresh table of n stations, and its scan order.
+fn refresh(
+    n: usize,
+    order: &mut [usize; 32],
+    labels: &mut Labels,
+    jobs: &mut Jobs,
+    control: &mut Control,
+    results: &mut Results,
+)
+    requires { ⌜ (2 ≤ n) × (n ≤ 32) ⌝ }
+    ensures { λ _. ⌜ arrays n (now (labels .exit)) (now (jobs .exit)) (now (control .exit)) (now (results .exit)) ≡ freshTable lent n ⌝ }
+    ensures { λ _. ⌜ Runnable (arrays n (now (labels .exit)) (now (jobs .exit)) (now (control .exit)) (now (results .exit))) (now (order .exit)) ⌝ }
+{
+    arrays::refresh(n, labels, jobs, control, results);
+    *order = rows::order::order(&labels[0], n);
+}
+
+// A run before its first line.
+pub fn start(
+    order: &mut [usize; 32],
+    labels: &mut Labels,
+    jobs: &mut Jobs,
+    control: &mut Control,
+    results: &mut Results,
+) -> Run
+    ensures { λ r. ⌜ r ≡ record { lines = 0; count = 2; refusal = Accepted } ⌝ }
+    ensures { λ r. ⌜ arrays (r .count) (now (labels .exit)) (now (jobs .exit)) (now (control .exit)) (now (results .exit)) ≡ freshTable lent 2 ⌝ }
+    ensures { λ r. ⌜ Standing r (arrays (r .count) (now (labels .exit)) (now (jobs .exit)) (now (control .exit)) (now (results .exit)))
+        (now (order .exit)) ⌝ }
+{
+    refresh(2, order, labels, jobs, control, results);
+    Run {
+        lines: 0,
+        count: 2,
+        refusal: Refusal::Accepted,
+    }
+}
+
+// Where the lines of a part end that can be served: behind the whole ones, and at the end of the last part.
+fn end_of(len: usize, last: bool) -> usize
+    ensures { λ r. ⌜ r ≡ cond last len (18 * (len / 18)) ⌝ }
+{
+    if last {
+        return len;
+    }
+    len / 18 * 18
+}
+
+// What a part leaves whose lines were served from one place up to another.
+fn fed_by(n: usize, at: usize, r: Progress, end: usize) -> Fed
+    requires { ⌜ at + r .read ≤ end ⌝ }
+    ensures { λ x. ⌜ x ≡ fedOf n at r end ⌝ }
+{
+    let refusal = r.refusal;
+    Fed {
+        run: Run {
+            lines: r.lines,
+            count: n,
+            refusal,
+        },
+        read: at + r.read,
+        written: r.written,
+        more: (refusal.number() == 0) & (at + r.read < end),
+    }
+}
+
+// Serves a part of the file, the header first where it is still to come, and writes what the lines print. What is left unread of the part, a line that is
+// not whole or lines for whose report there is no room, stands at the front of the next one.
+pub fn feed(
+    run: Run,
+    last: bool,
+    order: &mut [usize; 32],
+    labels: &mut Labels,
+    jobs: &mut Jobs,
+    control: &mut Control,
+    results: &mut Results,
+    part: &[u8],
+    out: &mut [u8],
+) -> Fed
+    requires { ⌜ Standing run (arrays (run .count) (now labels) (now jobs) (now control) (now results)) (now order) ⌝ }
+    requires { ⌜ 928 ≤ length (now out) ⌝ }
+    ensures { λ r. ⌜ Feeds run (arrays (run .count) (now (labels .entry)) (now (jobs .entry)) (now (control .entry)) (now (results .entry))) last
+        (now (part .entry)) r (arrays (r .run .count) (now (labels .exit)) (now (jobs .exit)) (now (control .exit)) (now (results .exit)))
+        (now (out .entry)) (now (out .exit)) ⌝ }
+    ensures { λ r. ⌜ Standing (r .run) (arrays (r .run .count) (now (labels .exit)) (now (jobs .exit)) (now (control .exit)) (now (results .exit)))
+        (now (order .exit)) ⌝ }
+{
+    let refusal = run.refusal;
+    if refusal.number() != 0 {
+        return Fed {
+            run,
+            read: 0,
+            written: 0,
+            more: false,
+        };
+    }
+    let end = end_of(part.len(), last);
+    if run.lines != 0 {
+        let r = report_lines(
+            run.lines,
+            run.count,
+            order,
+            labels,
+            jobs,
+            control,
+            results,
+            &part[..end],
+            out,
+        );
+        return fed_by(run.count, 0, r, end);
+    }
+    if (part.len() < 18) & !last {
+        return Fed {
+            run,
+            read: 0,
+            written: 0,
+            more: false,
+        };
+    }
+    let header = schedule::line_at(part, 0);
+    match schedule::read_header(header) {
+        Header::Refused(refusal) => {
+            let written = print_refusal(1, refusal, out);
+            Fed {
+                run: Run {
+                    lines: 0,
+                    count: run.count,
+                    refusal,
+                },
+                read: header.len(),
+                written,
+                more: false,
+            }
+        }
+        Header::Stations(n) => {
+            refresh(n, order, labels, jobs, control, results);
+            let r = report_lines(
+                1,
+                n,
+                order,
+                labels,
+                jobs,
+                control,
+                results,
+                &part[18..end],
+                out,
+            );
+            fed_by(n, 18, r, end)
+        }
+    }
+}
+
 // Writes bytes to `out` from a place on, if they fit; hands back the place behind them.
 fn put(bytes: &[u8], out: &mut [u8], at: usize) -> usize
     requires { ⌜ at + length (now bytes) ≤ 1000000000 ⌝ }
@@ -223,97 +393,96 @@ fn put(bytes: &[u8], out: &mut [u8], at: usize) -> usize
     end
 }
 
-// Where the lines go on after a part: nowhere after a final refusal.
-fn next(at: usize, r: Progress, end: usize) -> usize
-    requires { ⌜ at + r .read ≤ end ⌝ }
-    ensures { λ k. ⌜ Follows at r end k ⌝ }
-{
-    let refusal = r.refusal;
-    if refusal.number() == 0 {
-        return at + r.read;
-    }
-    end
+// The final refusal of a file, and the length of its report.
+struct Ending {
+    refusal: Refusal,
+    length: usize,
 }
 
-// Serves all lines after an accepted header, from the fresh table of n stations, and hands back the final refusal, and how many bytes they print: these
-// are written if they fit.
-fn report_steps(n: usize, rest: &[u8], out: &mut [u8]) -> Reply
-    requires { ⌜ (2 ≤ n) × (n ≤ 32) ⌝ }
-    ensures { λ r. ⌜ ReportsAll (runLines lent (session 1 Accepted (freshTable lent n)) (cut (pieces (now (rest .entry))) (now (rest .entry))))
-        (now (rest .entry)) r (now (out .entry)) (now (out .exit)) ⌝ }
+// Runs a whole file, and hands back how it ends; its report is written if it fits.
+fn run_file(file: &[u8], out: &mut [u8]) -> Ending
+    ensures { λ r. ⌜ RunsFile (now (file .entry)) r (now (out .entry)) (now (out .exit)) ⌝ }
 {
+    let mut order = [0usize; 32];
     let mut labels = [[[0u8; 31]; 32]; 2];
     let mut jobs = [[0u32; 32]; 2];
     let mut control = [[0u8; 32]; 2];
     let mut results = [[[0u32; 32]; 2]; 32];
-    arrays::refresh(n, &mut labels, &mut jobs, &mut control, &mut results);
-    let mut order = rows::order::order(&labels[0], n);
+    let mut run = start(
+        &mut order,
+        &mut labels,
+        &mut jobs,
+        &mut control,
+        &mut results,
+    );
     let mut scratch = [0u8; 4096];
-    let mut count = 1;
-    let mut refusal = Refusal::Accepted;
-    let mut written = 0;
+    let mut length = 0;
     let mut at = 0;
-    while at < rest.len() {
-        let r = report_lines(
-            count,
-            n,
+    loop {
+        let fed = feed(
+            run,
+            true,
             &mut order,
             &mut labels,
             &mut jobs,
             &mut control,
             &mut results,
-            schedule::from(rest, at),
+            schedule::from(file, at),
             &mut scratch,
         );
-        let k = r.written;
-        written = put(&scratch[..k], out, written);
-        count = r.lines;
-        refusal = r.refusal;
-        at = next(at, r, rest.len());
+        let k = fed.written;
+        length = put(&scratch[..k], out, length);
+        let next = fed.run;
+        if !fed.more {
+            let refusal = next.refusal;
+            return Ending { refusal, length };
+        }
+        run = next;
+        at += fed.read;
     }
-    Reply { refusal, written }
 }
 
-// How many bytes the lines after an accepted header print, by a run that writes nothing; 0 where there is room for 928 bytes for each of them.
-fn report_size(n: usize, rest: &[u8], room: usize) -> usize
-    requires { ⌜ (2 ≤ n) × (n ≤ 32) ⌝ }
-    ensures { λ r. ⌜ Sizes (runLines lent (session 1 Accepted (freshTable lent n)) (cut (pieces (now (rest .entry))) (now (rest .entry))))
-        (now (rest .entry)) room r ⌝ }
+// What the call that reports a file tells: its own refusal, 7 if the report does not fit; the final refusal of the file; how many bytes were written, and how
+// long the report is.
+pub struct FileReply {
+    pub refusal: Refusal,
+    pub ended: Refusal,
+    pub written: usize,
+    pub length: usize,
+}
+
+// What is told of a report that is written.
+fn reported(whole: Ending) -> FileReply
+    ensures { λ r. ⌜ r ≡ record { refusal = Accepted; ended = whole .refusal; written = whole .length; length = whole .length } ⌝ }
 {
-    if rest.len() / 18 < room / ROOM {
-        return 0;
+    let ended = whole.refusal;
+    FileReply {
+        refusal: Refusal::Accepted,
+        ended,
+        written: whole.length,
+        length: whole.length,
+    }
+}
+
+// Writes the report of a whole file; 7, and nothing is written, if it does not fit. Where there is no room for 928 bytes for each line, a first run tells how
+// long the report is.
+pub fn report(file: &[u8], out: &mut [u8]) -> FileReply
+    ensures { λ r. ⌜ ReportsFile (now (file .entry)) (now (out .entry)) (refusalNumber (r .refusal)) (refusalNumber (r .ended)) (r .written) (r .length)
+        (now (out .exit)) ⌝ }
+{
+    if file.len() / 18 < out.len() / ROOM {
+        return reported(run_file(file, out));
     }
     let mut scratch = [0u8; 29];
-    let r = report_steps(n, rest, &mut scratch);
-    r.written
-}
-
-// Writes the report of a whole file, and answers its final refusal; 7, and nothing is written, if the report does not fit. Where the room may
-// not do, a first run tells how long the report is.
-pub fn report(file: &[u8], out: &mut [u8]) -> Reply
-    ensures { λ r. ⌜ ReportsFile (now (file .entry)) (now (out .entry)) (refusalNumber (r .refusal)) (r .written) (now (out .exit)) ⌝ }
-{
-    let header = schedule::line_at(file, 0);
-    match schedule::read_header(header) {
-        Header::Refused(refusal) => {
-            if out.len() < 29 {
-                return Reply {
-                    refusal: Refusal::NoRoom,
-                    written: 0,
-                };
-            }
-            let written = print_refusal(1, refusal, out);
-            Reply { refusal, written }
-        }
-        Header::Stations(n) => {
-            let rest = schedule::from(file, header.len());
-            if out.len() < report_size(n, rest, out.len()) {
-                return Reply {
-                    refusal: Refusal::NoRoom,
-                    written: 0,
-                };
-            }
-            report_steps(n, rest, out)
-        }
+    let first = run_file(file, &mut scratch);
+    if out.len() < first.length {
+        let ended = first.refusal;
+        return FileReply {
+            refusal: Refusal::NoRoom,
+            ended,
+            written: 0,
+            length: first.length,
+        };
     }
+    reported(run_file(file, out))
 }

@@ -24,7 +24,7 @@ use Rattle.arrays.specs.Arrays.{Rows, Planes, entriesIn}
 use Rattle.arrays.specs.Planes.{beside}
 use Rattle.engine.proofs.Reports.{result-length}
 use Rattle.schedule.proofs.Places.{callsFrom, StepAt, calls-step}
-use Rattle.unbounded.specs.Tables.{Table, table, restOf, stateOf, answered, Turns, Runnable}
+use Rattle.unbounded.specs.Tables.{Table, table, restᵘ, stateᵘ, answeredᵘ, Turnsᵘ, Runnableᵘ}
 use Rattle.unbounded.specs.declared.Turn.{Turn}
 use Rattle.logs.specs.Files.{answerBytes}
 use Rattle.logs.specs.Contracts.{writes, RunsCall, numbersLeft, pending, callsLeft, ahead, placed, Checking, workLeft, Drained, Feeds, Finishes}
@@ -76,7 +76,8 @@ take-behind k n l h g =
 
 -- A CALL
 
-module _ {t t′ : Table} {c : Call} {log : Lists.List ℕ} {used : ℕ} {r : Turn} (g : Turns t c log used t′ r) where
+module _ {t t′ : Table} {order order′ : Lists.List ℕ} {c : Call} {log : Lists.List ℕ} {used : ℕ} {r : Turn}
+    (g : Turnsᵘ t order c log used t′ order′ r) where
   -- its number does not fit
   pub run-unfit : (buffer : Lists.List ℕ) → {u v : ℕ} → r .fits ≡ false → RunsCall t c log used t′ buffer (record { fits = false; used = u; written = v })
   run-unfit buffer e = record {
@@ -87,17 +88,17 @@ module _ {t t′ : Table} {c : Call} {log : Lists.List ℕ} {used : ℕ} {r : Tu
   }
 
   -- it fits, and what is written is k bytes at the front of a buffer
-  pub run-fits : r .fits ≡ true → (k : ℕ) (buffer buffer′ : Lists.List ℕ) → k ≡ r .entries * 29
-      → buffer′ ≡ over (reportLines (c .line) 1 (entriesIn (r .entries) (getD (t′ .results) (r .place) []))) buffer
+  pub run-fits : r .fits ≡ true → (k : ℕ) (buffer buffer′ : Lists.List ℕ) → k ≡ r .handed .entries * 29
+      → buffer′ ≡ over (reportLines (c .line) 1 (entriesIn (r .handed .entries) (getD (t′ .results) (r .handed .place) []))) buffer
       → RunsCall t c log used t′ buffer′ (record { fits = true; used = r .used; written = k })
   run-fits e k buffer buffer′ w o =
-      let rows = getD (t′ .results) (r .place) [] in
-      let l = reportLines (c .line) 1 (entriesIn (r .entries) rows) in record {
+      let rows = getD (t′ .results) (r .handed .place) [] in
+      let l = reportLines (c .line) 1 (entriesIn (r .handed .entries) rows) in record {
         fits = sym e ∙ g .fits;
         state = λ _. g .served e .state;
-        numbers = λ _. (g .served e .counted, g .served e .inside);
+        numbers = λ _. (g .served e .counted, g .served e .enough);
         bytes = λ _. (
-          ap (take k) o ∙ take-at l (drop (length l) buffer) k (result-length (c .line) (r .entries) rows ∙ sym w) ∙ sym (g .served e .report),
+          ap (take k) o ∙ take-at l (drop (length l) buffer) k (result-length (c .line) (r .handed .entries) rows ∙ sym w) ∙ sym (g .served e .report),
           omega (arith, w, g .served e .few),
         );
       }
@@ -149,7 +150,7 @@ module _ {c₀ : Progress} {t₀ : Table} {file list buffer₀ part : Lists.List
   due = pending c buffer
 
   abbrev behind : Lists.List ℕ → Bool
-  behind report = right original (t .count) (stateOf t) (numbersLeft c list) report (callsLeft c file)
+  behind report = right original (t .count) (stateᵘ t) (numbersLeft c list) report (callsLeft c file)
 
   due-length : length due ≡ c .written - c .shown
   due-length = simp (length-take, length-drop) (omega (arith, g .bytes, g .room))
@@ -245,7 +246,7 @@ module _ {c₀ : Progress} {t₀ : Table} {file list buffer₀ part : Lists.List
             }
         go false d =
             let some : read < length part = omega (arith, f .within, eqb-false read (length part) d) in
-            wrong refl (λ more. steps-only more ∙ ap (right original (t .count) (stateOf t) (numbersLeft c list) (rest ++ more)) e
+            wrong refl (λ more. steps-only more ∙ ap (right original (t .count) (stateᵘ t) (numbersLeft c list) (rest ++ more)) e
             ∙ ap (λ b. eqb (length (numbersLeft c list)) 0 && b)
             (ne-eqb (length (rest ++ more)) 0 (λ z. omega (arith, length-append rest more, length-drop read part, z)))
             ∙ and-false (eqb (length (numbersLeft c list)) 0))
@@ -257,7 +258,7 @@ module _ {c₀ : Progress} {t₀ : Table} {file list buffer₀ part : Lists.List
       call = callOf q (Buffer 928)
 
       abbrev fits : Bool
-      fits = fitsNext (t .count) (beside (t .numbers)) (labelStep (judge false (t .count) (restOf t) call)) (numbersLeft c list)
+      fits = fitsNext (t .count) (beside (t .numbers)) (labelStep (judge false (t .count) (restᵘ t) call)) (numbersLeft c list)
 
       abbrev bytes : Lists.List ℕ
       bytes = writes t call (numbersLeft c list)
@@ -268,10 +269,10 @@ module _ {c₀ : Progress} {t₀ : Table} {file list buffer₀ part : Lists.List
       -- the test of the steps left begins with this one
       step-first : (report : Lists.List ℕ) → behind report
           ≡ (fits && (atFront bytes report
-          && right original (t .count) (answered t call (numbersLeft c list) .state) (drop (snapsOf original (t .count) (stateOf t) call) (numbersLeft c list))
+          && right original (t .count) (answeredᵘ t call (numbersLeft c list) .state) (drop (snapsOf original (t .count) (stateᵘ t) call) (numbersLeft c list))
           (drop (length bytes) report) calls))
       unfolding right
-      step-first report = ap (right original (t .count) (stateOf t) (numbersLeft c list) report) (calls-step (c .lines) file (c .at) (g .place .0) s .0)
+      step-first report = ap (right original (t .count) (stateᵘ t) (numbersLeft c list) report) (calls-step (c .lines) file (c .at) (g .place .0) s .0)
 
       pub sofar-unfit : {c′ : Progress} → c′ .right ≡ false → r .fits ≡ false → {t′ : Table} {buffer′ : Lists.List ℕ}
           → Feeds c₀ t₀ file list buffer₀ part c′ t′ buffer′
@@ -289,7 +290,7 @@ module _ {c₀ : Progress} {t₀ : Table} {file list buffer₀ part : Lists.List
           within = f .within;
           going = refl;
           same = λ more.
-              let ns = drop-drop (snapsOf original (t .count) (stateOf t) call) (c .used) (take (c .count) list)
+              let ns = drop-drop (snapsOf original (t .count) (stateᵘ t) call) (c .used) (take (c .count) list)
               ∙ ap (λ i. drop i (take (c .count) list)) (sym (u .numbers d .0)) in
               from-here more ∙ steps-only more ∙ step-first (rest ++ more) ∙ rw (sym (u .fits) ∙ d) refl
               ∙ (λ i. atFront (sym written i) (rest ++ more)
@@ -297,7 +298,7 @@ module _ {c₀ : Progress} {t₀ : Table} {file list buffer₀ part : Lists.List
           less = omega (arith, f .less, u .bytes d .1, s .within);
         }
 
-        pub step-checking : {order′ : Lists.List ℕ} → Runnable t′ order′ → length buffer′ ≡ 928 → Checking then t′ order′ file list buffer′
+        pub step-checking : {order′ : Lists.List ℕ} → Runnableᵘ t′ order′ → length buffer′ ≡ 928 → Checking then t′ order′ file list buffer′
         step-checking o l = record {
           runnable = o;
           numbers = (omega (arith, u .numbers d .1, length-take (c .count) list), g .numbers .1);
@@ -323,7 +324,7 @@ finished c = record { told = told }
     told t order file list buffer g h = go (eqb (c .shown) (c .written)) (c .right) refl refl
       where
         test : Lists.List ℕ → Lists.List Call → Bool
-        test report calls = right original (t .count) (stateOf t) (numbersLeft c list) report calls
+        test report calls = right original (t .count) (stateᵘ t) (numbersLeft c list) report calls
 
         go : (a b : Bool) → eqb (c .shown) (c .written) ≡ a → c .right ≡ b
             → ((b && eqb (c .used) (c .count)) && a) ≡ (b && (atFront (pending c buffer) [] && test (drop (length (pending c buffer)) []) (callsLeft c file)))

@@ -31,7 +31,7 @@ use Rattle.schedule.specs.declared.Header.{Header}
 use Rattle.schedule.specs.declared.Header.the-variants as Headers
 use Rattle.schedule.specs.declared.Header.the-variants.{Stations}
 use Rattle.arrays.specs.Arrays.{Rows, Planes}
-use Rattle.unbounded.specs.Tables.{Table, stateOf, Runnable}
+use Rattle.unbounded.specs.Tables.{Table, stateᵘ, Runnableᵘ}
 use Rattle.logs.specs.Files.{ChecksLog, RightFile}
 use Rattle.logs.specs.Contracts.{ahead, Checking, Drained, Feeds, Finishes, Starts, Begins, BeginsFile}
 use Rattle.logs.specs.declared.Begun.{Begun}
@@ -66,7 +66,7 @@ module _ (bs : Lists.List ℕ) {l : Lists.List ℕ} (p : l ≡ take 18 bs) {n : 
     abbrev ns : Lists.List ℕ
     ns = take count list
 
-    pub lines-begun : {t : Table} {order : Lists.List ℕ} (buffer : Lists.List ℕ) → t .count ≡ n → stateOf t ≡ fresh 0 → Runnable t order → count ≤ length list → length l ≤ length bs → length buffer ≡ 928
+    pub lines-begun : {t : Table} {order : Lists.List ℕ} (buffer : Lists.List ℕ) → t .count ≡ n → stateᵘ t ≡ fresh 0 → Runnableᵘ t order → count ≤ length list → length l ≤ length bs → length buffer ≡ 928
         → Starts bs (λ report. (whole ≡ true) × RightLog bs ns report) begun t order list buffer
     unfolding atFront
     lines-begun {t} {order} buffer c h o k m b = record {

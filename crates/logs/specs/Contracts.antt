@@ -17,7 +17,7 @@ use Rattle.schedule.specs.Files.{linesOf}
 use Rattle.schedule.specs.Demand.{stepCalls}
 use Rattle.schedule.specs.Numbers.{readingRefusal}
 use Rattle.schedule.specs.Logs.{RightLog}
-use Rattle.unbounded.specs.Tables.{Table, table, restOf, stateOf, answered, Runnable}
+use Rattle.unbounded.specs.Tables.{Table, table, restᵘ, stateᵘ, answeredᵘ, Runnableᵘ}
 use Rattle.logs.specs.Files.{RightFile}
 use Rattle.logs.specs.declared.Ran.{Ran}
 use Rattle.logs.specs.declared.Progress.{Progress}
@@ -26,14 +26,14 @@ use Rattle.logs.specs.declared.Begun.the-variants.{Refused, Running}
 
 -- what the unbounded table writes for a call with the first of the numbers left
 abbrev pub writes : Table → Call → Lists.List ℕ → Lists.List ℕ
-writes t c ns = bytesOf (answered t c ns .report)
+writes t c ns = bytesOf (answeredᵘ t c ns .report)
 
 -- the call c, where the first `used` numbers are used up: whether the next number fits it. If it does, the table left holds the state that the machine comes
 -- to, it is told how many numbers are used up, and what the call writes is at the front of the buffer.
 pub record RunsCall (t : Table) (c : Call) (log : Lists.List ℕ) (used : ℕ) (t′ : Table) (buffer : Lists.List ℕ) (r : Ran) : Type 0 where
-  pub fits : r .fits ≡ fitsNext (t .count) (beside (t .numbers)) (labelStep (judge false (t .count) (restOf t) c)) (drop used log)
-  pub state : r .fits ≡ true → stateOf t′ ≡ answered t c (drop used log) .state
-  pub numbers : r .fits ≡ true → (r .used ≡ used + snapsOf original (t .count) (stateOf t) c) × (r .used ≤ length log)
+  pub fits : r .fits ≡ fitsNext (t .count) (beside (t .numbers)) (labelStep (judge false (t .count) (restᵘ t) c)) (drop used log)
+  pub state : r .fits ≡ true → stateᵘ t′ ≡ answeredᵘ t c (drop used log) .state
+  pub numbers : r .fits ≡ true → (r .used ≡ used + snapsOf original (t .count) (stateᵘ t) c) × (r .used ≤ length log)
   pub bytes : r .fits ≡ true → (take (r .written) buffer ≡ writes t c (drop used log)) × (r .written ≤ 928)
 
 -- A CHECK that goes on: the numbers left of its list, the bytes that the last step wrote and that the report is still to show, and the steps left of the
@@ -51,7 +51,7 @@ callsLeft c file = stepCalls (c .lines) (linesOf (drop (c .at) file))
 abbrev pub ahead : Progress → Table → Lists.List ℕ → Lists.List ℕ → Lists.List ℕ → Lists.List ℕ → Bool
 ahead c t file list buffer report =
     c .right && (atFront (pending c buffer) report
-    && right original (t .count) (stateOf t) (numbersLeft c list) (drop (length (pending c buffer)) report) (callsLeft c file))
+    && right original (t .count) (stateᵘ t) (numbersLeft c list) (drop (length (pending c buffer)) report) (callsLeft c file))
 
 -- the same check at another place
 abbrev pub placed : Progress → Bool → ℕ → ℕ → ℕ → ℕ → ℕ → Progress
@@ -68,7 +68,7 @@ placed c right used lines at written shown = record {
 
 -- the table and the places of a check
 pub record Checking (c : Progress) (t : Table) (order file list buffer : Lists.List ℕ) : Type 0 where
-  pub runnable : Runnable t order
+  pub runnable : Runnableᵘ t order
   pub numbers : (c .used ≤ c .count) × (c .count ≤ length list)
   pub place : (c .at ≤ length file) × (c .lines ≤ 1000001)
   pub bytes : (c .shown ≤ c .written) × (c .written ≤ 928)

@@ -10,7 +10,7 @@ ghost use Rattle.transition.specs.Forms.{over};
 ghost use Rattle.transition.specs.Logs.{atFront};
 ghost use Rattle.moves.specs.Moves.{refusalNumber, callOf};
 ghost use Rattle.schedule.specs.Files.{printed};
-ghost use Rattle.unbounded.specs.Tables.{table, Runnable};
+ghost use Rattle.unbounded.specs.Tables.{table, Runnableᵘ};
 ghost use Rattle.logs.specs.Contracts.{RunsCall, placed, Checking, Feeds, Finishes, Begins, BeginsFile};
 ghost use Rattle.logs.specs.Files.{ChecksLog, answerBytes};
 use arrays::Control;
@@ -63,13 +63,13 @@ fn run_line(
     results: &mut Results,
     lines: &mut [u8],
 ) -> Ran
-    requires { ⌜ Runnable (table n (now numbers) (now jobs) (now control) (now results)) (now order) ⌝ }
+    requires { ⌜ Runnableᵘ (table n (now numbers) (now jobs) (now control) (now results)) (now order) ⌝ }
     requires { ⌜ used ≤ length (now log) ⌝ }
     requires { ⌜ length (now lines) ≡ 928 ⌝ }
     ensures { λ r. ⌜ RunsCall (table n (now (numbers .entry)) (now (jobs .entry)) (now (control .entry)) (now (results .entry)))
         (callOf request (Buffer 928)) (now (log .entry)) used
         (table n (now (numbers .exit)) (now (jobs .exit)) (now (control .exit)) (now (results .exit))) (now (lines .exit)) r ⌝ }
-    ensures { λ _. ⌜ Runnable (table n (now (numbers .exit)) (now (jobs .exit)) (now (control .exit)) (now (results .exit))) (now (order .exit)) ⌝ }
+    ensures { λ _. ⌜ Runnableᵘ (table n (now (numbers .exit)) (now (jobs .exit)) (now (control .exit)) (now (results .exit))) (now (order .exit)) ⌝ }
 {
     let t = unbounded::take_turn(
         n,
@@ -89,8 +89,9 @@ fn run_line(
             written: 0,
         };
     }
-    let place = t.place;
-    let written = engine::write_result(&results[place], t.entries, request.line, lines);
+    let handed = t.handed;
+    let place = handed.place;
+    let written = engine::write_result(&results[place], handed.entries, request.line, lines);
     Ran {
         fits: true,
         used: t.used,

@@ -5,12 +5,13 @@ use mathlib.Core.Path.{_≡_, refl, sym, ap, subst, _∙_}
 use mathlib.Core.Logic.{_≢_}
 use mathlib.Core.Bool.{Bool, true, false, not, cond}
 use mathlib.Core.List.{List}
-use lib.Dec.{T}
+use lib.Dec.{T, eqb}
+use borrow.Author.Tests.{eq-eqb, eqb-true, not-false}
 use mir.Val.{hasKey}
 use types.Run.{OneOf, miss}
 use denote.Enum.Declared.{tagOf}
 use Rattle.basics.specs.Tests.{within}
-use Rattle.basics.proofs.Facts.{within-true}
+use Rattle.basics.proofs.Facts.{tf, within-true}
 use Rattle.simulation.specs.Calls as Calls
 use Rattle.simulation.specs.Calls.{Call, judgeIn}
 use Rattle.simulation.specs.Machine.{stay, labelStep}
@@ -81,3 +82,10 @@ accepted Refusals.OutOfService e = absurd (omega arith)
 accepted Refusals.InService e = absurd (omega arith)
 accepted Refusals.TooManySteps e = absurd (omega arith)
 accepted Refusals.ListTooShort e = absurd (omega arith)
+
+-- WHETHER A REFUSAL IS ONE, as the code tells
+pub refuses-yes : (r : Refusal) {b : Bool} → b ≡ not (eqb (refusalNumber r) 0) → b ≡ true → refusalNumber r ≢ 0
+refuses-yes r p e z = tf (sym p ∙ e) (ap not (eq-eqb (refusalNumber r) 0 z))
+
+pub refuses-no : (r : Refusal) {b : Bool} → b ≡ not (eqb (refusalNumber r) 0) → b ≡ false → refusalNumber r ≡ 0
+refuses-no r p e = eqb-true (refusalNumber r) 0 (not-false (eqb (refusalNumber r) 0) (sym p ∙ e))

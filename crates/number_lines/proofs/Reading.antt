@@ -15,26 +15,26 @@ use Rattle.columns.specs.Reading.{columnRead}
 use Rattle.columns.specs.declared.Column.{Column}
 use Rattle.columns.specs.declared.Column.the-variants.{Value, Bad}
 use Rattle.columns.proofs.ColumnLaws.{length-column, bad-value, column-iff}
-use Rattle.number_lines.specs.Lines.{numberLine, numberLines, NumberLine, NumberLines, lineRead, linesRead, NumbersRead}
+use Rattle.number_lines.specs.Lines.{numberLine, numberLines, NumberLine, NumberLines, numberRead, linesRead, NumbersRead}
 use Rattle.number_lines.proofs.Printing.{length-number, length-numbers}
 
 -- ONE LINE
 
 -- bytes that do not reach to a line's end, or do not end it
-pub line-short : (bs : List ℕ) → length bs < 12 → lineRead bs ≡ Bad
-unfolding lineRead
+pub line-short : (bs : List ℕ) → length bs < 12 → numberRead bs ≡ Bad
+unfolding numberRead
 line-short bs h = rw (List·getD-eq-default bs 0 {n = 11} (omega arith)) refl
 
-pub line-no-end : (bs : List ℕ) → (getD bs 11 0 ≡ 10 → ⊥) → lineRead bs ≡ Bad
-unfolding lineRead
+pub line-no-end : (bs : List ℕ) → (getD bs 11 0 ≡ 10 → ⊥) → numberRead bs ≡ Bad
+unfolding numberRead
 line-no-end bs d = rw (ne-eqb (getD bs 11 0) 10 d) refl
 
-pub line-end : (bs : List ℕ) → getD bs 11 0 ≡ 10 → lineRead bs ≡ columnRead (take 11 bs)
-unfolding lineRead
+pub line-end : (bs : List ℕ) → getD bs 11 0 ≡ 10 → numberRead bs ≡ columnRead (take 11 bs)
+unfolding numberRead
 line-end bs e = rw (eq-eqb (getD bs 11 0) 10 e) refl
 
 -- what is read is a whole line
-pub line-long : (bs : List ℕ) (v : ℕ) → lineRead bs ≡ Value v → 12 ≤ length bs
+pub line-long : (bs : List ℕ) (v : ℕ) → numberRead bs ≡ Value v → 12 ≤ length bs
 line-long bs v e = go (ltb (length bs) 12) refl
   where
     go : (b : Bool) → ltb (length bs) 12 ≡ b → 12 ≤ length bs
@@ -43,8 +43,8 @@ line-long bs v e = go (ltb (length bs) 12) refl
 
 -- a number is read exactly where its line stands at the front
 module _ (bs : List ℕ) (v : ℕ) where
-  read-line : lineRead bs ≡ Value v → NumberLine (take 12 bs) v
-  unfolding lineRead numberLine
+  read-line : numberRead bs ≡ Value v → NumberLine (take 12 bs) v
+  unfolding numberRead numberLine
   read-line e = go (eqb (getD bs 11 0) 10) refl e
     where
       long : 12 ≤ length bs
@@ -60,7 +60,7 @@ module _ (bs : List ℕ) (v : ℕ) where
       }
       go false t k = absurd (bad-value k)
 
-  line-read : NumberLine (take 12 bs) v → lineRead bs ≡ Value v
+  line-read : NumberLine (take 12 bs) v → numberRead bs ≡ Value v
   unfolding numberLine
   line-read f = line-end bs ends ∙ column-iff (take 11 bs) v (omega (arith, wide)) .1 (rw wide (front, f .fits))
     where
@@ -73,7 +73,7 @@ module _ (bs : List ℕ) (v : ℕ) where
       wide : length (take 11 bs) ≡ 11
       wide = ap length front ∙ length-column 11 v
 
-  pub line-iff : (lineRead bs ≡ Value v) ↔ NumberLine (take 12 bs) v
+  pub line-iff : (numberRead bs ≡ Value v) ↔ NumberLine (take 12 bs) v
   line-iff = (read-line, line-read)
 
 -- SEVERAL LINES
@@ -81,12 +81,12 @@ pub lines-none : (bs : List ℕ) → linesRead 0 bs ≡ []
 unfolding linesRead
 lines-none bs = refl
 
-pub lines-bad : (k : ℕ) (bs : List ℕ) → lineRead bs ≡ Bad → linesRead k bs ≡ []
+pub lines-bad : (k : ℕ) (bs : List ℕ) → numberRead bs ≡ Bad → linesRead k bs ≡ []
 unfolding linesRead
 lines-bad zero bs e = refl
 lines-bad (suc k) bs e = ap (λ (r : Column). elim r [ Value v ↦ v ∷ linesRead k (drop 12 bs) | Bad ↦ [] ]) e
 
-pub lines-more : (k : ℕ) (bs : List ℕ) (v : ℕ) → lineRead bs ≡ Value v → linesRead (suc k) bs ≡ v ∷ linesRead k (drop 12 bs)
+pub lines-more : (k : ℕ) (bs : List ℕ) (v : ℕ) → numberRead bs ≡ Value v → linesRead (suc k) bs ≡ v ∷ linesRead k (drop 12 bs)
 unfolding linesRead
 lines-more k bs v e = ap (λ (r : Column). elim r [ Value v ↦ v ∷ linesRead k (drop 12 bs) | Bad ↦ [] ]) e
 
@@ -111,11 +111,11 @@ read-start bs list = record {
 
 module _ {bs list₀ list : List ℕ} {count at : ℕ} (f : ReadSoFar bs list₀ list count at) where
   -- the line that is read lies within the bytes
-  pub read-within : (v : ℕ) → lineRead (drop at bs) ≡ Value v → at + 12 ≤ length bs
+  pub read-within : (v : ℕ) → numberRead (drop at bs) ≡ Value v → at + 12 ≤ length bs
   read-within v e = omega (arith, line-long (drop at bs) v e, length-drop at bs, f .within)
 
   -- one line more
-  pub read-more : (v : ℕ) → count < length list₀ → lineRead (drop at bs) ≡ Value v → ReadSoFar bs list₀ (set list count v) (count + 1) (at + 12)
+  pub read-more : (v : ℕ) → count < length list₀ → numberRead (drop at bs) ≡ Value v → ReadSoFar bs list₀ (set list count v) (count + 1) (at + 12)
   read-more v h e = record {
     size = length-set list count v ∙ f .size;
     room = omega arith;
@@ -154,7 +154,7 @@ module _ {bs list₀ list : List ℕ} {count at : ℕ} (f : ReadSoFar bs list₀
   pub read-full : length list₀ ≤ count → NumbersRead bs list₀ (eqb at (length bs)) count list
   read-full h = read-end (let none : length list₀ - count ≡ 0 = omega arith in ap (λ k. linesRead k (drop at bs)) none ∙ lines-none (drop at bs))
 
-  pub read-bad : lineRead (drop at bs) ≡ Bad → NumbersRead bs list₀ (eqb at (length bs)) count list
+  pub read-bad : numberRead (drop at bs) ≡ Bad → NumbersRead bs list₀ (eqb at (length bs)) count list
   read-bad e = read-end (lines-bad (length list₀ - count) (drop at bs) e)
 
 -- WHAT READING SAYS OF THE BYTES
@@ -171,9 +171,9 @@ fit-first v ns h f (suc i) = f i
 lines-front : (k : ℕ) (bs : List ℕ) → NumberLines (take (length (linesRead k bs) * 12) bs) (linesRead k bs)
 unfolding numberLines
 lines-front zero bs = rw (lines-none bs) (record { lines = refl; fit = none-fit })
-lines-front (suc k) bs = go (lines-front k (drop 12 bs)) (lineRead bs) refl
+lines-front (suc k) bs = go (lines-front k (drop 12 bs)) (numberRead bs) refl
   where
-    go : NumberLines (take (length (linesRead k (drop 12 bs)) * 12) (drop 12 bs)) (linesRead k (drop 12 bs)) → (r : Column) → lineRead bs ≡ r
+    go : NumberLines (take (length (linesRead k (drop 12 bs)) * 12) (drop 12 bs)) (linesRead k (drop 12 bs)) → (r : Column) → numberRead bs ≡ r
         → NumberLines (take (length (linesRead (suc k) bs) * 12) bs) (linesRead (suc k) bs)
     go later Bad e = rw (lines-bad (suc k) bs e) (record { lines = refl; fit = none-fit })
     go later (Value v) e =

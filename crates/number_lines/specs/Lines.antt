@@ -29,13 +29,13 @@ pub record NumberLines (bs ns : List ℕ) : Type 0 where
 
 -- READING THEM BACK: the number on the line at the front of some bytes; `Bad` where they do not begin with the line of a number
 -- (proofs/Reading.antt: `line-iff`)
-unfoldable pub lineRead : List ℕ → Column
-lineRead bs = cond (eqb (getD bs 11 0) 10) (columnRead (take 11 bs)) Bad
+unfoldable pub numberRead : List ℕ → Column
+numberRead bs = cond (eqb (getD bs 11 0) 10) (columnRead (take 11 bs)) Bad
 
 -- the numbers of the lines at the front of some bytes, up to the first that is the line of no number, and no more than k
 unfoldable pub linesRead : ℕ → List ℕ → List ℕ
 linesRead zero bs = []
-linesRead (suc k) bs = elim (lineRead bs) [ Value v ↦ v ∷ linesRead k (drop 12 bs) | Bad ↦ [] ]
+linesRead (suc k) bs = elim (numberRead bs) [ Value v ↦ v ∷ linesRead k (drop 12 bs) | Bad ↦ [] ]
 
 -- what is handed back for bytes and a lent list: as many numbers are read as it has room for, and stand at its front. The bytes are whole if the lines of these
 -- numbers are all of them (proofs/Reading.antt: `read-whole`, `read-back`).

@@ -3,7 +3,7 @@ ghost use mathlib.Core.Path.{_≡_};
 ghost use mathlib.Core.List.{_++_};
 ghost use Prim.Native.Nat.{_*_, _≤_};
 ghost use lib.ListN.{length, drop};
-ghost use Rattle.number_lines.specs.Lines.{numberLine, numberLines, lineRead, NumbersRead};
+ghost use Rattle.number_lines.specs.Lines.{numberLine, numberLines, numberRead, NumbersRead};
 use columns::Column;
 
 // Fills the 12 bytes of a line with a number.
@@ -38,7 +38,7 @@ pub struct Read {
 
 // Reads the line at the front of some bytes: a number in 11 columns, and byte 10.
 fn read_number(bytes: &[u8]) -> Column
-    ensures { λ r. ⌜ r ≡ lineRead (now (bytes .entry)) ⌝ }
+    ensures { λ r. ⌜ r ≡ numberRead (now (bytes .entry)) ⌝ }
 {
     if bytes.len() < 12 {
         return Column::Bad;

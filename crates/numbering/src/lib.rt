@@ -285,7 +285,7 @@ fn refusal_of(s: Survey, entries: usize) -> Refusal
     ensures { λ r. ⌜ r ≡ refusedBy (s .refusal) (s .steps) (s .snaps) entries ⌝ }
 {
     let refusal = schedule::refusal_of(s);
-    if refusal.number() != 0 {
+    if refusal.refuses() {
         return refusal;
     }
     if entries < s.snaps as usize {
@@ -309,7 +309,7 @@ pub fn numbers(file: &[u8], list: &mut [u32]) -> Reply
             let rest = schedule::from(file, header.len());
             let survey = schedule::survey_lines(1, rest);
             let refusal = refusal_of(survey, list.len());
-            if refusal.number() != 0 {
+            if refusal.refuses() {
                 return Reply {
                     refusal,
                     written: 0,

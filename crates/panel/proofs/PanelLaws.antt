@@ -5,23 +5,24 @@ use native.Mathlib.Omega.{arith}
 use native.Mathlib.Numerals.{add-one}
 use mathlib.Core.Path.{_≡_, refl, sym, ap, ap₂, subst, _∙_}
 use mathlib.Core.List.{List, [], _∷_, _++_, map, map-append}
-use lib.ListN.{length, getD, set, take, drop, length-map}
+use lib.ListN.{length, getD, set, take, drop}
+use borrow.Author.Tests.{leb-true}
 use borrow.Table.Elements.{same-len}
 use Rattle.basics.specs.Tests.{tabulate}
 use Rattle.basics.proofs.Facts.{map-drop, length-tabulate, tabulate-same, map-tabulate}
 use Rattle.basics.proofs.Filled.{front-more}
-use Rattle.simulation.specs.Calls.{Panel, panelRecords, Records}
-use Rattle.transition.specs.Forms.{over}
+use Rattle.simulation.specs.Calls.{Call, Panel, panelRecords, Report, Records, size}
+use Rattle.transition.specs.Forms.{over, onto}
 use Rattle.transition.specs.Sequences.{Steps}
 use Rattle.moves.specs.Moves.{refusalNumber, called}
-use Rattle.simulation.proofs.Reports.{records-tabulate}
+use Rattle.simulation.proofs.Reports.{records-tabulate, records-length}
 use Rattle.table.specs.Tables.{blank, declared}
 use Rattle.table.specs.declared.Entry.{Entry}
 use Rattle.table.specs.declared.Table.{Table}
 use Rattle.step.specs.declared.Unfilled.{Unfilled}
-use Rattle.step.specs.Contracts.{firstEntries, HandsEntries}
+use Rattle.step.specs.Contracts.{firstEntries, reportOf, HandsEntries}
 use Rattle.panel.specs.declared.Record.{Record}
-use Rattle.panel.specs.Panels.{recordAt, filled, recordOf, panelOf, Shows}
+use Rattle.panel.specs.Panels.{recordAt, filled, panelRecord, panelOf, Shows}
 
 module _ {A : Type 0} (f : ℕ → A) where
   length-front : (n h : ℕ) (ys : List A) → n ≤ length ys → length (tabulate n h f ++ drop n ys) ≡ length ys
@@ -42,24 +43,33 @@ filled-none es ys = refl
 
 -- the panel filled from the entries of a call holds the records of the entries that it hands out
 filled-records : (es : List Entry) (n : ℕ) (ys : List Record)
-    → over (panelRecords 1 (firstEntries n es)) (map recordOf ys) ≡ map recordOf (filled es n ys)
-filled-records es n ys = ap (λ l. over l (map recordOf ys)) (records-tabulate n 0 _)
-    ∙ ap₂ _++_ first (ap (λ k. drop k (map recordOf ys)) (length-tabulate n 0 _) ∙ sym (map-drop recordOf n ys))
-    ∙ sym (map-append recordOf (tabulate n 0 (recordAt es)) (drop n ys))
+    → over (panelRecords 1 (firstEntries n es)) (map panelRecord ys) ≡ map panelRecord (filled es n ys)
+filled-records es n ys = ap (λ l. over l (map panelRecord ys)) (records-tabulate n 0 _)
+    ∙ ap₂ _++_ first (ap (λ k. drop k (map panelRecord ys)) (length-tabulate n 0 _) ∙ sym (map-drop panelRecord n ys))
+    ∙ sym (map-append panelRecord (tabulate n 0 (recordAt es)) (drop n ys))
   where
     first : tabulate n 0 (λ p. let e = getD es p blank in record { place = suc p; station = e .station; job = e .job })
-        ≡ map recordOf (tabulate n 0 (recordAt es))
+        ≡ map panelRecord (tabulate n 0 (recordAt es))
     first = tabulate-same n 0 _ _ (λ p _. ap (λ i. record { place = i; station = getD es p blank .station; job = getD es p blank .job }) (sym (add-one p)))
-        ∙ sym (map-tabulate recordOf n 0 (recordAt es))
+        ∙ sym (map-tabulate panelRecord n 0 (recordAt es))
 
-pub shown : {t : Table} {code station job : ℕ} (ys : List Record) {zs : List Record} (r : Unfilled) → HandsEntries t code station job (length ys) r
-    → zs ≡ filled (r .entries) (r .outcome .reply .written) ys → Shows t code station job ys (r .outcome .table) (r .outcome .reply) zs
-shown {t} {code} {station} {job} ys {zs} r l e =
-    let o = r .outcome in
-    let f : Records (over (panelRecords 1 (firstEntries (o .reply .written) (r .entries))) (map recordOf ys)) ≡ panelOf zs
-    = ap Records (filled-records (r .entries) (o .reply .written) ys ∙ ap (map recordOf) (sym e)) in
-    subst (Steps declared t (called 0 code station job (Panel (length ys))) (panelOf ys) (o .table) (refusalNumber (o .reply .refusal)) (o .reply .written)) f
-    (l .steps (map recordOf ys) (length-map ys recordOf))
+module _ {t : Table} {code station job : ℕ} (ys : List Record) {r : Unfilled} (l : HandsEntries t (called 0 code station job (Panel (length ys))) r) where
+  abbrev c : Call
+  c = called 0 code station job (Panel (length ys))
+
+  abbrev k : ℕ
+  k = r .outcome .reply .written
+
+  pub records-fit : k ≤ length ys
+  records-fit = leb-true k (length ys) (l .room)
+
+  pub shown : {zs : List Record} → zs ≡ filled (r .entries) k ys → Shows t code station job ys (r .outcome .table) (r .outcome .reply) zs
+  shown {zs} e =
+      let o = r .outcome in
+      let long : size (reportOf c r) ≡ k = records-length 1 (firstEntries k (r .entries)) ∙ length-tabulate k 0 _ in
+      let left : onto (reportOf c r) (panelOf ys) ≡ panelOf zs = ap Records (filled-records (r .entries) k ys ∙ ap (map panelRecord) (sym e)) in
+      subst (λ (x : ℕ × Report). Steps declared t c (panelOf ys) (o .table) (refusalNumber (o .reply .refusal)) (x .0) (x .1))
+      (λ i. (long i, left i)) (l .steps (panelOf ys))
 
 -- ---- the first k records of an owner, and the others
 module _ {A : Type 0} where

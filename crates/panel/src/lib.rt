@@ -16,7 +16,7 @@ pub struct Record {
 }
 
 // The record of entry i.
-fn record_at(entries: [Entry; 32], i: usize) -> Record
+fn record_at(entries: [Entry; Table::MAX_STATIONS], i: usize) -> Record
     requires { ⌜ i < 32 ⌝ }
     ensures { λ r. ⌜ r ≡ recordAt entries i ⌝ }
 {
@@ -29,7 +29,7 @@ fn record_at(entries: [Entry; 32], i: usize) -> Record
 }
 
 // Fills the first n records; the others stay.
-fn fill(panel: &mut [Record], entries: [Entry; 32], n: usize)
+fn fill(panel: &mut [Record], entries: [Entry; Table::MAX_STATIONS], n: usize)
     requires { ⌜ (n ≤ 32) × (n ≤ length (now panel)) ⌝ }
     ensures { λ _. ⌜ now (panel .exit) ≡ filled entries n (now (panel .entry)) ⌝ }
 {
@@ -63,14 +63,18 @@ pub fn step_lent(t: &mut Table, code: u64, station: u64, job: u64, panel: &mut [
 pub struct Shown {
     pub table: Table,
     pub reply: Reply,
-    pub panel: [Record; 32],
+    pub panel: [Record; Table::MAX_STATIONS],
 }
 
 // More than 32 counts as 32.
 fn at_most_32(n: usize) -> usize
     ensures { λ r. ⌜ r ≡ min n 32 ⌝ }
 {
-    if n < 32 { n } else { 32 }
+    if n < Table::MAX_STATIONS {
+        n
+    } else {
+        Table::MAX_STATIONS
+    }
 }
 
 // The owner of a table and of 32 records lends the table and the first `lent` records, and hands all back: whoever calls this has no reference to either. The
@@ -80,7 +84,7 @@ pub fn step_owned(
     code: u64,
     station: u64,
     job: u64,
-    panel: [Record; 32],
+    panel: [Record; Table::MAX_STATIONS],
     lent: usize,
 ) -> Shown
     ensures { λ r. ⌜ Shows t code station job (take lent panel) (r .table) (r .reply) (take lent (r .panel)) × (drop lent (r .panel) ≡ drop lent panel) ⌝ }

@@ -17,7 +17,7 @@ use Rattle.basics.proofs.Facts.{First, first, all-at, each-all, ordered-all, or
 use Rattle.basics.proofs.Passing.{without, without-all}
 use Rattle.label.proofs.RowLaws.{ringless}
 use Rattle.label.proofs.Total.{Total, total, newest-only, one-way, other-way, Sorted, ordered-sorted, without-sorted, without-at, without-alike, put-back}
-use Rattle.rows.specs.Held.{held, standsIn, Orderly, OrderedBefore, leftOut, takenOut, placeIn}
+use Rattle.rows.specs.Held.{held, standsIn, Orderly, OrderedBefore, leftOut, takenOut, placeAmong}
 
 -- LISTS
 
@@ -235,7 +235,7 @@ module _ {w n k : ℕ} {b : ℕ → ℕ → Bool} {l : List ℕ} (d : Displaced 
 
   -- its place there
   abbrev p : ℕ
-  p = placeIn n l k
+  p = placeAmong n l k
 
   place : First n 0 (λ q. eqb (getD l q 0) k) p
   place = first n 0 (λ q. eqb (getD l q 0) k)

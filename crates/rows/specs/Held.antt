@@ -33,8 +33,8 @@ pub record OrderedBefore (n : ℕ) (rows : List (List ℕ)) (k : ℕ) (order : L
   pub listed : order ≡ ordered n (standsIn n old) ++ replicate (32 - n) 0
 
 -- the first of n places of a list that holds k; n if none does
-abbrev pub placeIn : ℕ → List ℕ → ℕ → ℕ
-placeIn n l k = firstFrom n 0 (λ p. eqb (getD l p 0) k)
+abbrev pub placeAmong : ℕ → List ℕ → ℕ → ℕ
+placeAmong n l k = firstFrom n 0 (λ p. eqb (getD l p 0) k)
 
 -- a list without the one at place q; and an array from which it is taken out: those behind it move up as far as place m, which keeps what it holds
 abbrev pub leftOut : {A : Type 0} → ℕ → List A → List A

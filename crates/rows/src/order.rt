@@ -7,7 +7,7 @@ ghost use Prim.Native.Nat.{ℕ, _+_, _-_, _≤_, _<_};
 ghost use lib.ListN.{length, getD, take, drop, replicate};
 ghost use Rattle.basics.specs.Tests.{newest, ordered};
 ghost use Rattle.label.specs.Labels.{holders};
-ghost use Rattle.rows.specs.Held.{held, standsIn, Orderly, OrderedBefore, placeIn, takenOut, Leads};
+ghost use Rattle.rows.specs.Held.{held, standsIn, Orderly, OrderedBefore, placeAmong, takenOut, Leads};
 
 // The newest station, and how many stations have its label, the newest itself among them.
 pub struct Top {
@@ -119,7 +119,7 @@ pub fn order(rows: &[[u8; 31]; 32], n: usize) -> [usize; 32]
 // The first of n places of `order` that holds station k; n if none does.
 fn place(order: &[usize], n: usize, k: usize) -> usize
     requires { ⌜ n ≤ length (now order) ⌝ }
-    ensures { λ r. ⌜ r ≡ placeIn n (now (order .entry)) k ⌝ }
+    ensures { λ r. ⌜ r ≡ placeAmong n (now (order .entry)) k ⌝ }
 {
     let mut p: usize = 0;
     while p < n {
@@ -145,8 +145,8 @@ fn remove_at(order: &mut [usize], m: usize, q: usize)
 
 // Station k, one of the first n of `order`, is taken out, and those behind it move up: place n - 1 is then free.
 pub fn take_out(order: &mut [usize], n: usize, k: usize)
-    requires { ⌜ (placeIn n (now order) k < n) × (n ≤ length (now order)) ⌝ }
-    ensures { λ _. ⌜ now (order .exit) ≡ takenOut (n - 1) (placeIn n (now (order .entry)) k) (now (order .entry)) ⌝ }
+    requires { ⌜ (placeAmong n (now order) k < n) × (n ≤ length (now order)) ⌝ }
+    ensures { λ _. ⌜ now (order .exit) ≡ takenOut (n - 1) (placeAmong n (now (order .entry)) k) (now (order .entry)) ⌝ }
 {
     let q = place(order, n, k);
     remove_at(order, n - 1, q);

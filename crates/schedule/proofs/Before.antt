@@ -182,7 +182,7 @@ module _ (n : ℕ) where
   agree (l ∷ (m ∷ ms)) f lines s = agree-line lines l (m ∷ ms) s (agree (m ∷ ms) (f .1) (lines + 1))
       (λ c e x. agree-snap (lines + 1) m ms s c x (f .0 (c .station) (c .job) e) (agree ms (f .1 .1) (lines + 1 + 1) (x .scanned)))
 
-states-lawful : Lawful (asStates original)
+pub states-lawful : Lawful (asStates original)
 states-lawful = record { board = refl; counted = λ n s. refl; held = λ n h s w. refl; passes = λ n low high s r. refl }
 
 -- CARD 1, for every list of bytes and every lawful form of the original board

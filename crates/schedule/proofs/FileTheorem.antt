@@ -13,7 +13,7 @@ use Rattle.basics.proofs.Facts.{tf}
 use Rattle.simulation.specs.Calls.{Call, Buffer, holds, bytesOf}
 use Rattle.simulation.specs.Machine.{Seen}
 use Rattle.transition.specs.Forms.{Form, freshTable, stepOf}
-use Rattle.transition.specs.Demand.{run, seen, Demand3}
+use Rattle.transition.specs.Demand.{runTable, seenIn, Demand3}
 use Rattle.transition.proofs.Theorem.{Lawful, demand, ReachedTable, table-fresh, table-refusals, table-step, same-seen}
 use Rattle.moves.specs.Moves.{refusalNumber}
 use Rattle.moves.specs.declared.Refusal.the-variants.{Accepted}
@@ -35,10 +35,10 @@ module _ (F : Form) (L : Lawful F) (n : ℕ) (low : 2 ≤ n) (high : n ≤ 32) w
   abbrev Played : Session (F .Table) → Lists.List (Lists.List ℕ) → Type 0
   Played s ls =
       let cs = stepCalls (s .lines) ls in
-      runLines F s ls .bytes ≡ printedCalls cs (map (seen F) (run F (s .table) cs)) ++ endPrinted (s .lines) ls
+      runLines F s ls .bytes ≡ printedCalls cs (map (seenIn F) (runTable F (s .table) cs)) ++ endPrinted (s .lines) ls
 
   played : (ls : Lists.List (Lists.List ℕ)) (s : Session (F .Table)) → Live F n s → Played s ls
-  unfolding runLines stepCalls ending printedCalls run
+  unfolding runLines stepCalls ending printedCalls runTable
   played [] s v = refl
   played (l ∷ ls) s v =
       rw (live-final F L n low high s v, live-serve F L n low high s v l) (go (nextLine (s .lines) l) (next-numbered (s .lines) l) (played ls))
@@ -57,7 +57,7 @@ module _ (F : Form) (L : Lawful F) (n : ℕ) (low : 2 ≤ n) (high : n ≤ 32) w
       end w = printed (s .lines + length (calls w) + 1) (refusalNumber (endThen w (ending (s .lines + 1) ls))) []
 
       go : (w : Line) → Numbered w → ((s′ : Session (F .Table)) → Live F n s′ → Played s′ ls)
-          → shows w ≡ printedCalls (calls w) (map (seen F) (run F (s .table) (calls w))) ++ end w
+          → shows w ≡ printedCalls (calls w) (map (seenIn F) (runTable F (s .table) (calls w))) ++ end w
       go (Refused r) d ih =
           let number : s .lines + 1 ≡ s .lines + 0 + 1 = omega arith in
           rw (final-run F (ended s r) ls d)
@@ -66,7 +66,7 @@ module _ (F : Form) (L : Lawful F) (n : ℕ) (low : 2 ≤ n) (high : n ≤ 32) w
           let c = lineCall (s .lines) st k j in
           let a = stepOf F (s .table) c in
           let here = printed (s .lines + 1) (a .refusal) (bytesOf (a .report)) in
-          let others = printedCalls cs (map (seen F) (run F (a .table) cs)) in
+          let others = printedCalls cs (map (seenIn F) (runTable F (a .table) cs)) in
           let number : s .lines + 1 + length cs + 1 ≡ s .lines + length (c ∷ cs) + 1 = omega arith in
           ap (λ b. here ++ b) (ih (session (s .lines + 1) (s .refusal) (a .table)) (next-live F L n low high s v c (s .lines + 1)))
           ∙ sym (append-assoc here others (endPrinted (s .lines + 1) ls))
@@ -74,8 +74,8 @@ module _ (F : Form) (L : Lawful F) (n : ℕ) (low : 2 ≤ n) (high : n ≤ 32) w
 
   -- ROOM: with that for 32 report lines no call is refused by 7
 
-  pub never-short : (cs : Lists.List Call) → All (λ c. c .room ≡ Buffer 928) cs → (t : F .Table) → ReachedTable F n t → All (λ a. a .refusal ≢ 7) (run F t cs)
-  unfolding run
+  pub never-short : (cs : Lists.List Call) → All (λ c. c .room ≡ Buffer 928) cs → (t : F .Table) → ReachedTable F n t → All (λ a. a .refusal ≢ 7) (runTable F t cs)
+  unfolding runTable
   never-short [] h t r = tt
   never-short (c ∷ cs) h t r =
       let f = table-refusals F L n low high t r c in
@@ -135,6 +135,6 @@ same-report F G L M bs = go (headerRead (take 18 bs)) refl
         shown : Lists.List Seen → Lists.List ℕ
         shown x = printedCalls (fileCalls bs) x ++ endPrinted 1 (stepLines bs)
 
-        served : (F : Form) → Lawful F → fileReport F bs ≡ shown (map (seen F) (run F (freshTable F n) (fileCalls bs)))
+        served : (F : Form) → Lawful F → fileReport F bs ≡ shown (map (seenIn F) (runTable F (freshTable F n) (fileCalls bs)))
         served F L = ap (λ (o : Served (F .Table)). o .bytes) (file-served F bs n e)
             ∙ played F L n low high (stepLines bs) (session 1 Accepted (freshTable F n)) (fresh-live F L n low high 1)

@@ -9,3 +9,4 @@ pub mod Places
 pub mod Surveys
 pub mod Numbers
 pub mod Logs
+pub mod Samples

@@ -21,7 +21,7 @@ use Rattle.simulation.specs.Calls.{Call, Entry, Room, Buffer, Panel, reportLine
 use Rattle.simulation.specs.Machine.{original}
 use Rattle.simulation.proofs.Judged.{direct}
 use Rattle.transition.specs.Forms.{Form, TableAnswer, freshTable, stepOf}
-use Rattle.transition.specs.Demand.{run, seen}
+use Rattle.transition.specs.Demand.{runTable, seenIn}
 use Rattle.transition.specs.Logs.{lists, Right}
 use Rattle.transition.proofs.Theorem.{Lawful, ReachedTable, table-fresh, table-count, table-refusals, table-step, step-report, step-kept, reached-held}
 use Rattle.transition.proofs.Logs.{numbers-few, report-half, logged}
@@ -119,8 +119,8 @@ module _ (F : Form) (L : Lawful F) (n : ℕ) (low : 2 ≤ n) (high : n ≤ 32) w
           rw (none (eqb-false x 0 e)) (rw e at s)
 
   strikes-calls : (cs : Lists.List Call) (t : F .Table) → ReachedTable F n t
-      → Strikes (printedCalls cs (map (seen F) (run F t cs))) (lists (map (λ a. a .report) (run F t cs)))
-  unfolding printedCalls run lists
+      → Strikes (printedCalls cs (map (seenIn F) (runTable F t cs))) (lists (map (λ a. a .report) (runTable F t cs)))
+  unfolding printedCalls runTable lists
   strikes-calls [] t r = strikes-none
   strikes-calls (c ∷ cs) t r = strikes-append (strikes-call t r c) (strikes-calls cs (stepOf F t c .table) (table-step F L n low high t r c))
 
@@ -139,7 +139,7 @@ lists-struck F L bs n e z = ap scanLines report ∙ strikes-all (strikes-calls F
     D = file-demand F L bs n e
 
     shown : Lists.List ℕ
-    shown = printedCalls (fileCalls bs) (map (seen F) (run F (freshTable F n) (fileCalls bs)))
+    shown = printedCalls (fileCalls bs) (map (seenIn F) (runTable F (freshTable F n) (fileCalls bs)))
 
     none : endPrinted 1 (stepLines bs) ≡ []
     none = rw (eq-eqb _ 0 z) refl

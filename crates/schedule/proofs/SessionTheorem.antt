@@ -11,7 +11,7 @@ use Rattle.basics.proofs.Facts.{all-append, all-weaken}
 use Rattle.simulation.specs.Calls.{Call, Bytes, bytesOf, size}
 use Rattle.simulation.specs.Machine as Machine
 use Rattle.transition.specs.Forms.{Form, over, freshTable, stepOf}
-use Rattle.transition.specs.Demand.{run, seen, unbounded, Demand3}
+use Rattle.transition.specs.Demand.{runTable, seenIn, unbounded, Demand3}
 use Rattle.transition.proofs.Theorem.{Lawful, table-fresh, step-bytes, demand}
 use Rattle.transition.proofs.Sequences.{bytes-read, bytes-counted, rest-kept, same-counts}
 use Rattle.moves.specs.Moves.{refusalNumber}
@@ -59,7 +59,7 @@ module _ (F : Form) where
 -- THE STEP LINES are the calls, and behind them every call meets the final refusal r
 
 record Reads (F : Form) (s : Session (F .Table)) (xs : Lists.List (ServedLine (F .Table))) (calls : Lists.List Call) (r : Refusal) : Type 0 where
-  answers : map replied (take (length calls) xs) ≡ run F (s .table) calls
+  answers : map replied (take (length calls) xs) ≡ runTable F (s .table) calls
   counts : map (λ x. x .written) (take (length calls) xs) ≡ map (λ x. size (replied x .report)) (take (length calls) xs)
   final : All (Stays (ended (left s (take (length calls) xs)) r)) (drop (length calls) xs)
 
@@ -69,7 +69,7 @@ module _ (F : Form) (L : Lawful F) (n : ℕ) (low : 2 ≤ n) (high : n ≤ 32) w
   ReadsOn s xs = Reads F s xs (stepCalls (s .lines) (map (λ x. x .line) xs)) (ending (s .lines) (map (λ x. x .line) xs))
 
   reads : (xs : Lists.List (ServedLine (F .Table))) (s : Session (F .Table)) → Live F n s → ServedBy F s xs → ReadsOn s xs
-  unfolding stepCalls ending run
+  unfolding stepCalls ending runTable
   reads [] s v q = record { answers = refl; counts = refl; final = tt }
   reads (x ∷ xs) s v q = go (nextLine (s .lines) (x .line)) (next-numbered (s .lines) (x .line)) here (reads xs)
     where
@@ -124,7 +124,7 @@ module _ (F : Form) (L : Lawful F) where
   session-demand header n e xs q = record {
     demand = d;
     same = same;
-    counted = r .counts ∙ same-counts n (λ x. seen F (replied x)) (steps xs) (unbounded (F .board) n (d .advances) (sessionCalls xs)) same;
+    counted = r .counts ∙ same-counts n (λ x. seenIn F (replied x)) (steps xs) (unbounded (F .board) n (d .advances) (sessionCalls xs)) same;
     kept = lines-kept F (headerOf F header) xs q;
     never7 = subst (All Roomy) (take-append-drop (length (sessionCalls xs)) xs) (all-append Roomy (steps xs) (later xs) short
         (all-weaken (λ x y z. ending-long 1 (map (λ x. x .line) xs) (sym (y .number) ∙ z)) (later xs) (r .final)));
@@ -153,5 +153,5 @@ module _ (F : Form) (L : Lawful F) where
           (never-short F L n (sized .0) (sized .1) (sessionCalls xs) (lines-roomy 1 (map (λ x. x .line) xs)) (freshTable F n)
           (table-fresh F L n (sized .0) (sized .1))))
 
-      same : map (λ x. seen F (replied x)) (steps xs) ≡ map (Machine.seen n) (unbounded (F .board) n (d .advances) (sessionCalls xs))
-      same = sym (map-map (seen F) replied (steps xs)) ∙ ap (map (seen F)) (r .answers) ∙ d .same
+      same : map (λ x. seenIn F (replied x)) (steps xs) ≡ map (Machine.seen n) (unbounded (F .board) n (d .advances) (sessionCalls xs))
+      same = sym (map-map (seenIn F) replied (steps xs)) ∙ ap (map (seenIn F)) (r .answers) ∙ d .same

@@ -11,7 +11,7 @@ use Rattle.simulation.specs.Calls.{Call, Bytes, bytesOf, size}
 use Rattle.simulation.specs.Machine as Machine
 use Rattle.simulation.specs.Machine.{Seen}
 use Rattle.transition.specs.Forms.{Form, TableAnswer, over, freshTable}
-use Rattle.transition.specs.Demand.{run, seen, unbounded, Demand3}
+use Rattle.transition.specs.Demand.{runTable, seenIn, unbounded, Demand3}
 use Rattle.moves.specs.Moves.{refusalNumber}
 use Rattle.moves.specs.declared.Refusal.{Refusal}
 use Rattle.moves.specs.declared.Refusal.the-variants.{Accepted}
@@ -94,7 +94,7 @@ pub record Stays {T : Type 0} (z : Session T) (x : ServedLine T) : Type 0 where
 -- and the report"); and all other calls meet the final refusal
 pub record SessionDemand (F : Form) (n : ℕ) (xs : Lists.List (ServedLine (F .Table))) : Type 0 where
   pub demand : Demand3 F n (sessionCalls xs)
-  pub same : map (λ x. seen F (replied x)) (steps xs) ≡ map (Machine.seen n) (unbounded (F .board) n (demand .advances) (sessionCalls xs))
+  pub same : map (λ x. seenIn F (replied x)) (steps xs) ≡ map (Machine.seen n) (unbounded (F .board) n (demand .advances) (sessionCalls xs))
   pub counted : map (λ x. x .written) (steps xs) ≡ map (λ a. size (a .report)) (unbounded (F .board) n (demand .advances) (sessionCalls xs))
   pub kept : All (λ x. x .buffer′ ≡ over (take (x .written) (x .buffer′)) (x .buffer)) xs
   pub never7 : All (λ x. x .refusal ≢ 7) xs
@@ -120,4 +120,4 @@ pub record FileDemand (F : Form) (bs : Lists.List ℕ) (n : ℕ) : Type 0 where
   pub demand : Demand3 F n (fileCalls bs)
   pub report : fileReport F bs
       ≡ printedCalls (fileCalls bs) (map (Machine.seen n) (unbounded (F .board) n (demand .advances) (fileCalls bs))) ++ endPrinted 1 (stepLines bs)
-  pub never7 : All (λ a. a .refusal ≢ 7) (run F (freshTable F n) (fileCalls bs))
+  pub never7 : All (λ a. a .refusal ≢ 7) (runTable F (freshTable F n) (fileCalls bs))

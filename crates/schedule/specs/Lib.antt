@@ -6,3 +6,4 @@ pub mod Scans
 pub mod Before
 pub mod Numbers
 pub mod Logs
+pub mod Samples

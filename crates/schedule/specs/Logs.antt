@@ -6,7 +6,7 @@ use mathlib.Core.List.{map}
 use lib.ListN.{take}
 use Rattle.simulation.specs.Machine.{original}
 use Rattle.transition.specs.Forms.{Form, freshTable}
-use Rattle.transition.specs.Demand.{run}
+use Rattle.transition.specs.Demand.{runTable}
 use Rattle.transition.specs.Logs.{lists, Right}
 use Rattle.schedule.specs.Lines.{headerRead}
 use Rattle.schedule.specs.Demand.{fileCalls}
@@ -14,7 +14,7 @@ use Rattle.schedule.specs.declared.Header.the-variants.{Stations}
 
 -- all that the step lines of a file of n stations write on a table of this form
 abbrev pub fileLists : (F : Form) → ℕ → Lists.List ℕ → Lists.List ℕ
-fileLists F n bs = lists (map (λ a. a .report) (run F (freshTable F n) (fileCalls bs)))
+fileLists F n bs = lists (map (λ a. a .report) (runTable F (freshTable F n) (fileCalls bs)))
 
 -- a log is right: a file with an accepted header, numbers for its steps, and the bytes that the unbounded table of the original board writes with them (02,
 -- Card 7)

@@ -183,7 +183,7 @@ pub fn refusal_of(s: Survey) -> Refusal
     ensures { λ r. ⌜ r ≡ surveyed (s .refusal) (s .steps) Accepted ⌝ }
 {
     let refusal = s.refusal;
-    if refusal.number() != 0 {
+    if refusal.refuses() {
         return refusal;
     }
     if 4096 < s.steps {

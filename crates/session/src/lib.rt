@@ -9,7 +9,7 @@ ghost use Rattle.moves.specs.Moves.{refusalNumber};
 ghost use Rattle.schedule.specs.declared.Line.the-variants.{Step};
 ghost use Rattle.schedule.specs.Sessions.{refused, stopped, illFormed, headerOf, stepLine, serveOf};
 ghost use Rattle.table.specs.Tables.{declared};
-ghost use Rattle.session.specs.Contracts.{sessionOf, ServedAs};
+ghost use Rattle.session.specs.Contracts.{sessionOf, ServedAs, Keeps};
 use engine::Reply;
 use moves::Refusal;
 use moves::Request;
@@ -110,8 +110,9 @@ fn unread(s: Session, r: Refusal) -> Served
 // A line that is a step: its call judges the table, and its report bears the number of the line.
 fn step_line(s: Session, code: u64, station: u64, job: u64, report: &mut [u8]) -> Served
     requires { ⌜ s .lines ≤ 1000000 ⌝ }
-    ensures { λ o. ⌜ ServedAs (stepLine declared (sessionOf s) (length (now (report .entry))) (Step station code job)) o
-        (now (report .entry)) (now (report .exit)) ⌝ }
+    requires { ⌜ length (now report) ≡ 928 ⌝ }
+    ensures { λ o. ⌜ ServedAs (stepLine declared (sessionOf s) (Step station code job)) o (now (report .entry)) (now (report .exit)) ⌝ }
+    ensures { λ o. ⌜ Keeps s o (now (report .entry)) (now (report .exit)) ⌝ }
 {
     let lines = s.lines;
     let standing = s.refusal;
@@ -135,13 +136,14 @@ fn step_line(s: Session, code: u64, station: u64, job: u64, report: &mut [u8]) -
     }
 }
 
-// Serves a line after the header: a final refusal comes first, then an ill-formed table, and then what the line says.
-pub fn serve(s: Session, line: &[u8], report: &mut [u8]) -> Served
-    ensures { λ o. ⌜ ServedAs (serveOf declared (sessionOf s) (now (line .entry)) (length (now (report .entry)))) o
-        (now (report .entry)) (now (report .exit)) ⌝ }
+// Serves a line after the header: a final refusal comes first, then an ill-formed table, and then what the line says. The report buffer has room for the
+// longest scan result, so no line is refused by 7.
+pub fn serve(s: Session, line: &[u8], report: &mut [u8; 928]) -> Served
+    ensures { λ o. ⌜ ServedAs (serveOf declared (sessionOf s) (now (line .entry))) o (now (report .entry)) (now (report .exit)) ⌝ }
+    ensures { λ o. ⌜ Keeps s o (now (report .entry)) (now (report .exit)) ⌝ }
 {
     let standing = s.refusal;
-    if standing.number() != 0 {
+    if standing.refuses() {
         return refuse(s, standing);
     }
     match schedule::next_line(s.lines, line) {

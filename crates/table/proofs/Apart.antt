@@ -27,7 +27,7 @@ use Rattle.arrays.specs.Arrays.{Rows, Arrays, arrays, cell, planes, phaseNumber
 use Rattle.arrays.specs.WellFormed.{wellFormed}
 use Rattle.arrays.specs.Sizes.{Sized, Shaped}
 use Rattle.arrays.proofs.States.{phase-back, phase-low, number-back, out-back, out-low, out-number, lent-lawful, written-held}
-use Rattle.table.specs.Tables.{declaredOperation, declaredPhase, entry, blank, rowsOf, entriesOf, at, apart, stationOf, together, declared}
+use Rattle.table.specs.Tables.{declaredOperation, declaredPhase, declaredEntry, blank, rowsOf, entriesOf, at, takenApart, stationOf, putTogether, declared}
 use Rattle.table.specs.declared.Entry.{Entry}
 use Rattle.table.specs.declared.Station.{Station}
 use Rattle.table.specs.declared.Table.{Table}
@@ -104,47 +104,47 @@ rows-back rows z = ap₂ (λ a b. a ∷ b ∷ [])
     ∙ two-lists rows [] (z .long)
   where
     f : ℕ → Entry
-    f p = entry (cell rows 0 p 0) (cell rows 1 p 0)
+    f p = declaredEntry (cell rows 0 p 0) (cell rows 1 p 0)
 
 entries-back : (l : Lists.List Entry) → length l ≡ 32 → entriesOf (rowsOf l) ≡ l
-entries-back l e = tabulate-is 32 l blank _ e (λ p u. ap₂ entry (element (λ k. getD l k blank .station) 0 p u) (element (λ k. getD l k blank .job) 0 p u))
+entries-back l e = tabulate-is 32 l blank _ e (λ p u. ap₂ declaredEntry (element (λ k. getD l k blank .station) 0 p u) (element (λ k. getD l k blank .job) 0 p u))
 
 -- ARRAYS, PUT TOGETHER
 
 module _ (a : Arrays) (g : Shaped a) (known : (i : ℕ) → i < 32 → (cell (a .control) 0 i 0 ≤ 4) × (cell (a .control) 1 i 0 ≤ 1)) where
-  put-at : (i : ℕ) → i < 32 → at (together a) i ≡ stationOf a i
-  unfolding together
+  put-at : (i : ℕ) → i < 32 → at (putTogether a) i ≡ stationOf a i
+  unfolding putTogether
   put-at i h = element (stationOf a) _ i h
 
   -- a plane of what f takes of each record
   plane-back : {A : Type 0} (xs : Lists.List (Lists.List A)) (k : ℕ) (d : A) (f : Station → A) → length (getD xs k []) ≡ 32
-      → ((i : ℕ) → i < 32 → f (stationOf a i) ≡ cell xs k i d) → tabulate 32 0 (λ i. f (at (together a) i)) ≡ getD xs k []
+      → ((i : ℕ) → i < 32 → f (stationOf a i) ≡ cell xs k i d) → tabulate 32 0 (λ i. f (at (putTogether a) i)) ≡ getD xs k []
   plane-back xs k d f e h = tabulate-is 32 (getD xs k []) d _ e (λ i l. ap f (put-at i l) ∙ h i l)
 
-  pub apart-together : apart (together a) ≡ a
-  unfolding apart together
+  pub apart-together : takenApart (putTogether a) ≡ a
+  unfolding takenApart putTogether
   apart-together = λ y. arrays (a .count) (labels y) (jobs y) (control y) (results y)
     where
-      labels : apart (together a) .labels ≡ a .labels
+      labels : takenApart (putTogether a) .labels ≡ a .labels
       labels = ap₂ (λ b c. b ∷ c ∷ [])
           (plane-back (a .labels) 0 [] (λ s. s .label) (g .labels .each 0 (omega arith)) (λ i l. refl))
           (plane-back (a .labels) 1 [] (λ s. s .«pending_label») (g .labels .each 1 (omega arith)) (λ i l. refl))
           ∙ two-lists (a .labels) [] (g .labels .long)
 
-      jobs : apart (together a) .jobs ≡ a .jobs
+      jobs : takenApart (putTogether a) .jobs ≡ a .jobs
       jobs = ap₂ (λ b c. b ∷ c ∷ [])
           (plane-back (a .jobs) 0 0 (λ s. s .job) (g .jobs .each 0 (omega arith)) (λ i l. refl))
           (plane-back (a .jobs) 1 0 (λ s. s .«pending_job») (g .jobs .each 1 (omega arith)) (λ i l. refl))
           ∙ two-lists (a .jobs) [] (g .jobs .long)
 
-      control : apart (together a) .control ≡ a .control
+      control : takenApart (putTogether a) .control ≡ a .control
       control = ap₂ (λ b c. b ∷ c ∷ [])
           (plane-back (a .control) 0 0 (λ s. phaseNumber (phaseOf (s .phase))) (g .control .each 0 (omega arith))
           (λ i l. declared-number (phaseFor (cell (a .control) 0 i 0)) ∙ number-back _ (known i l .0)))
           (plane-back (a .control) 1 0 (λ s. outNumber (s .«out_of_service»)) (g .control .each 1 (omega arith)) (λ i l. out-number _ (known i l .1)))
           ∙ two-lists (a .control) [] (g .control .long)
 
-      results : apart (together a) .results ≡ a .results
+      results : takenApart (putTogether a) .results ≡ a .results
       results = tabulate-is 32 (a .results) [] _ (g .results .long)
           (λ i l. ap (λ (s : Station). rowsOf (s .«scan_result»)) (put-at i l) ∙ rows-back (getD (a .results) i []) (g .result i l))
 
@@ -162,11 +162,11 @@ module _ (n : ℕ) (s : State Labels.Label) where
     rw (element (λ j. outNumber (s .rest .process j .out)) 0 i l) (out-low (s .rest .process i .out)),
   )
 
-  pub written-apart : apart (together (arraysOf n s)) ≡ arraysOf n s
+  pub written-apart : takenApart (putTogether (arraysOf n s)) ≡ arraysOf n s
   written-apart = apart-together (arraysOf n s) written-shaped written-known
 
 pub declared-lawful : Lawful declared
-unfolding together arraysOf
+unfolding putTogether arraysOf
 declared-lawful = record {
   board = refl;
   counted = λ n s. refl;
@@ -188,8 +188,8 @@ pub record Whole (t : Table) : Type 0 where
 
 module _ (t : Table) (w : Whole t) where
   -- the record at a place is the one that the arrays have there
-  pub station-apart : (i : ℕ) → i < 32 → stationOf (apart t) i ≡ at t i
-  unfolding apart
+  pub station-apart : (i : ℕ) → i < 32 → stationOf (takenApart t) i ≡ at t i
+  unfolding takenApart
   station-apart i h y = record {
     label = element (λ k. at t k .label) [] i h y;
     job = element (λ k. at t k .job) 0 i h y;
@@ -201,13 +201,13 @@ module _ (t : Table) (w : Whole t) where
     «out_of_service» = (ap outFor (element (λ k. outNumber (at t k .«out_of_service»)) 0 i h) ∙ out-back (at t i .«out_of_service»)) y;
   }
 
-  pub together-apart : together (apart t) ≡ t
-  unfolding together apart
+  pub together-apart : putTogether (takenApart t) ≡ t
+  unfolding putTogether takenApart
   together-apart = ap (λ (l : Lists.List Station). record { count = t .count; stations = l })
-      (tabulate-is 32 (t .stations) _ (stationOf (apart t)) (w .places) station-apart)
+      (tabulate-is 32 (t .stations) _ (stationOf (takenApart t)) (w .places) station-apart)
 
-  pub apart-shaped : Shaped (apart t)
-  unfolding apart
+  pub apart-shaped : Shaped (takenApart t)
+  unfolding takenApart
   apart-shaped = made-shaped (t .count) (λ x i. cond x (at t i .«pending_label») (at t i .label)) (λ x i. cond x (at t i .«pending_job») (at t i .job))
       (λ x i. cond x (outNumber (at t i .«out_of_service»)) (phaseNumber (phaseOf (at t i .phase))))
       (λ i y q. let e = getD (at t i .«scan_result») q blank in cond y (e .job) (e .station)) wide
@@ -217,6 +217,6 @@ module _ (t : Table) (w : Whole t) where
       wide true i h = w .each i h .pending
 
   -- so a well-formed table is that of the state that it holds
-  pub declared-written : wellFormed (apart t) ≡ true → together (arraysOf (t .count) (stateOf (apart t))) ≡ t
-  unfolding apart
-  declared-written e = ap together (written-held (apart t) apart-shaped e) ∙ together-apart
+  pub declared-written : wellFormed (takenApart t) ≡ true → putTogether (arraysOf (t .count) (stateOf (takenApart t))) ≡ t
+  unfolding takenApart
+  declared-written e = ap putTogether (written-held (takenApart t) apart-shaped e) ∙ together-apart

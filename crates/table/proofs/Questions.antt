@@ -4,9 +4,9 @@ use native.Mathlib.Omega.{arith}
 use Rattle.transition.specs.Questions.{Tells}
 use Rattle.transition.proofs.Questions.{Told, told}
 use Rattle.arrays.proofs.Passed.{passed, stands-total}
-use Rattle.table.specs.Tables.{apart, declared}
+use Rattle.table.specs.Tables.{takenApart, declared}
 use Rattle.table.specs.declared.Table.{Table}
 
 pub declared-told : (t : Table) {refusal stations : ℕ} → Tells declared t refusal stations → Told (t .count) refusal stations
-unfolding apart
-declared-told t = told declared t (λ e. (omega (arith, passed (apart t) e .low), stands-total (apart t) e))
+unfolding takenApart
+declared-told t = told declared t (λ e. (omega (arith, passed (takenApart t) e .low), stands-total (takenApart t) e))

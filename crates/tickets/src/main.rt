@@ -1,24 +1,23 @@
 // Reads a schedule file from standard input and writes its report to standard output. If either cannot be done, it says so on standard error and stops.
 ghost use mathlib.Core.Path.{_≡_};
-ghost use mathlib.Core.Logic.{_≢_};
-ghost use mathlib.Core.Bool.{true};
-ghost use Prim.Native.Nat.{_+_, _≤_, _<_};
+ghost use mathlib.Core.Bool.{true, false};
+ghost use Prim.Native.Nat.{_+_, _*_, _≤_, _<_};
 ghost use lib.ListN.{length};
 ghost use Rattle.io.specs.Counts.{Counts};
 ghost use Rattle.arrays.specs.Arrays.{arrays};
-ghost use Rattle.schedule.specs.Files.{pieces};
-ghost use Rattle.file.specs.Contracts.{Runnable};
+ghost use Rattle.file.specs.Feeds.{Standing};
 use arrays::Control;
 use arrays::Jobs;
 use arrays::Labels;
 use arrays::Results;
+use file::Run;
 use libc::STDIN_FILENO;
-use schedule::Header;
 use streams::Input;
 
-// How many lines are counted after a part of the file, and whether to read on.
+// After a part of the file: the run, the bytes that were served, or of which the first are kept for the next part, and whether to read on.
 struct Turn {
-    lines: u32,
+    run: Run,
+    count: usize,
     more: bool,
 }
 
@@ -38,80 +37,79 @@ fn write_report(bytes: &[u8]) -> bool {
     streams::write_output(bytes, b"tickets: the report could not be written\n")
 }
 
-// Reads the header, and prints its refusal; hands back the number of stations, or 0 if there is no more to do.
-fn read_header() -> usize
-    ensures { λ r. ⌜ (r ≢ 0 → (2 ≤ r) × (r ≤ 32)) ⌝ }
-{
-    let mut line = [0u8; 18];
-    let r = read_schedule(&mut line);
-    if r.failed {
-        return 0;
-    }
-    let k = r.count;
-    match schedule::read_header(&line[..k]) {
-        Header::Refused(refusal) => {
-            let mut out = [0u8; 29];
-            let k = file::print_refusal(1, refusal, &mut out);
-            write_report(&out[..k]);
-            0
-        }
-        Header::Stations(n) => n,
-    }
-}
-
-// Serves a part of the file, and prints its report: whenever the output buffer has no room for another line, and at the end.
+// Serves a part of the file, and prints its report: whenever the output buffer has no room for another line, and at the end. There is more to read if the
+// part is not the last and no line is refused for good.
 fn serve_part(
-    lines: u32,
-    n: usize,
+    run: Run,
+    last: bool,
     order: &mut [usize; 32],
     labels: &mut Labels,
     jobs: &mut Jobs,
     control: &mut Control,
     results: &mut Results,
-    chunk: &[u8],
+    part: &[u8],
     out: &mut [u8],
 ) -> Turn
-    requires { ⌜ Runnable (arrays n (now labels) (now jobs) (now control) (now results)) (now order) ⌝ }
-    requires { ⌜ lines ≤ 1000001 ⌝ }
+    requires { ⌜ Standing run (arrays (run .count) (now labels) (now jobs) (now control) (now results)) (now order) ⌝ }
     requires { ⌜ 928 ≤ length (now out) ⌝ }
-    ensures { λ _. ⌜ Runnable (arrays n (now (labels .exit)) (now (jobs .exit)) (now (control .exit)) (now (results .exit))) (now (order .exit)) ⌝ }
-    ensures { λ r. ⌜ (r .more ≡ true → (r .lines ≡ lines + pieces (now (chunk .entry))) × (r .lines ≤ 1000001)) ⌝ }
+    ensures { λ r. ⌜ Standing (r .run) (arrays (r .run .count) (now (labels .exit)) (now (jobs .exit)) (now (control .exit)) (now (results .exit)))
+        (now (order .exit)) ⌝ }
+    ensures { λ r. ⌜ (r .more ≡ true → (last ≡ false) × (r .count ≤ length (now (part .entry))) × (length (now (part .entry)) < r .count + 18)
+        × (18 * r .run .lines ≡ 18 * run .lines + r .count) × (r .run .lines ≤ 1000001)) ⌝ }
 {
-    let mut count = lines;
+    let mut now = run;
     let mut at = 0;
-    while at < chunk.len() {
-        let r = file::report_lines(
-            count,
-            n,
+    loop {
+        let fed = file::feed(
+            now,
+            last,
             order,
             labels,
             jobs,
             control,
             results,
-            &chunk[at..],
+            &part[at..],
             out,
         );
-        let written = r.written;
-        let refusal = r.refusal;
-        if !write_report(&out[..written]) {
-            return Turn { lines, more: false };
+        let k = fed.written;
+        let next = fed.run;
+        let refusal = next.refusal;
+        if !write_report(&out[..k]) {
+            return Turn {
+                run: next,
+                count: 0,
+                more: false,
+            };
         }
-        if refusal.number() != 0 {
-            return Turn { lines, more: false };
+        if !fed.more {
+            return Turn {
+                run: next,
+                count: at + fed.read,
+                more: (refusal.number() == 0) & !last,
+            };
         }
-        count = r.lines;
-        at += r.read;
-    }
-    Turn {
-        lines: count,
-        more: true,
+        now = next;
+        at += fed.read;
     }
 }
 
-// Reads a part of the file, and serves it. A part that is not full is the last.
+// Moves the bytes between two places to the front of `buf`, and hands back their number.
+fn keep(buf: &mut [u8], from: usize, end: usize) -> usize
+    requires { ⌜ (from ≤ end) × (end ≤ length (now buf)) ⌝ }
+    ensures { λ r. ⌜ from + r ≡ end ⌝ }
+{
+    let mut k = 0;
+    while from + k < end {
+        buf[k] = buf[from + k];
+        k += 1;
+    }
+    k
+}
+
+// Reads a part of the file behind the bytes that are kept, and serves it. A part that is not full is the last.
 fn read_part(
-    lines: u32,
-    n: usize,
+    run: Run,
+    kept: usize,
     order: &mut [usize; 32],
     labels: &mut Labels,
     jobs: &mut Jobs,
@@ -120,81 +118,81 @@ fn read_part(
     input: &mut [u8],
     out: &mut [u8],
 ) -> Turn
-    requires { ⌜ Runnable (arrays n (now labels) (now jobs) (now control) (now results)) (now order) ⌝ }
-    requires { ⌜ lines ≤ 1000001 ⌝ }
-    requires { ⌜ 0 < length (now input) ⌝ }
+    requires { ⌜ Standing run (arrays (run .count) (now labels) (now jobs) (now control) (now results)) (now order) ⌝ }
+    requires { ⌜ (kept < 18) × (36 ≤ length (now input)) ⌝ }
     requires { ⌜ 928 ≤ length (now out) ⌝ }
-    ensures { λ _. ⌜ Runnable (arrays n (now (labels .exit)) (now (jobs .exit)) (now (control .exit)) (now (results .exit))) (now (order .exit)) ⌝ }
-    ensures { λ r. ⌜ (r .more ≡ true → (lines < r .lines) × (r .lines ≤ 1000001)) ⌝ }
+    ensures { λ r. ⌜ Standing (r .run) (arrays (r .run .count) (now (labels .exit)) (now (jobs .exit)) (now (control .exit)) (now (results .exit)))
+        (now (order .exit)) ⌝ }
+    ensures { λ r. ⌜ (r .more ≡ true → (r .count < 18) × (run .lines < r .run .lines) × (r .run .lines ≤ 1000001)) ⌝ }
 {
-    let r = read_schedule(input);
-    let k = r.count;
+    let r = read_schedule(&mut input[kept..]);
+    if r.failed {
+        return Turn {
+            run,
+            count: 0,
+            more: false,
+        };
+    }
+    let end = kept + r.count;
     let t = serve_part(
-        lines,
-        n,
+        run,
+        end < input.len(),
         order,
         labels,
         jobs,
         control,
         results,
-        &input[..k],
+        &input[..end],
         out,
     );
+    let next = t.run;
+    if !t.more {
+        return Turn {
+            run: next,
+            count: 0,
+            more: false,
+        };
+    }
     Turn {
-        lines: t.lines,
-        more: t.more && k == input.len(),
+        run: next,
+        count: keep(input, t.count, end),
+        more: true,
     }
 }
 
 // Reads part after part. Each that is not the last counts its lines, which end with the 1,000,001st.
-fn read_parts(
-    n: usize,
-    order: &mut [usize; 32],
-    labels: &mut Labels,
-    jobs: &mut Jobs,
-    control: &mut Control,
-    results: &mut Results,
-    input: &mut [u8; 73728],
-    out: &mut [u8; 65536],
-)
-    requires { ⌜ Runnable (arrays n (now labels) (now jobs) (now control) (now results)) (now order) ⌝ }
-{
-    let mut lines: u32 = 1;
-    let mut more = true;
-    while more {
-        let t = read_part(lines, n, order, labels, jobs, control, results, input, out);
-        lines = t.lines;
-        more = t.more;
-    }
-}
-
-// Serves the lines after the header, from the fresh table of n stations.
-fn run(n: usize)
-    requires { ⌜ (2 ≤ n) × (n ≤ 32) ⌝ }
-{
+fn main() {
+    let mut order = [0usize; 32];
     let mut labels = [[[0u8; 31]; 32]; 2];
     let mut jobs = [[0u32; 32]; 2];
     let mut control = [[0u8; 32]; 2];
     let mut results = [[[0u32; 32]; 2]; 32];
-    arrays::refresh(n, &mut labels, &mut jobs, &mut control, &mut results);
-    let mut order = rows::order::order(&labels[0], n);
     let mut input = [0u8; 73728];
     let mut out = [0u8; 65536];
-    read_parts(
-        n,
+    let mut run = file::start(
         &mut order,
         &mut labels,
         &mut jobs,
         &mut control,
         &mut results,
-        &mut input,
-        &mut out,
     );
-}
-
-fn main() {
-    let n = read_header();
-    if n != 0 {
-        run(n);
+    let mut kept = 0;
+    let mut more = true;
+    while more {
+        let t = read_part(
+            run,
+            kept,
+            &mut order,
+            &mut labels,
+            &mut jobs,
+            &mut control,
+            &mut results,
+            &mut input,
+            &mut out,
+        );
+        let next = t.run;
+        run = next;
+        kept = t.count;
+        more = t.more;
     }
 }

@@ -23,7 +23,7 @@ use Rattle.simulation.proofs.Advances.{met-length, fit-weaken}
 use Rattle.simulation.proofs.Judged.{Own, own-place, Verdict, turned, begins, scans, updates, snaps, ends, service, verdict-in}
 use Rattle.simulation.proofs.Reports.{lines-length}
 use Rattle.transition.specs.Forms.{Form, TableAnswer, freshTable}
-use Rattle.transition.specs.Demand.{run, seen}
+use Rattle.transition.specs.Demand.{runTable, seenIn}
 use Rattle.transition.specs.Demand as Demand
 use Rattle.transition.specs.Numbers.{withNumbers, Numbers}
 use Rattle.transition.specs.Logs.{lists, Right, fitsNext, atFront, right}
@@ -260,18 +260,18 @@ report-half b {n} {calls} {ns} h R =
 
 -- RIGHT LOGS: numbers that do for the calls (02, Card 6), with the lists of the table of labels
 pub logged : {F : Form} {n : ℕ} {calls : Lists.List Call} {ns : Lists.List ℕ} → Numbers F n calls ns → length calls ≤ 4294967295
-    → Right (F .board) n calls ns (lists (map (λ a. a .report) (run F (freshTable F n) calls)))
+    → Right (F .board) n calls ns (lists (map (λ a. a .report) (runTable F (freshTable F n) calls)))
 logged {F} {n} {calls} {ns} N few = record {
   fits = record { one = N .fits .one; each = all-weaken (fit-weaken low) (labelSnaps (F .board) n (fresh 0) ns calls) (N .fits .each) };
-  report = ap lists (sym (map-map (λ (s : Seen). s .report) (seen F) xs) ∙ ap (map (λ (s : Seen). s .report)) (N .same)
+  report = ap lists (sym (map-map (λ (s : Seen). s .report) (seenIn F) xs) ∙ ap (map (λ (s : Seen). s .report)) (N .same)
       ∙ map-map (λ (s : Seen). s .report) (Machine.seen n) ys);
 }
   where
     xs : Lists.List (TableAnswer (F .Table))
-    xs = run F (freshTable F n) calls
+    xs = runTable F (freshTable F n) calls
 
     ys : Lists.List (Answer ℕ)
     ys = withNumbers (F .board) n ns calls
 
-    low : Demand.snaps F (freshTable F n) calls ≤ 4294967295
+    low : Demand.tableSnaps F (freshTable F n) calls ≤ 4294967295
     low = omega (arith, N .each, N .fits .one, met-few (F .board) n calls (fresh 0) ns)

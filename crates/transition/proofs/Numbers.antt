@@ -16,16 +16,16 @@ use Rattle.simulation.proofs.Advances.{run-advances}
 use Rattle.simulation.proofs.Follow as Follow
 use Rattle.simulation.proofs.Simulation.{numbering}
 use Rattle.transition.specs.Forms.{Form, freshTable}
-use Rattle.transition.specs.Demand.{snaps, unbounded}
-use Rattle.transition.specs.Numbers.{withNumbers, newestSnaps, Numbers}
+use Rattle.transition.specs.Demand.{tableSnaps, unbounded}
+use Rattle.transition.specs.Numbers.{withNumbers, tableNewestSnaps, Numbers}
 use Rattle.transition.proofs.Reached.{Reached, reached-fresh}
 use Rattle.transition.proofs.Theorem.{Lawful, reached-held, reached-passes, reached-written, reached-next, Runs, runs}
 
 module _ (F : Form) (L : Lawful F) (n : ℕ) (low : 2 ≤ n) (high : n ≤ 32) where
   -- whether snaps are the newest's is told alike by the table of a reached state and by the machine
   newest-written : (cs : Lists.List Call) (s : State Labels.Label) → Reached n s
-      → newestSnaps F (F .written n s) cs ≡ Numbered.newestSnaps original n (digits n) s cs
-  unfolding newestSnaps Numbered.newestSnaps
+      → tableNewestSnaps F (F .written n s) cs ≡ Numbered.newestSnaps original n (digits n) s cs
+  unfolding tableNewestSnaps Numbered.newestSnaps
   newest-written [] s r = refl
   newest-written (c ∷ cs) s r = rw (reached-passes F L n low high r, reached-written F L n low high r c)
       (ap₂ _++_ here (newest-written cs (step original n (digits n) s c .state) (reached-next F L n low high r c)))
@@ -42,7 +42,7 @@ module _ (F : Form) (L : Lawful F) (n : ℕ) (low : 2 ≤ n) (high : n ≤ 32) w
   numbers-do {calls} {ns} N = record {
     each = N .each ∙ sym (R .count);
     newest = N .newest ∙ sym (newest-written calls (fresh (λ p. 1)) start);
-    fits = subst (λ B. Fits B n (snaps F (freshTable F n) calls) (fresh 0) ns calls) (sym (L .board))
+    fits = subst (λ B. Fits B n (tableSnaps F (freshTable F n) calls) (fresh 0) ns calls) (sym (L .board))
         (subst (λ k. Fits original n k (fresh 0) ns calls) (sym (R .count)) (N .fits));
     same = R .same ∙ N .same ∙ ap (λ B. map (Machine.seen n) (withNumbers B n ns calls)) (sym (L .board));
     grown = subst (λ B. withNumbers B n ns calls ≡ unbounded B n (advances B n (fresh 0) ns calls) calls) (sym (L .board))

@@ -12,8 +12,8 @@ use Rattle.simulation.specs.Machine as Machine
 use Rattle.simulation.specs.Machine.{Seen}
 use Rattle.simulation.specs.Calls.{Room, Buffer, Panel, Call, Entry, reportLines, panelRecords, Report, Bytes, Records, capacity, size, bytesOf, written}
 use Rattle.transition.specs.Forms.{Form, TableAnswer, over, onto, freshTable, stepOf}
-use Rattle.transition.specs.Demand.{run, seen, unbounded, Demand3}
-use Rattle.transition.specs.Sequences.{Steps, Made, callOf, firstOf, told, Sequence, SequenceDemand}
+use Rattle.transition.specs.Demand.{runTable, seenIn, unbounded, Demand3}
+use Rattle.transition.specs.Sequences.{Steps, Made, callMade, firstOf, told, Sequence, SequenceDemand}
 use Rattle.transition.proofs.Theorem.{Lawful, step-report, step-bytes, step-kept, demand}
 
 -- a buffer with these bytes at its front, read by their count
@@ -76,20 +76,20 @@ same-counts n f xs ys e =
 
 module _ (F : Form) where
   -- what a call hands back is the answer of `stepOf`
-  module _ (t : F .Table) (x : Made (F .Table)) (s : Steps F t (callOf x) (x .lent) (x .table) (x .refusal) (x .written) (x .lent′)) where
-    answer-read : told x .report ≡ stepOf F t (callOf x) .report
+  module _ (t : F .Table) (x : Made (F .Table)) (s : Steps F t (callMade x) (x .lent) (x .table) (x .refusal) (x .written) (x .lent′)) where
+    answer-read : told x .report ≡ stepOf F t (callMade x) .report
     answer-read =
-        let h = step-report F t (callOf x) in
+        let h = step-report F t (callMade x) in
         report-read (x .line) (x .lent) (h .0) (s .count ∙ ap size (h .1)) (s .report ∙ ap (λ r. onto r (x .lent)) (h .1)) ∙ sym (h .1)
 
-    answer-is : told x ≡ stepOf F t (callOf x)
+    answer-is : told x ≡ stepOf F t (callMade x)
     answer-is i = record { table = s .table i; refusal = s .number i; report = answer-read i }
 
-  sequence-run : (t : F .Table) (xs : Lists.List (Made (F .Table))) → Sequence F t xs → map told xs ≡ run F t (map callOf xs)
-  unfolding run
+  sequence-run : (t : F .Table) (xs : Lists.List (Made (F .Table))) → Sequence F t xs → map told xs ≡ runTable F t (map callMade xs)
+  unfolding runTable
   sequence-run t [] q = refl
   sequence-run t (x ∷ xs) q =
-      ap₂ _∷_ (answer-is t x (q .0)) (sequence-run (x .table) xs (q .1) ∙ ap (λ a. run F a (map callOf xs)) (q .0 .table))
+      ap₂ _∷_ (answer-is t x (q .0)) (sequence-run (x .table) xs (q .1) ∙ ap (λ a. runTable F a (map callMade xs)) (q .0 .table))
 
   sequence-counted : (t : F .Table) (xs : Lists.List (Made (F .Table))) → Sequence F t xs → map (λ x. x .written) xs ≡ map (λ x. size (told x .report)) xs
   sequence-counted t [] q = refl
@@ -104,12 +104,12 @@ module _ (F : Form) where
   sequence-demand L n p q xs s = record {
     demand = d;
     same = same;
-    counted = sequence-counted (freshTable F n) xs s ∙ same-counts n (λ x. seen F (told x)) xs (unbounded (F .board) n (d .advances) (map callOf xs)) same;
+    counted = sequence-counted (freshTable F n) xs s ∙ same-counts n (λ x. seenIn F (told x)) xs (unbounded (F .board) n (d .advances) (map callMade xs)) same;
     kept = sequence-kept (freshTable F n) xs s;
   }
     where
-      d : Demand3 F n (map callOf xs)
-      d = demand F L n p q (map callOf xs)
+      d : Demand3 F n (map callMade xs)
+      d = demand F L n p q (map callMade xs)
 
-      same : map (λ x. seen F (told x)) xs ≡ map (Machine.seen n) (unbounded (F .board) n (d .advances) (map callOf xs))
-      same = sym (map-map (seen F) told xs) ∙ ap (map (seen F)) (sequence-run (freshTable F n) xs s) ∙ d .same
+      same : map (λ x. seenIn F (told x)) xs ≡ map (Machine.seen n) (unbounded (F .board) n (d .advances) (map callMade xs))
+      same = sym (map-map (seenIn F) told xs) ∙ ap (map (seenIn F)) (sequence-run (freshTable F n) xs s) ∙ d .same

@@ -19,7 +19,7 @@ use Rattle.simulation.proofs.Touched.{refused-stays}
 use Rattle.simulation.proofs.Follow.{run-cons, snaps-cons, Simulates}
 use Rattle.simulation.proofs.Simulation.{simulation}
 use Rattle.transition.specs.Forms.{Form, TableAnswer, refuse, freshTable, answered, stepOf, after}
-use Rattle.transition.specs.Demand.{run, snaps, seen, unbounded, Demand3}
+use Rattle.transition.specs.Demand.{runTable, tableSnaps, seenIn, unbounded, Demand3}
 use Rattle.transition.proofs.Written.{Writable}
 use Rattle.transition.proofs.Reached.{Reached, reached-fresh, reached-step}
 
@@ -95,9 +95,9 @@ step-kept F t same c d = go (F .wellFormed t) refl
 
 -- a sequence of calls on the table of the state s is one on the bounded machine, and none of them is refused by 13
 pub record Runs (F : Form) (n : ℕ) (s : State Labels.Label) (cs : Lists.List Call) : Type 0 where
-  pub same : map (seen F) (run F (F .written n s) cs) ≡ map (Machine.seen n) (Machine.run original n (λ _. digits n) s [] cs)
-  pub count : snaps F (F .written n s) cs ≡ Machine.snaps original n (λ _. digits n) s [] cs
-  pub never13 : All (λ a. a .refusal ≢ 13) (run F (F .written n s) cs)
+  pub same : map (seenIn F) (runTable F (F .written n s) cs) ≡ map (Machine.seen n) (Machine.run original n (λ _. digits n) s [] cs)
+  pub count : tableSnaps F (F .written n s) cs ≡ Machine.snaps original n (λ _. digits n) s [] cs
+  pub never13 : All (λ a. a .refusal ≢ 13) (runTable F (F .written n s) cs)
 
 module _ (F : Form) (L : Lawful F) (n : ℕ) (low : 2 ≤ n) (high : n ≤ 32) where
   abbrev answer : State Labels.Label → Call → Machine.Answer Labels.Label
@@ -123,7 +123,7 @@ module _ (F : Form) (L : Lawful F) (n : ℕ) (low : 2 ≤ n) (high : n ≤ 32) w
       pub reached-next : Reached n (answer s c .state)
       reached-next = reached-step n (omega arith) high s r c
 
-      seen-written : seen F (answered F n (answer s c)) ≡ Machine.seen n (answer s c)
+      seen-written : seenIn F (answered F n (answer s c)) ≡ Machine.seen n (answer s c)
       seen-written = ap₂ (λ k u. Machine.seen k (record { state = u; refusal = answer s c .refusal; report = answer s c .report }))
           (L .counted n (answer s c .state)) (L .held n high (answer s c .state) (reached-next .writable))
 
@@ -131,28 +131,28 @@ module _ (F : Form) (L : Lawful F) (n : ℕ) (low : 2 ≤ n) (high : n ≤ 32) w
       unfolding step
       not-13 e = tf (refusals n c (ordered n (stands (digits n) (s .labels))) (s .rest) .known) (rw e refl)
 
-      run-written : (cs : Lists.List Call) → run F (F .written n s) (c ∷ cs) ≡ answered F n (answer s c) ∷ run F (F .written n (answer s c .state)) cs
-      unfolding run
+      run-written : (cs : Lists.List Call) → runTable F (F .written n s) (c ∷ cs) ≡ answered F n (answer s c) ∷ runTable F (F .written n (answer s c .state)) cs
+      unfolding runTable
       run-written cs = rw reached-written refl
 
-      snaps-written : (cs : Lists.List Call) → snaps F (F .written n s) (c ∷ cs) ≡ snapsOf original n s c + snaps F (F .written n (answer s c .state)) cs
-      unfolding snaps snapsOf
+      snaps-written : (cs : Lists.List Call) → tableSnaps F (F .written n s) (c ∷ cs) ≡ snapsOf original n s c + tableSnaps F (F .written n (answer s c .state)) cs
+      unfolding tableSnaps snapsOf
       snaps-written cs = rw (reached-passes, reached-written)
           (ap (λ B. snapsOf B (F .count (F .written n s)) (F .state (F .written n s)) c + rest) (L .board)
           ∙ ap₂ (λ k (u : State Labels.Label). snapsOf original k u c + rest) (L .counted n s) reached-held)
         where
           rest : ℕ
-          rest = snaps F (F .written n (answer s c .state)) cs
+          rest = tableSnaps F (F .written n (answer s c .state)) cs
 
       one-more : (cs : Lists.List Call) → Runs F n (answer s c .state) cs → Runs F n s (c ∷ cs)
       one-more cs R = record {
-        same = ap (map (seen F)) (run-written cs) ∙ ap₂ _∷_ seen-written (R .same) ∙ ap (map (Machine.seen n)) (sym (run-cons original n (digits n) s c cs));
+        same = ap (map (seenIn F)) (run-written cs) ∙ ap₂ _∷_ seen-written (R .same) ∙ ap (map (Machine.seen n)) (sym (run-cons original n (digits n) s c cs));
         count = snaps-written cs ∙ ap (λ k. snapsOf original n s c + k) (R .count) ∙ sym (snaps-cons original n (digits n) s c cs);
         never13 = subst (All (λ a. a .refusal ≢ 13)) (sym (run-written cs)) (not-13, R .never13);
       }
 
   pub runs : (cs : Lists.List Call) (s : State Labels.Label) → Reached n s → Runs F n s cs
-  unfolding Machine.run Machine.snaps run snaps
+  unfolding Machine.run Machine.snaps runTable tableSnaps
   runs [] s r = record { same = refl; count = refl; never13 = tt }
   runs (c ∷ cs) s r = one-more r c cs (runs cs (answer s c .state) (reached-next r c))
 
@@ -164,8 +164,8 @@ module _ (F : Form) (L : Lawful F) (n : ℕ) (low : 2 ≤ n) (high : n ≤ 32) w
     each = S .each ∙ sym (R .count);
     eachᵘ = S .eachᵘ ∙ ap (λ B. Machine.snaps B n numbers (fresh 0) (S .advances) calls) (sym (L .board));
     same = R .same ∙ S .same ∙ ap (λ B. map (Machine.seen n) (unbounded B n (S .advances) calls)) (sym (L .board));
-    bound = λ k. subst (λ B. All (Bounded n (snaps F (freshTable F n) calls)) (unbounded B n (S .advances) (take k calls))) (sym (L .board))
-        (all-taken (Bounded n (snaps F (freshTable F n) calls)) n k calls (fresh 0) (S .advances)
+    bound = λ k. subst (λ B. All (Bounded n (tableSnaps F (freshTable F n) calls)) (unbounded B n (S .advances) (take k calls))) (sym (L .board))
+        (all-taken (Bounded n (tableSnaps F (freshTable F n) calls)) n k calls (fresh 0) (S .advances)
         (subst (λ b. All (Bounded n b) (unbounded original n (S .advances) calls)) (sym (R .count)) (S .bound)));
     never13 = R .never13;
   }
@@ -233,6 +233,6 @@ same-after F G L M n low high cs = machine F L cs (fresh (λ p. 1)) (reached-fre
 
 -- and so is all that is seen of their answers
 pub same-seen : (F G : Form) → Lawful F → Lawful G → (n : ℕ) → 2 ≤ n → n ≤ 32 → (cs : Lists.List Call)
-    → map (seen F) (run F (freshTable F n) cs) ≡ map (seen G) (run G (freshTable G n) cs)
+    → map (seenIn F) (runTable F (freshTable F n) cs) ≡ map (seenIn G) (runTable G (freshTable G n) cs)
 same-seen F G L M n low high cs =
     let r = reached-fresh n (omega arith) in runs F L n low high cs (fresh (λ p. 1)) r .same ∙ sym (runs G M n low high cs (fresh (λ p. 1)) r .same)

@@ -14,18 +14,18 @@ use Rattle.transition.specs.Forms.{Form, TableAnswer, freshTable, stepOf
 
 module _ (F : Form) where
   -- the answers to a sequence of calls, each on the table that the one before it left
-  unfoldable pub run : F .Table → Lists.List Call → Lists.List (TableAnswer (F .Table))
-  run t [] = []
-  run t (c ∷ cs) = let a = stepOf F t c in a ∷ run (a .table) cs
+  unfoldable pub runTable : F .Table → Lists.List Call → Lists.List (TableAnswer (F .Table))
+  runTable t [] = []
+  runTable t (c ∷ cs) = let a = stepOf F t c in a ∷ runTable (a .table) cs
 
   -- how many snaps for a label the table accepts
-  unfoldable pub snaps : F .Table → Lists.List Call → ℕ
-  snaps t [] = 0
-  snaps t (c ∷ cs) = cond (F .wellFormed t) (snapsOf (F .board) (F .count t) (F .state t) c) 0 + snaps (stepOf F t c .table) cs
+  unfoldable pub tableSnaps : F .Table → Lists.List Call → ℕ
+  tableSnaps t [] = 0
+  tableSnaps t (c ∷ cs) = cond (F .wellFormed t) (snapsOf (F .board) (F .count t) (F .state t) c) 0 + tableSnaps (stepOf F t c .table) cs
 
   -- what is compared after each call: the refusal, the bytes or records written, the results that all stations hold, and which are out of service
-  abbrev pub seen : TableAnswer (F .Table) → Seen
-  seen a = Machine.seen (F .count (a .table)) (record { state = F .state (a .table); refusal = a .refusal; report = a .report })
+  abbrev pub seenIn : TableAnswer (F .Table) → Seen
+  seenIn a = Machine.seen (F .count (a .table)) (record { state = F .state (a .table); refusal = a .refusal; report = a .report })
 
 -- the same of the board's unbounded table of n stations, from its fresh state, with these advances
 abbrev pub unbounded : Board → ℕ → Lists.List ℕ → Lists.List Call → Lists.List (Machine.Answer ℕ)
@@ -37,8 +37,8 @@ unbounded B n advances calls = Machine.run B n numbers (Machine.fresh 0) advance
 pub record Demand3 (F : Form) (n : ℕ) (calls : Lists.List Call) : Type 0 where
   pub advances : Lists.List ℕ
   pub whole : All (λ a. 1 ≤ a) advances
-  pub each : length advances ≡ snaps F (freshTable F n) calls
+  pub each : length advances ≡ tableSnaps F (freshTable F n) calls
   pub eachᵘ : length advances ≡ Machine.snaps (F .board) n numbers (Machine.fresh 0) advances calls
-  pub same : map (seen F) (run F (freshTable F n) calls) ≡ map (Machine.seen n) (unbounded (F .board) n advances calls)
-  pub bound : (k : ℕ) → All (Bounded n (snaps F (freshTable F n) calls)) (unbounded (F .board) n advances (take k calls))
-  pub never13 : All (λ a. a .refusal ≢ 13) (run F (freshTable F n) calls)
+  pub same : map (seenIn F) (runTable F (freshTable F n) calls) ≡ map (Machine.seen n) (unbounded (F .board) n advances calls)
+  pub bound : (k : ℕ) → All (Bounded n (tableSnaps F (freshTable F n) calls)) (unbounded (F .board) n advances (take k calls))
+  pub never13 : All (λ a. a .refusal ≢ 13) (runTable F (freshTable F n) calls)

@@ -10,7 +10,7 @@ use Rattle.simulation.specs.Machine as Machine
 use Rattle.simulation.specs.Machine.{Board, digits, labelStep}
 use Rattle.simulation.specs.Numbered.{numbered, Fits, Gapless, advances, newestSnap, zeros}
 use Rattle.transition.specs.Forms.{Form, freshTable, stepOf}
-use Rattle.transition.specs.Demand.{run, snaps, seen, unbounded}
+use Rattle.transition.specs.Demand.{runTable, tableSnaps, seenIn, unbounded}
 
 -- the answers of the board's unbounded table of n stations, from its fresh state, where these numbers take the place of advances: each accepted snap for a
 -- label uses up the next one, which becomes the pending number unless the station is the newest
@@ -18,12 +18,12 @@ abbrev pub withNumbers : Board → ℕ → Lists.List ℕ → Lists.List Call �
 withNumbers B n ns calls = Machine.run B n numbered (Machine.fresh 0) ns calls
 
 -- of each snap for a label that the table accepts, whether its station is the newest
-unfoldable pub newestSnaps : (F : Form) → F .Table → Lists.List Call → Lists.List Bool
-newestSnaps F t [] = []
-newestSnaps F t (c ∷ cs) =
+unfoldable pub tableNewestSnaps : (F : Form) → F .Table → Lists.List Call → Lists.List Bool
+tableNewestSnaps F t [] = []
+tableNewestSnaps F t (c ∷ cs) =
     let n = F .count t in
     let s = F .state t in
-    cond (F .wellFormed t) (newestSnap n (digits n) (s .labels) (labelStep (F .board .judge n (s .rest) c))) [] ++ newestSnaps F (stepOf F t c .table) cs
+    cond (F .wellFormed t) (newestSnap n (digits n) (s .labels) (labelStep (F .board .judge n (s .rest) c))) [] ++ tableNewestSnaps F (stepOf F t c .table) cs
 
 -- These numbers do for the calls on the fresh table of n stations (02, Card 6):
 -- - each: there is one for each accepted snap for a label;
@@ -34,9 +34,9 @@ newestSnaps F t (c ∷ cs) =
 -- - gapless: those that are not 0 are 1, 2 and so on, in any order, equal ones allowed.
 -- Several lists may do: for one, stations whose labels are equal may share a number or not.
 pub record Numbers (F : Form) (n : ℕ) (calls : Lists.List Call) (ns : Lists.List ℕ) : Type 0 where
-  pub each : length ns ≡ snaps F (freshTable F n) calls
-  pub newest : zeros ns ≡ newestSnaps F (freshTable F n) calls
-  pub fits : Fits (F .board) n (snaps F (freshTable F n) calls) (Machine.fresh 0) ns calls
-  pub same : map (seen F) (run F (freshTable F n) calls) ≡ map (Machine.seen n) (withNumbers (F .board) n ns calls)
+  pub each : length ns ≡ tableSnaps F (freshTable F n) calls
+  pub newest : zeros ns ≡ tableNewestSnaps F (freshTable F n) calls
+  pub fits : Fits (F .board) n (tableSnaps F (freshTable F n) calls) (Machine.fresh 0) ns calls
+  pub same : map (seenIn F) (runTable F (freshTable F n) calls) ≡ map (Machine.seen n) (withNumbers (F .board) n ns calls)
   pub grown : withNumbers (F .board) n ns calls ≡ unbounded (F .board) n (advances (F .board) n (Machine.fresh 0) ns calls) calls
   pub gapless : Gapless ns

@@ -7,14 +7,14 @@ use mathlib.Core.Bool.{Bool, true, false, cond}
 use mathlib.Core.List.{List, [], _++_}
 use lib.ListN.{length, getD, set, take, replicate}
 use lib.Seq.{getD-take}
-use lib.Dec.{ltb}
+use lib.Dec.{eqb, ltb}
 use borrow.Author.Tests.{ltb-true, lt-ltb, le-ltb, eq-eqb, ne-eqb}
 use Rattle.basics.specs.Tests.{newest, inserted, ordered}
 use Rattle.basics.proofs.Facts.{tf, by-here, ordered-length}
 use Rattle.label.proofs.Digits.{Tri, lt, eq, gt, compare}
 use Rattle.label.proofs.Total.{Total}
 use Rattle.rows.proofs.OrderLaws.{putIn, inserted-at, shift-starts, shift-ends, listed-below, orderIn, order-front, order-turns, Displaced, last-newest}
-use Rattle.simulation.specs.Machine.{Labelling, numberBefore, stands, put, pendingAfter, labelStep, snap, relabelled}
+use Rattle.simulation.specs.Machine.{Labelling, numberBefore, stands, put, pendingAfter, LabelStep, stay, snap, update, labelStep, relabelled}
 use Rattle.simulation.specs.Numbered.{numbered}
 use Rattle.simulation.proofs.Sync.{number-less, number-more, number-same}
 use Rattle.moves.specs.Moves.{moveOf}
@@ -24,7 +24,7 @@ use Rattle.moves.proofs.MoveLaws.{by-move}
 use Rattle.arrays.specs.Arrays.{Rows}
 use Rattle.arrays.specs.Planes.{beside}
 use Rattle.arrays.proofs.Planes.{alike, getD-none}
-use Rattle.unbounded.specs.Numbers.{standsBy, orderBy, NumberedBefore}
+use Rattle.unbounded.specs.Numbers.{standsBy, orderBy, NumberedBefore, steppedBy}
 
 -- STANDS BEFORE
 
@@ -119,17 +119,16 @@ order-newest n v numbers order e h = last-newest n (standsBy (getD numbers 0 [])
 
 -- A MOVE
 
+-- where z is the newest, the step is the machine's
+pub newest-step : (n z v : ℕ) (N : Labelling ℕ) (w : LabelStep) → z ≡ newest n (stands (numbered v) N) → steppedBy z v N w ≡ relabelled n (numbered v) N w
+unfolding relabelled pendingAfter
+newest-step n z v N stay e = refl
+newest-step n z v N (update k) e = refl
+newest-step n z v N (snap k) e = by-here (λ b. cond b N (put N k v) ≡ put N k (cond b (N true k) v)) z k
+    (λ _. sym (alike (λ i. refl) (λ i. by-here (λ b. cond b (N true k) (N true i) ≡ N true i) k i (λ f. ap (N true) (sym f)) (λ _. refl))))
+    (λ _. refl) ∙ ap (λ y. put N k (cond (eqb k y) (N true k) v)) e
+
 module _ (n v : ℕ) (N : Labelling ℕ) (k : ℕ) where
-  -- a snap for a label by the newest leaves the numbers; by another it makes v pending
-  pub newest-snapped : k ≡ newest n (stands (numbered v) N) → N ≡ relabelled n (numbered v) N (snap k)
-  unfolding relabelled pendingAfter
-  newest-snapped e = rw (eq-eqb k (newest n (stands (numbered v) N)) e) (sym (alike (λ i. refl)
-      (λ i. by-here (λ b. cond b (N true k) (N true i) ≡ N true i) k i (λ f. ap (N true) (sym f)) (λ _. refl))))
-
-  pub other-snapped : k ≢ newest n (stands (numbered v) N) → put N k v ≡ relabelled n (numbered v) N (snap k)
-  unfolding relabelled pendingAfter
-  other-snapped d = rw (ne-eqb k (newest n (stands (numbered v) N)) d) refl
-
   -- only an update changes a current number, that of its station
   module _ (job : ℕ) (m : Move) {N′ : Labelling ℕ} (e : N′ ≡ relabelled n (numbered v) N (labelStep (moveOf k job m))) (i : ℕ) where
     abbrev Stays : Move → Type 0

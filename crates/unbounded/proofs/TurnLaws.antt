@@ -24,9 +24,10 @@ use Rattle.transition.specs.Logs.{fitsNext}
 use Rattle.transition.proofs.Written.{WritableRest, rest-step}
 use Rattle.transition.proofs.Reached.{scan-sound, rest-fresh}
 use Rattle.moves.specs.Moves.{moveOf, callOf}
-use Rattle.moves.proofs.MoveLaws.{by-move}
+use Rattle.moves.proofs.MoveLaws.{by-move, step-any}
 use Rattle.moves.specs.declared.Move.{Move}
 use Rattle.moves.specs.declared.Move.the-variants.{SnapLabel, Update}
+use Rattle.moves.specs.declared.Refusal.the-variants.{Accepted}
 use Rattle.arrays.specs.Arrays.{Rows, Planes, cell, entriesIn, Holds}
 use Rattle.arrays.specs.Planes.{beside}
 use Rattle.arrays.proofs.Results.{entries-listed}
@@ -37,11 +38,10 @@ use Rattle.engine.proofs.Served.{place-inside, judged-few, rest-ready, rest-jud
 use Rattle.engine.specs.declared.Handed.{Handed}
 use Rattle.moves.specs.declared.Request.{Request}
 use Rattle.engine.specs.declared.Task.{Task}
-use Rattle.unbounded.specs.Numbers.{orderBy, NumberedBefore, Renumbers}
-use Rattle.unbounded.specs.Tables.{Table, table, restOf, stateOf, Runnable, GivenTo, Turns}
+use Rattle.unbounded.specs.Numbers.{orderBy, NumberedBefore, steppedBy}
+use Rattle.unbounded.specs.Tables.{Table, table, restᵘ, stateᵘ, Runnableᵘ, GivenTo, Turnsᵘ}
 use Rattle.unbounded.specs.declared.Given.{Given}
-use Rattle.unbounded.specs.declared.Turn.{Turn}
-use Rattle.unbounded.proofs.NumberLaws.{order-first, order-newest, order-stays, order-before}
+use Rattle.unbounded.proofs.NumberLaws.{newest-step, order-first, order-newest, order-stays, order-before}
 
 -- WHAT A MOVE IS GIVEN
 
@@ -125,7 +125,7 @@ rows-named n rows high k a p h =
     at : getD (entriesIn k rows) p none ≡ record { station = cell rows 0 p 0; job = cell rows 1 p 0 }
     at = getD-tabulate k 0 p _ none h ∙ ap (λ (i : ℕ). record { station = cell rows 0 i 0; job = cell rows 1 i 0 }) (zero-add p)
 
-module _ {t : Table} {order : Lists.List ℕ} (f : Runnable t order) where
+module _ {t : Table} {order : Lists.List ℕ} (f : Runnableᵘ t order) where
   abbrev n : ℕ
   n = t .count
 
@@ -135,7 +135,7 @@ module _ {t : Table} {order : Lists.List ℕ} (f : Runnable t order) where
   abbrev inOrder : ℕ → ℕ → Bool
   inOrder = stands (numbered 0) (beside (t .numbers))
 
-  writable : WritableRest n (restOf t)
+  writable : WritableRest n (restᵘ t)
   writable = record {
     listed = λ i. entries-listed n (getD (t .results) i []);
     phase = λ i. number-kept (cell (t .control) 0 i 0);
@@ -143,7 +143,7 @@ module _ {t : Table} {order : Lists.List ℕ} (f : Runnable t order) where
   }
 
   known : (i : ℕ) → i < n → cell (t .control) 0 i 0 ≤ 4
-  known i _ = held-phases n (f .high) (restOf t) writable (f .holds) i
+  known i _ = held-phases n (f .high) (restᵘ t) writable (f .holds) i
 
   front : take n order ≡ ordered n inOrder
   front = order-front 32 inOrder n order (f .isOrder)
@@ -152,9 +152,9 @@ module _ {t : Table} {order : Lists.List ℕ} (f : Runnable t order) where
   abbrev Names : Lists.List Entry → Type 0
   Names l = All (λ (e : Entry). e .station ≤ n) l
 
-  scan-names : Names (scanOf (restOf t .process) (ordered n inOrder))
-  scan-names = all-weaken (λ e h. h .1) (scanOf (restOf t .process) (ordered n inOrder))
-      (scan-sound n (omega (arith, f .low)) (restOf t .process) inOrder .each)
+  scan-names : Names (scanOf (restᵘ t .process) (ordered n inOrder))
+  scan-names = all-weaken (λ e h. h .1) (scanOf (restᵘ t .process) (ordered n inOrder))
+      (scan-sound n (omega (arith, f .low)) (restᵘ t .process) inOrder .each)
 
   pub turn-newest : getD order (n - 1) 0 ≡ newest n inOrder
   turn-newest = order-newest n 0 (t .numbers) order (f .isOrder) (omega (arith, f .low))
@@ -174,21 +174,30 @@ module _ {t : Table} {order : Lists.List ℕ} (f : Runnable t order) where
         (omega (arith, order-long 32 inOrder n order (f .isOrder) (f .high), f .high), λ p h. omega (arith, listed-below inOrder n order front p h, f .high))
         (rows-named n (getD (t .results) (x .place) []) (f .high) _ (f .named (x .place)))
 
-    judged : actionOf x ≡ judge false n (restOf t) c
+    judged : actionOf x ≡ judge false n (restᵘ t) c
     judged = rest-judged n (f .low) (t .jobs) (t .control) (t .results) known q (Buffer 928) _ x j
 
     module _ {log : Lists.List ℕ} {used : ℕ} {v : Given} (g : GivenTo (x .action) (x .place) (getD order (n - 1) 0) current log used v) where
-      turn-fits : v .fits ≡ fitsNext n (beside (t .numbers)) (labelStep (judge false n (restOf t) c)) (drop used log)
+      turn-fits : v .fits ≡ fitsNext n (beside (t .numbers)) (labelStep (judge false n (restᵘ t) c)) (drop used log)
       turn-fits = g .passes n (x .job) (beside (t .numbers)) refl turn-newest
           ∙ ap (λ w. fitsNext n (beside (t .numbers)) (labelStep w) (drop used log)) judged
 
       -- its number does not fit
-      pub turn-unfit : v .fits ≡ false → {r : Turn} → r .fits ≡ false → Turns t c log used t r
-      turn-unfit e d = record { fits = d ∙ sym e ∙ turn-fits; served = λ y. absurd (tf y d); kept = λ _. refl }
+      pub turn-unfit : v .fits ≡ false → Turnsᵘ t order c log used t order
+          (record { fits = false; used = used; handed = record { refusal = Accepted; place = x .place; entries = 0 } })
+      turn-unfit e = record {
+        fits = sym e ∙ turn-fits;
+        served = λ y. absurd (tf y refl);
+        kept = λ _. record {
+          table = refl;
+          listed = refl;
+          turn = ap (λ i. record { fits = false; used = used; handed = record { refusal = Accepted; place = i; entries = 0 } }) (j .place);
+        };
+      }
 
       -- its number fits: the rest is carried out, and the numbers are
       module _ (e : v .fits ≡ true) {j′ c′ : Rows} {r′ : Planes} {h : Handed} (k : CarriesRest (restAfter n (t .jobs) (t .control) (t .results) x order) x j′ c′ r′ h)
-          {numbers′ : Rows} (l : Renumbers (x .action) (x .place) (getD order (n - 1) 0) (v .number) (t .numbers) numbers′) where
+          (numbers′ : Rows) (l : beside numbers′ ≡ steppedBy (getD order (n - 1) 0) (v .number) (beside (t .numbers)) (labelStep (moveOf (x .place) 0 (x .action)))) where
         abbrev left : Table
         left = table n numbers′ j′ c′ r′
 
@@ -196,7 +205,8 @@ module _ {t : Table} {order : Lists.List ℕ} (f : Runnable t order) where
         next = getD (drop used log) 0 0
 
         renumbered : beside numbers′ ≡ relabelled n (numbered (v .number)) (beside (t .numbers)) (labelStep (actionOf x))
-        renumbered = l .each n (x .job) turn-newest
+        renumbered = l ∙ ap (steppedBy (getD order (n - 1) 0) (v .number) (beside (t .numbers))) (step-any (x .place) (x .job) (x .action))
+            ∙ newest-step n (getD order (n - 1) 0) (v .number) (beside (t .numbers)) (labelStep (actionOf x)) turn-newest
 
         pub turn-before : NumberedBefore n (getD numbers′ 0 []) (x .place) order
         turn-before = order-before n (v .number) (x .place) (x .job) (x .action) (t .numbers) numbers′ renumbered (f .isOrder)
@@ -205,48 +215,45 @@ module _ {t : Table} {order : Lists.List ℕ} (f : Runnable t order) where
         turn-kept d = f .isOrder ∙ order-stays n (v .number) (x .place) (x .job) (x .action) (t .numbers) numbers′ renumbered d
 
         -- what the machine comes to
-        outcome : restAfter n (t .jobs) (t .control) (t .results) x order ≡ carryOut (ordered n inOrder) (restOf t) (judge false n (restOf t) c)
-        outcome = ap₂ (λ l w. carryOut l (restOf t) w) front judged
+        outcome : restAfter n (t .jobs) (t .control) (t .results) x order ≡ carryOut (ordered n inOrder) (restᵘ t) (judge false n (restᵘ t) c)
+        outcome = ap₂ (λ l w. carryOut l (restᵘ t) w) front judged
 
         abbrev after : Outcome
-        after = carryOut (ordered n inOrder) (restOf t) (judge false n (restOf t) c)
+        after = carryOut (ordered n inOrder) (restᵘ t) (judge false n (restᵘ t) c)
 
         held : Holds (after .rest) j′ c′ r′
         held = subst (λ (y : Outcome). Holds (y .rest) j′ c′ r′) outcome (k .holds)
 
         after-writable : WritableRest n (after .rest)
-        after-writable = rest-step n (restOf t) writable c (ordered n inOrder) (ordered-length inOrder n)
+        after-writable = rest-step n (restᵘ t) writable c (ordered n inOrder) (ordered-length inOrder n)
 
-        rest-left : restOf left ≡ after .rest
+        rest-left : restᵘ left ≡ after .rest
         rest-left = rest-held n (f .high) (after .rest) after-writable held
 
-        labels-left : beside numbers′ ≡ relabelled n (numbered next) (beside (t .numbers)) (labelStep (judge false n (restOf t) c))
+        labels-left : beside numbers′ ≡ relabelled n (numbered next) (beside (t .numbers)) (labelStep (judge false n (restᵘ t) c))
         labels-left = renumbered ∙ number-unused n (v .number) next (beside (t .numbers)) (x .place) (x .job) (x .action) (g .next e)
             ∙ ap (λ w. relabelled n (numbered next) (beside (t .numbers)) (labelStep w)) judged
 
-        pub turn-served : {r : Turn} → r .fits ≡ true → r .used ≡ used + v .taken → r .place ≡ h .place → r .entries ≡ h .entries → Turns t c log used left r
+        pub turn-served : {order′ : Lists.List ℕ} → Turnsᵘ t order c log used left order′ (record { fits = true; used = used + v .taken; handed = h })
         unfolding step snapsOf
-        turn-served {r} a b d u = record {
-          fits = a ∙ sym e ∙ turn-fits;
+        turn-served = record {
+          fits = sym e ∙ turn-fits;
           served = λ _. record {
             state = λ y. record { labels = labels-left y; rest = rest-left y };
-            counted = b ∙ ap (λ y. used + y) (g .counted e (x .job) ∙ ap (λ w. labelSnap (labelStep w)) judged);
-            inside = omega (arith, b, g .inside);
-            place = omega (arith, d, k .place, turn-place, f .high);
-            few = omega (
-              arith,
-              u,
-              k .entries,
-              judged-few n (f .low) (t .jobs) (t .control) (t .results) known q (Buffer 928) _ x j (f .high),
-            );
-            named = subst (λ y. Named y (getD r′ (r .place) [])) (sym u) (subst (λ y. Named (h .entries) (getD r′ y [])) (sym (d ∙ k .place)) (k .named));
+            counted = ap (λ y. used + y) (g .counted e (x .job) ∙ ap (λ w. labelSnap (labelStep w)) judged);
+            enough = g .inside;
+            number = k .number ∙ ap (λ (y : Outcome). y .refusal) outcome;
+            place = k .place ∙ j .place;
+            inside = omega (arith, k .place, turn-place, f .high);
+            few = omega (arith, k .entries, judged-few n (f .low) (t .jobs) (t .control) (t .results) known q (Buffer 928) _ x j (f .high));
+            named = subst (λ y. Named (h .entries) (getD r′ y [])) (sym (k .place)) (k .named);
             report = ap (reportLines (c .line) 1) (sym (ap (λ (y : Outcome). y .handed) outcome) ∙ k .handed
-                ∙ ap₂ (λ y z. entriesIn y (getD r′ z [])) (sym u) (sym (d ∙ k .place)));
+                ∙ ap (λ z. entriesIn (h .entries) (getD r′ z [])) (sym (k .place)));
           };
-          kept = λ y. absurd (tf a y);
+          kept = λ y. absurd (tf refl y);
         }
 
-        pub turn-runnable : {order′ : Lists.List ℕ} → order′ ≡ orderBy n (getD numbers′ 0 []) → Runnable left order′
+        pub turn-runnable : {order′ : Lists.List ℕ} → order′ ≡ orderBy n (getD numbers′ 0 []) → Runnableᵘ left order′
         turn-runnable o = record {
           low = f .low;
           high = f .high;
@@ -254,7 +261,7 @@ module _ {t : Table} {order : Lists.List ℕ} (f : Runnable t order) where
           past = λ i u. let w = after-writable .past i u in
               (ap (λ (o : Rest). o .process i) rest-left ∙ w .process, ap (λ (o : Rest). o .result i) rest-left ∙ w .result);
           named = λ i. subst (λ (o : Rest). Names (o .result i)) (sym rest-left)
-              (results-all Names (ordered n inOrder) (restOf t) scan-names (f .named) (judge false n (restOf t) c) i);
+              (results-all Names (ordered n inOrder) (restᵘ t) scan-names (f .named) (judge false n (restᵘ t) c) i);
           isOrder = o;
         }
 
@@ -263,13 +270,13 @@ module _ (n : ℕ) (low : 2 ≤ n) (high : n ≤ 32) {j c : Rows} {r : Planes} (
   abbrev freshTable : Table
   freshTable = table n (replicate 2 (replicate 32 0)) j c r
 
-  rest-first : restOf freshTable ≡ freshRest
+  rest-first : restᵘ freshTable ≡ freshRest
   rest-first = rest-held n high freshRest (rest-fresh n (omega (arith, low))) h
 
-  pub fresh-state : stateOf freshTable ≡ fresh 0
+  pub fresh-state : stateᵘ freshTable ≡ fresh 0
   fresh-state = λ y. record { labels = none-beside y; rest = rest-first y }
 
-  pub fresh-runnable : {order : Lists.List ℕ} → order ≡ ordered n (λ i j. numberBefore 0 i 0 j) ++ replicate (32 - n) 0 → Runnable freshTable order
+  pub fresh-runnable : {order : Lists.List ℕ} → order ≡ ordered n (λ i j. numberBefore 0 i 0 j) ++ replicate (32 - n) 0 → Runnableᵘ freshTable order
   fresh-runnable o = record {
     low = low;
     high = high;

@@ -2,17 +2,13 @@
 use Prim.Native.Nat.{ℕ, _-_, _<_}
 use mathlib.Core.Path.{_≡_}
 use mathlib.Core.Logic.{_≢_}
-use mathlib.Core.Bool.{Bool}
+use mathlib.Core.Bool.{Bool, cond}
 use mathlib.Core.List as Lists
 use mathlib.Core.List.{_++_}
 use lib.ListN.{getD, replicate}
-use Rattle.basics.specs.Tests.{newest, ordered}
-use Rattle.simulation.specs.Machine.{numberBefore, stands, labelStep, relabelled}
-use Rattle.simulation.specs.Numbered.{numbered}
-use Rattle.moves.specs.Moves.{moveOf}
-use Rattle.moves.specs.declared.Move.{Move}
-use Rattle.arrays.specs.Arrays.{Rows}
-use Rattle.arrays.specs.Planes.{beside}
+use lib.Dec.{eqb}
+use Rattle.basics.specs.Tests.{ordered}
+use Rattle.simulation.specs.Machine.{Labelling, put, copy, numberBefore, LabelStep, stay, snap, update}
 
 -- station i stands before station j, by the numbers in a row
 abbrev pub standsBy : Lists.List ℕ → ℕ → ℕ → Bool
@@ -28,7 +24,9 @@ pub record NumberedBefore (n : ℕ) (numbers : Lists.List ℕ) (k : ℕ) (order 
   pub others : (i : ℕ) → i < n → i ≢ k → getD old i 0 ≡ getD numbers i 0
   pub listed : order ≡ orderBy n old
 
--- what a move of station k makes of current and pending numbers, where z is the newest station, and v the number that a snap for a label is given
-pub record Renumbers (m : Move) (k z v : ℕ) (numbers numbers′ : Rows) : Type 0 where
-  pub each : (n job : ℕ) → z ≡ newest n (stands (numbered v) (beside numbers))
-      → beside numbers′ ≡ relabelled n (numbered v) (beside numbers) (labelStep (moveOf k job m))
+-- what a step makes of current and pending numbers, where a snap for a label by station z leaves them, and one by another makes v its pending number. If z is
+-- the newest, that is the step of the machine (proofs/NumberLaws.antt: `newest-step`).
+abbrev pub steppedBy : ℕ → ℕ → Labelling ℕ → LabelStep → Labelling ℕ
+steppedBy z v N stay = N
+steppedBy z v N (snap k) = cond (eqb k z) N (put N k v)
+steppedBy z v N (update k) = copy N k

@@ -10,9 +10,10 @@ use Rattle.simulation.specs.Calls.{Call, Entry, Rest, judge, bytesOf, reportLin
 use Rattle.simulation.specs.Machine.{original, Labelling, stands, labelStep, labelSnap, freshRest, State, Answer, step, snapsOf}
 use Rattle.simulation.specs.Numbered.{numbered}
 use Rattle.transition.specs.Logs.{fitsNext}
-use Rattle.moves.specs.Moves.{moveOf}
+use Rattle.moves.specs.Moves.{refusalNumber, moveOf, placeOf}
 use Rattle.moves.specs.declared.Move.{Move}
 use Rattle.moves.specs.declared.Move.the-variants.{SnapLabel}
+use Rattle.moves.specs.declared.Refusal.the-variants.{Accepted}
 use Rattle.arrays.specs.Arrays.{Rows, Planes, entriesIn, restIn, Holds}
 use Rattle.arrays.specs.Planes.{beside}
 use Rattle.engine.specs.Contracts.{Named}
@@ -32,20 +33,20 @@ abbrev pub table : ℕ → Rows → Rows → Rows → Planes → Table
 table n v j c r = record { count = n; numbers = v; jobs = j; control = c; results = r }
 
 -- the state that it holds
-abbrev pub restOf : Table → Rest
-restOf t = restIn (t .count) (t .jobs) (t .control) (t .results)
+abbrev pub restᵘ : Table → Rest
+restᵘ t = restIn (t .count) (t .jobs) (t .control) (t .results)
 
-abbrev pub stateOf : Table → State ℕ
-stateOf t = record { labels = beside (t .numbers); rest = restOf t }
+abbrev pub stateᵘ : Table → State ℕ
+stateᵘ t = record { labels = beside (t .numbers); rest = restᵘ t }
 
 -- a table that calls can lead to, with its scan order: the arrays hold its rest and nothing else, past the last station all is fresh, and results name
 -- stations
-pub record Runnable (t : Table) (order : Lists.List ℕ) : Type 0 where
+pub record Runnableᵘ (t : Table) (order : Lists.List ℕ) : Type 0 where
   pub low : 2 ≤ t .count
   pub high : t .count ≤ 32
-  pub holds : Holds (restOf t) (t .jobs) (t .control) (t .results)
-  pub past : (i : ℕ) → t .count ≤ i → (restOf t .process i ≡ freshRest .process i) × (restOf t .result i ≡ freshRest .result i)
-  pub named : (i : ℕ) → All (λ (e : Entry). e .station ≤ t .count) (restOf t .result i)
+  pub holds : Holds (restᵘ t) (t .jobs) (t .control) (t .results)
+  pub past : (i : ℕ) → t .count ≤ i → (restᵘ t .process i ≡ freshRest .process i) × (restᵘ t .result i ≡ freshRest .result i)
+  pub named : (i : ℕ) → All (λ (e : Entry). e .station ≤ t .count) (restᵘ t .result i)
   pub isOrder : order ≡ orderBy (t .count) (getD (t .numbers) 0 [])
 
 -- what a move of station k is given, where z is the newest and these are the current numbers; the first `used` of the numbers of the log are used up
@@ -57,22 +58,31 @@ pub record GivenTo (m : Move) (k z : ℕ) (current log : Lists.List ℕ) (used :
   pub inside : used + r .taken ≤ length log
 
 -- what the machine answers to a call with the first of the numbers left
-abbrev pub answered : Table → Call → Lists.List ℕ → Answer ℕ
-answered t c ns = step original (t .count) (numbered (getD ns 0 0)) (stateOf t) c
+abbrev pub answeredᵘ : Table → Call → Lists.List ℕ → Answer ℕ
+answeredᵘ t c ns = step original (t .count) (numbered (getD ns 0 0)) (stateᵘ t) c
 
--- a call with room for a whole scan result, where the first `used` of the numbers are used up: whether the next number fits. If it does, the table left
--- holds the state that the machine comes to, and the numbers used up and the entries handed out are told; if not, nothing has changed.
-pub record Served (t : Table) (c : Call) (given : Lists.List ℕ) (used : ℕ) (t′ : Table) (r : Turn) : Type 0 where
-  pub state : stateOf t′ ≡ answered t c (drop used given) .state
-  pub counted : r .used ≡ used + snapsOf original (t .count) (stateOf t) c
-  pub inside : r .used ≤ length given
-  pub place : r .place < 32
-  pub few : r .entries ≤ 32
-  pub named : Named (r .entries) (getD (t′ .results) (r .place) [])
-  pub report : bytesOf (answered t c (drop used given) .report)
-      ≡ reportLines (c .line) 1 (entriesIn (r .entries) (getD (t′ .results) (r .place) []))
+-- A CALL with room for a whole scan result, where the first `used` of the numbers are used up. If the next number fits, the table left holds the state that
+-- the machine comes to; the numbers used up, the refusal and the entries that make the report are told.
+pub record Servedᵘ (t : Table) (c : Call) (given : Lists.List ℕ) (used : ℕ) (t′ : Table) (r : Turn) : Type 0 where
+  pub state : stateᵘ t′ ≡ answeredᵘ t c (drop used given) .state
+  pub counted : r .used ≡ used + snapsOf original (t .count) (stateᵘ t) c
+  pub enough : r .used ≤ length given
+  pub number : refusalNumber (r .handed .refusal) ≡ answeredᵘ t c (drop used given) .refusal
+  pub place : r .handed .place ≡ placeOf (t .count) (c .station)
+  pub inside : r .handed .place < 32
+  pub few : r .handed .entries ≤ 32
+  pub named : Named (r .handed .entries) (getD (t′ .results) (r .handed .place) [])
+  pub report : bytesOf (answeredᵘ t c (drop used given) .report)
+      ≡ reportLines (c .line) 1 (entriesIn (r .handed .entries) (getD (t′ .results) (r .handed .place) []))
 
-pub record Turns (t : Table) (c : Call) (given : Lists.List ℕ) (used : ℕ) (t′ : Table) (r : Turn) : Type 0 where
-  pub fits : r .fits ≡ fitsNext (t .count) (beside (t .numbers)) (labelStep (judge false (t .count) (restOf t) c)) (drop used given)
-  pub served : r .fits ≡ true → Served t c given used t′ r
-  pub kept : r .fits ≡ false → t′ ≡ t
+-- if not, nothing changes: no number is used up, and nothing is handed out. The call would be accepted, as it asks for a number.
+pub record Kept (t : Table) (order : Lists.List ℕ) (c : Call) (used : ℕ) (t′ : Table) (order′ : Lists.List ℕ) (r : Turn) : Type 0 where
+  pub table : t′ ≡ t
+  pub listed : order′ ≡ order
+  pub turn : r ≡ record { fits = false; used = used; handed = record { refusal = Accepted; place = placeOf (t .count) (c .station); entries = 0 } }
+
+pub record Turnsᵘ (t : Table) (order : Lists.List ℕ) (c : Call) (given : Lists.List ℕ) (used : ℕ) (t′ : Table) (order′ : Lists.List ℕ) (r : Turn)
+    : Type 0 where
+  pub fits : r .fits ≡ fitsNext (t .count) (beside (t .numbers)) (labelStep (judge false (t .count) (restᵘ t) c)) (drop used given)
+  pub served : r .fits ≡ true → Servedᵘ t c given used t′ r
+  pub kept : r .fits ≡ false → Kept t order c used t′ order′ r

@@ -10,12 +10,14 @@ ghost use Rattle.simulation.specs.Machine.{fresh};
 ghost use Rattle.moves.specs.declared.Move.the-variants.{Update};
 ghost use Rattle.moves.specs.Moves.{callOf};
 ghost use Rattle.unbounded.specs.Numbers.{orderBy, NumberedBefore};
-ghost use Rattle.unbounded.specs.Tables.{table, stateOf, Runnable, GivenTo, Turns};
+ghost use Rattle.unbounded.specs.Tables.{table, stateᵘ, Runnableᵘ, GivenTo, Turnsᵘ};
 use arrays::CURRENT;
 use arrays::Control;
 use arrays::Jobs;
 use arrays::Results;
+use engine::Handed;
 use moves::Move;
+use moves::Refusal;
 use moves::Request;
 use moves::Room;
 
@@ -32,8 +34,8 @@ pub fn refresh(
     results: &mut Results,
 )
     requires { ⌜ (2 ≤ n) × (n ≤ 32) ⌝ }
-    ensures { λ _. ⌜ stateOf (table n (now (numbers .exit)) (now (jobs .exit)) (now (control .exit)) (now (results .exit))) ≡ fresh 0 ⌝ }
-    ensures { λ _. ⌜ Runnable (table n (now (numbers .exit)) (now (jobs .exit)) (now (control .exit)) (now (results .exit))) (now (order .exit)) ⌝ }
+    ensures { λ _. ⌜ stateᵘ (table n (now (numbers .exit)) (now (jobs .exit)) (now (control .exit)) (now (results .exit))) ≡ fresh 0 ⌝ }
+    ensures { λ _. ⌜ Runnableᵘ (table n (now (numbers .exit)) (now (jobs .exit)) (now (control .exit)) (now (results .exit))) (now (order .exit)) ⌝ }
 {
     *numbers = [[0u32; 32]; 2];
     arrays::refresh_rest(jobs, control, results);
@@ -92,13 +94,11 @@ fn refresh_order(m: Move, place: usize, current: &[u32; 32], n: usize, order: &m
     }
 }
 
-// What a step call comes to: whether its number fits, how many numbers are used up then, and so many entries of the scan result at a place, which it hands
-// out. A refused call takes no number and hands out nothing.
+// What a step call comes to: whether its number fits, how many numbers are used up then, and what it hands out. A refused call takes no number.
 pub struct Turn {
     pub fits: bool,
     pub used: usize,
-    pub place: usize,
-    pub entries: usize,
+    pub handed: Handed,
 }
 
 // Serves a step call, up to what is written of it, where `used` of the numbers of the log are used up. If the next number does not fit it, nothing changes.
@@ -113,12 +113,12 @@ pub fn take_turn(
     control: &mut Control,
     results: &mut Results,
 ) -> Turn
-    requires { ⌜ Runnable (table n (now numbers) (now jobs) (now control) (now results)) (now order) ⌝ }
+    requires { ⌜ Runnableᵘ (table n (now numbers) (now jobs) (now control) (now results)) (now order) ⌝ }
     requires { ⌜ used ≤ length (now log) ⌝ }
-    ensures { λ r. ⌜ Turns (table n (now (numbers .entry)) (now (jobs .entry)) (now (control .entry)) (now (results .entry)))
+    ensures { λ r. ⌜ Turnsᵘ (table n (now (numbers .entry)) (now (jobs .entry)) (now (control .entry)) (now (results .entry))) (now (order .entry))
         (callOf request (Buffer 928)) (now (log .entry)) used
-        (table n (now (numbers .exit)) (now (jobs .exit)) (now (control .exit)) (now (results .exit))) r ⌝ }
-    ensures { λ _. ⌜ Runnable (table n (now (numbers .exit)) (now (jobs .exit)) (now (control .exit)) (now (results .exit))) (now (order .exit)) ⌝ }
+        (table n (now (numbers .exit)) (now (jobs .exit)) (now (control .exit)) (now (results .exit))) (now (order .exit)) r ⌝ }
+    ensures { λ _. ⌜ Runnableᵘ (table n (now (numbers .exit)) (now (jobs .exit)) (now (control .exit)) (now (results .exit))) (now (order .exit)) ⌝ }
 {
     let z = order[n - 1];
     let task = engine::judge(n, request, control, results, Room::Buffer(928), z);
@@ -126,20 +126,23 @@ pub fn take_turn(
     let place = task.place;
     let given = given_to(m, place, z, &numbers[CURRENT], log, used);
     if !given.fits {
-        return Turn {
-            fits: given.fits,
-            used,
+        let handed = Handed {
+            refusal: Refusal::Accepted,
             place,
             entries: 0,
         };
+        return Turn {
+            fits: false,
+            used,
+            handed,
+        };
     }
-    let h = engine::carry_rest(n, task, order, jobs, control, results);
+    let handed = engine::carry_rest(n, task, order, jobs, control, results);
     numbers::renumber(m, place, z, given.number, numbers);
     refresh_order(m, place, &numbers[CURRENT], n, order);
     Turn {
         fits: true,
         used: used + given.taken,
-        place: h.place,
-        entries: h.entries,
+        handed,
     }
 }

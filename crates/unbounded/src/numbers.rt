@@ -7,8 +7,10 @@ ghost use Prim.Native.Nat.{ℕ, _-_, _≤_, _<_};
 ghost use lib.ListN.{length, getD, replicate};
 ghost use lib.Dec.{eqb, ltb, leb};
 ghost use Rattle.basics.specs.Tests.{ordered};
-ghost use Rattle.simulation.specs.Machine.{numberBefore};
-ghost use Rattle.unbounded.specs.Numbers.{standsBy, orderBy, NumberedBefore, Renumbers};
+ghost use Rattle.simulation.specs.Machine.{numberBefore, labelStep};
+ghost use Rattle.moves.specs.Moves.{moveOf};
+ghost use Rattle.arrays.specs.Planes.{beside};
+ghost use Rattle.unbounded.specs.Numbers.{standsBy, orderBy, NumberedBefore, steppedBy};
 use arrays::CURRENT;
 use arrays::PENDING;
 use moves::Move;
@@ -92,10 +94,10 @@ pub fn fits(numbers: &[u32; 32], z: usize, k: usize, v: u64) -> bool
     v <= 4294967295
 }
 
-// What a move of the station at this place makes of the numbers, where z is the newest station, and v the number that a snap is given.
+// What a move of the station at this place makes of the numbers, where v is the number that a snap is given, unless by station z, the newest.
 pub fn renumber(m: Move, place: usize, z: usize, v: u32, numbers: &mut [[u32; 32]; 2])
     requires { ⌜ place < 32 ⌝ }
-    ensures { λ _. ⌜ Renumbers m place z v (now (numbers .entry)) (now (numbers .exit)) ⌝ }
+    ensures { λ _. ⌜ beside (now (numbers .exit)) ≡ steppedBy z v (beside (now (numbers .entry))) (labelStep (moveOf place 0 m)) ⌝ }
 {
     arrays::sized(*numbers);
     match m {

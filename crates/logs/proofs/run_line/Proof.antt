@@ -15,26 +15,26 @@ turned i = i .before .before
 fits : (i : tie.Else1) → turned i .take-turn .result .fits ≡ true
 fits i = was-true refl (i .if1 .left)
 
-low : (i : tie.Else1) → turned i .take-turn .result .place ≤ 31
-low i = omega (arith, turned i .take-turn .ensures .0 .served (fits i) .place)
+low : (i : tie.Else1) → turned i .take-turn .result .handed .place ≤ 31
+low i = omega (arith, turned i .take-turn .ensures .0 .served (fits i) .inside)
 
 returns : tie.Need-returns
 returns c = let y = c .before .before in (run-unfit (y .take-turn .ensures .0) _ (was-false refl (c .if1 .taken)), y .take-turn .ensures .1)
 
 write-result-requires : tie.Need-write-result-requires
 write-result-requires c κs =
-    let i = c .before .before in
+    let i = c .before .before .before in
     let f = turned i .take-turn .ensures .0 .served (fits i) in
     (f .few, (f .named, omega (arith, f .few, turned i .before .before .before .before .before .before .before .before .pre .1 .1)))
 
 returns-2 : tie.Need-returns-2
 returns-2 c =
     let w = c .before .before in
-    let y = turned (w .before .before .before) in (
-      run-fits (y .take-turn .ensures .0) (fits (w .before .before .before)) _ _ _ (w .write-result .ensures .0) (w .write-result .ensures .1),
+    let y = turned (w .before .before .before .before) in (
+      run-fits (y .take-turn .ensures .0) (fits (w .before .before .before .before)) _ _ _ (w .write-result .ensures .0) (w .write-result .ensures .1),
       y .take-turn .ensures .1,
     )
 
 pub run-line-spec : {M : Type 1} → statement M
-run-line-spec = tie.close (tie.spec (λ c κs. search needs) returns (λ c. omega (arith, low c)) (λ c. omega (arith, low c)) write-result-requires
+run-line-spec = tie.close (tie.spec (λ c κs. search needs) returns (λ c. omega (arith, low (c .before))) (λ c. omega (arith, low (c .before))) write-result-requires
     (λ c. search needs) returns-2)

@@ -5,7 +5,7 @@ use mathlib.Core.Path.{_≡_, sym, ap, _∙_}
 use mathlib.Core.Logic.{⊎-elim}
 use lib.ListN.{length, drop, length-drop}
 use lib.Seq.{take-all}
-use Rattle.number_lines.specs.Lines.{lineRead}
+use Rattle.number_lines.specs.Lines.{numberRead}
 use Rattle.number_lines.proofs.Reading.{ReadSoFar, read-start, read-within, read-more, read-full, read-bad}
 use borrow.Author.Needs.{needs}
 use Rattle.number_lines.proofs.read_numbers.Statement.{statement}
@@ -19,11 +19,11 @@ abbrev μ-loop : tie.MeasureT-loop
 
 -- the line that is read is the one at `at`
 here : (x : tie.After-read-number Inv-loop μ-loop) → let l = x .before .before .before .loop in
-    x .read-number .result ≡ lineRead (drop (l .at) (x .before .before .before .before .before .before .args .bytes .now))
+    x .read-number .result ≡ numberRead (drop (l .at) (x .before .before .before .before .before .before .args .bytes .now))
 here x =
     let l = x .before .before .before .loop in
     let bytes = x .before .before .before .before .before .before .args .bytes .now in
-    x .read-number .ensures ∙ ap lineRead (take-all (length bytes - l .at) (drop (l .at) bytes) (omega (arith, length-drop (l .at) bytes)))
+    x .read-number .ensures ∙ ap numberRead (take-all (length bytes - l .at) (drop (l .at) bytes) (omega (arith, length-drop (l .at) bytes)))
 
 -- the list has room for one number more
 room : (x : tie.In-loop Inv-loop μ-loop) → let l = x .before .loop in

@@ -2,6 +2,7 @@
 use mathlib.Core.Path.{_≡_, sym, _∙_}
 use mathlib.Core.Logic.{_≢_}
 use Rattle.moves.specs.Moves.{refusalNumber}
+use Rattle.moves.proofs.MoveLaws.{refuses-yes, refuses-no}
 use Rattle.schedule.specs.Lines.{headerRead}
 use Rattle.schedule.proofs.SessionLaws.{header-stations}
 use Rattle.schedule.proofs.Runs.{header-within}
@@ -30,13 +31,13 @@ returns : tie.Need-returns
 returns c =
     let x = c .before .before in
     let y = x .before .before in
-    let d : refusalNumber (x .refusal-of .result) ≢ 0 = λ z. c .if1 .taken (c .before .number .ensures ∙ z) in
+    let d : refusalNumber (x .refusal-of .result) ≢ 0 = refuses-yes (x .refusal-of .result) (c .before .refuses .ensures) (c .if1 .taken) in
     lines-refuse (start y .args .file .now) (start y .args .list .now) (header y .line-at .ensures) (accepted y) (y .from .ensures)
     (x .before .survey-lines .ensures) (x .refusal-of .ensures) d
 
 -- what is known of lines that are not refused
 going : (x : tie.Else1) → refusalNumber (x .before .before .refusal-of .result) ≡ 0
-going x = sym (x .before .number .ensures) ∙ x .if1 .left
+going x = refuses-no (x .before .before .refusal-of .result) (x .before .refuses .ensures) (x .if1 .left)
 
 number-lines-requires : tie.Need-number-lines-requires
 number-lines-requires c κs =

@@ -4,6 +4,7 @@ use mathlib.Core.Bool.{cond}
 use lib.Dec.{ltb}
 use borrow.Author.Tests.{eq-eqb, ne-eqb, lt-ltb, le-ltb}
 use Rattle.moves.specs.Moves.{refusalNumber}
+use Rattle.moves.proofs.MoveLaws.{refuses-yes, refuses-no}
 use Rattle.moves.specs.declared.Refusal.the-variants.{Accepted, ListTooShort}
 use Rattle.schedule.proofs.Surveys.{firstOf, surveyed-next}
 use Rattle.numbering.specs.Files.{refusedBy}
@@ -21,10 +22,10 @@ told x =
 
 -- nothing before it refuses
 going : (x : tie.Else1) → refusalNumber (x .before .before .refusal-of .result) ≡ 0
-going x = sym (x .before .number .ensures) ∙ x .if1 .left
+going x = refuses-no (x .before .before .refusal-of .result) (x .before .refuses .ensures) (x .if1 .left)
 
 returns : tie.Need-returns
-returns c = rw (← told (c .before .before), ne-eqb _ 0 (λ z. c .if1 .taken (c .before .number .ensures ∙ z))) refl
+returns c = rw (← told (c .before .before), ne-eqb _ 0 (refuses-yes (c .before .before .refusal-of .result) (c .before .refuses .ensures) (c .if1 .taken))) refl
 
 returns-2 : tie.Need-returns-2
 returns-2 c = let x = c .before .before in rw (← told (x .before .before), eq-eqb _ 0 (going x), lt-ltb _ _ (c .if2 .taken)) refl

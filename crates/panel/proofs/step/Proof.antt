@@ -49,6 +49,8 @@ use Rattle.engine.proofs.Reply as P
 use Rattle.engine.proofs.Reply.Laws as P′
 use Rattle.step.specs.declared.Unfilled.{Unfilled}
 use Rattle.step.specs.Contracts.{HandsEntries}
+use Rattle.simulation.specs.Calls.{Panel}
+use Rattle.moves.specs.Moves.{called}
 use Rattle.step.proofs.Outcome as O
 use Rattle.step.proofs.Outcome.Laws as O′
 use Rattle.step.proofs.Unfilled as S
@@ -60,7 +62,7 @@ use Rattle.step.proofs.with_panel.Met as with-panel-thm
 use Rattle.panel.specs.declared.Record.{Record}
 use Rattle.panel.specs.Panels.{filled}
 use Rattle.panel.proofs.ArrayField.{up}
-use Rattle.panel.proofs.PanelLaws.{shown}
+use Rattle.panel.proofs.PanelLaws.{records-fit, shown}
 use Rattle.panel.proofs.Record as R
 use Rattle.panel.proofs.fill as fill
 use Rattle.panel.proofs.fill.Symbol as fill-def
@@ -115,8 +117,8 @@ module _ {M : Type 1} (𝓤 : URA M) (H : Heap 𝓤) (A : Atoms 𝓤) (mem : Mem
   Fill = tripleOf 𝓤 H A fill.signature (fill.spec 𝓤 H A mem run)
 
   with-panel-of : (h : Table) (c n j m : ℕ) (r : Unfilled)
-      → ent 𝓤 (ensured 𝓤 H A with-panel.ended (with-panel.clauses 𝓤 H A mem run) tt (h, (c, (n, (j, (m, tt))))) tt r) (fact 𝓤 (HandsEntries h c n j m r))
-  with-panel-of h c n j m r = exE 𝓤 _ (λ ws. snd∗ 𝓤 (sem 𝓤 H A (lasts with-panel.ended tt (h, (c, (n, (j, (m, tt))))) ws)) (fact 𝓤 (HandsEntries h c n j m r)))
+      → ent 𝓤 (ensured 𝓤 H A with-panel.ended (with-panel.clauses 𝓤 H A mem run) tt (h, (c, (n, (j, (m, tt))))) tt r) (fact 𝓤 (HandsEntries h (called 0 c n j (Panel m)) r))
+  with-panel-of h c n j m r = exE 𝓤 _ (λ ws. snd∗ 𝓤 (sem 𝓤 H A (lasts with-panel.ended tt (h, (c, (n, (j, (m, tt))))) ws)) (fact 𝓤 (HandsEntries h (called 0 c n j (Panel m)) r)))
 
 module _ {M : Type 1} (𝓤 : URA M) (H : Heap 𝓤) (A : Atoms 𝓤) (W : Given 𝓤 H A) (at-mem : Memory → SProp 𝓤) (run : Routine → Fun 𝓤) (κ : Lft) (q : Share)
     (h : Table) (c n j : ℕ) (b o : ℕ) (γ : GName) (ys : List Record)
@@ -167,20 +169,20 @@ module _ {M : Type 1} (𝓤 : URA M) (H : Heap 𝓤) (A : Atoms 𝓤) (W : Given
     tt,
   )
 
-  goes-fill : (r : Unfilled) → HandsEntries h c n j (length ys) r → r .outcome .reply .written < 2 ^ 64 → ent 𝓤 (⋆ 𝓤 H A ((‵ (flft κ q) ⊛ ‵ ftrue) ∷ ‵
+  goes-fill : (r : Unfilled) → HandsEntries h (called 0 c n j (Panel (length ys))) r → r .outcome .reply .written < 2 ^ 64 → ent 𝓤 (⋆ 𝓤 H A ((‵ (flft κ q) ⊛ ‵ ftrue) ∷ ‵
       (MutSlice (named 0) κ R.the-row .own x (s ∷ [])) ∷ ‵ (Es .own (r .entries) (ev r ∷ [])) ∷ [])) (Fill 𝓤 H A at-mem run .pre (to-fill r))
   goes-fill r e fits =
       qed W ((‵ (flft κ q) ⊛ ‵ ftrue) ∷ ‵ (MutSlice (named 0) κ R.the-row .own x (s ∷ [])) ∷ ‵ (Es .own (r .entries) (ev r ∷ [])) ∷ []) ∵
-      says ! (e .short, e .fits) $ nothing ! $ owned ! usize (Is usize) (uint-makes 𝓤 H A W w64) (r .outcome .reply .written) _ (refl, fits) $ fjoin ! $
+      says ! (e .short, records-fit ys e) $ nothing ! $ owned ! usize (Is usize) (uint-makes 𝓤 H A W w64) (r .outcome .reply .written) _ (refl, fits) $ fjoin ! $
       move ! (3 ∷ 0 ∷ []) $ fjoin ! $ move ! (2 ∷ 0 ∷ []) $ fjoin ! $ move ! (1 ∷ 0 ∷ []) $ frame ! $ done !
 
-  exits : (r : Unfilled) (zs : List Record) → HandsEntries h c n j (length ys) r → zs ≡ filled (r .entries) (r .outcome .reply .written) ys → length zs ≡ length ys
+  exits : (r : Unfilled) (zs : List Record) → HandsEntries h (called 0 c n j (Panel (length ys))) r → zs ≡ filled (r .entries) (r .outcome .reply .written) ys → length zs ≡ length ys
       → Is O.the-row (r .outcome) (ov r ∷ []) → ent 𝓤 (⋆ 𝓤 H A ((‵ (flft κ q) ⊛ ‵ ftrue) ∷ ‵ (finally R.the-row γ zs) ∷ [])) (Post (ov r))
   exits r zs e f l is =
       qed W ((‵ (flft κ q) ⊛ ‵ ftrue) ∷ ‵ (finally R.the-row γ zs) ∷ []) ∵
       suffices ! _ (ends-at 𝓤 H A step.ended stayed (step.clauses 𝓤 H A at-mem run) W (((κ, tt), (q, tt), tt, a, vals), tt) (ov r) (r .outcome)
       (tt, (tt, (tt, (tt, (zs, tt))))) (tt, (tt, (tt, (tt, (l, tt)))))) $
-      says ! (shown ys r e f) $ frame ! $ nothing ! $ move ! (1 ∷ 0 ∷ []) $ fjoin ! $
+      says ! (shown ys e f) $ frame ! $ nothing ! $ move ! (1 ∷ 0 ∷ []) $ fjoin ! $
       owned ! u64 (Is u64) (uint-makes 𝓤 H A W w64) j _ (refl, j-fits) $ fjoin ! $ owned ! u64 (Is u64) (uint-makes 𝓤 H A W w64) n _ (refl, n-fits) $ fjoin ! $
       owned ! u64 (Is u64) (uint-makes 𝓤 H A W w64) c _ (refl, c-fits) $ fjoin ! $
       owned ! T.the-row (Is T.the-row) (LL.makes T.the-type T′.the-plain 𝓤 H A) h _ is-h $ fjoin ! $ frame ! $
@@ -210,8 +212,8 @@ module _ {M : Type 1} (𝓤 : URA M) (H : Heap 𝓤) (A : Atoms 𝓤) (W : Given
         (and-then ! (load ! (from ! (stop !)) (look ! 18 refl)) (and-then ! (load ! (from ! (stop !)) (look ! 10 refl)) (no-more !)))))) (λ v.
         use1 W (later (some (λ (r : Unfilled). (‵ ftrue ⊛ ‵ (S.the-row .own r (v ∷ []))) ⊛ raw
         (ensured 𝓤 H A with-panel.ended (with-panel.clauses 𝓤 H A at-mem run) tt (h, (c, (n, (j, (length ys, tt))))) tt r)))) (id⊢ 𝓤 _) $ await ! tt $ pick ! (λ r.
-        split ! $ move ! (1 ∷ []) $ use1 W (raw (fact 𝓤 (HandsEntries h c n j (length ys) r))) (with-panel-of 𝓤 H A at-mem run h c n j (length ys) r) $
-        heard ! (HandsEntries h c n j (length ys) r) (λ e. split ! $ drop ! $ peeks ! S.the-row (Is S.the-row) (shows 𝓤 H A S.the-row) r (v ∷ []) (λ is.
+        split ! $ move ! (1 ∷ []) $ use1 W (raw (fact 𝓤 (HandsEntries h (called 0 c n j (Panel (length ys))) r))) (with-panel-of 𝓤 H A at-mem run h c n j (length ys) r) $
+        heard ! (HandsEntries h (called 0 c n j (Panel (length ys))) r) (λ e. split ! $ drop ! $ peeks ! S.the-row (Is S.the-row) (shows 𝓤 H A S.the-row) r (v ∷ []) (λ is.
         land ! (from ! (stop !)) (init ! 14 refl (LL.lawful S.the-type S′.the-laws 𝓤 H A W .typed r _ is .0)) $
         rewrite ! 14 (λ (u : Val). ‵ (fat fullShare S′.mir l₆ 0 u)) (ap only (LL.tells S.the-type S′.the-laws r _ is)) refl $ drop ! $
         -- [the token; what panel owns; true; _11; …]

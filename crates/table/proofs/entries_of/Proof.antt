@@ -3,14 +3,14 @@ use native.Mathlib.Omega.{arith}
 use mathlib.Core.Path.{_≡_, refl, _∙_}
 use Rattle.arrays.specs.Arrays.{cell}
 use Rattle.basics.proofs.Filled.{filled, filled-none, filled-more}
-use Rattle.table.specs.Tables.{entry, blank}
+use Rattle.table.specs.Tables.{declaredEntry, blank}
 use Rattle.table.proofs.Apart.{filled-end}
 use borrow.Author.Needs.{needs}
 use Rattle.table.proofs.entries_of.Statement.{statement}
 use Rattle.table.proofs.entries_of.Tie as tie
 
 abbrev Inv-loop : tie.InvT-loop
-Inv-loop rows r₀ p₀ r p = (p ≤ 32) × (r ≡ filled 32 p (λ k. entry (cell rows 0 k 0) (cell rows 1 k 0)) blank)
+Inv-loop rows r₀ p₀ r p = (p ≤ 32) × (r ≡ filled 32 p (λ k. declaredEntry (cell rows 0 k 0) (cell rows 1 k 0)) blank)
 
 abbrev μ-loop : tie.MeasureT-loop
 μ-loop rows r₀ p₀ r p = 32 - p

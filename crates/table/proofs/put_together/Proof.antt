@@ -4,7 +4,7 @@ use mathlib.Core.Path.{_≡_, ap, _∙_}
 use mathlib.Core.List.{List}
 use Rattle.basics.proofs.Filled.{filled, filled-none, filled-more}
 use Rattle.arrays.specs.Arrays.{arrays}
-use Rattle.table.specs.Tables.{stationOf, together}
+use Rattle.table.specs.Tables.{stationOf, putTogether}
 use Rattle.table.proofs.Apart.{filled-end}
 use Rattle.table.specs.declared.Station.{Station}
 use borrow.Author.Needs.{needs}
@@ -27,7 +27,7 @@ loop-again c =
     (search needs, rw (l .loop .inv .1) (filled-more 32 _ _ (l .loop .i) _ (search needs) (c .station-at2 .ensures (l .before .before .args .n))))
 
 returns : tie.Need-returns Inv-loop μ-loop
-unfolding together
+unfolding putTogether
 returns c =
     let l = c .before .loop in
     ap (λ (s : List Station). record { count = c .before .before .before .args .n; stations = s }) (l .inv .1 ∙ filled-end _ _ (l .i) (omega arith))

@@ -6,7 +6,7 @@ use lib.ListN.{replicate}
 use Rattle.basics.proofs.Filled.{filled, filled-none, filled-more}
 use Rattle.moves.specs.Moves.{phaseOf}
 use Rattle.arrays.specs.Arrays.{arrays, phaseNumber, outNumber}
-use Rattle.table.specs.Tables.{rowsOf, at, apart}
+use Rattle.table.specs.Tables.{rowsOf, at, takenApart}
 use Rattle.table.proofs.Apart.{filled-end}
 use borrow.Author.Needs.{needs}
 use Rattle.table.proofs.take_apart.Statement.{statement}
@@ -49,7 +49,7 @@ loop-again c =
     )
 
 returns : tie.Need-returns Inv-loop μ-loop
-unfolding apart
+unfolding takenApart
 returns c =
     let l = c .before .loop in
     let e : l .i ≡ 32 = omega arith in

@@ -1,99 +1,90 @@
--- The lines counted and those ahead are all of the part; `y` is what is known after some of them are served.
-use borrow.Author.Needs.{needs}
+-- The lines counted are those of the bytes served so far; `y` is what is known after some of them, and `t` before.
 use mathlib.Core.Path.{_≡_, refl, sym, _∙_}
 use mathlib.Core.Bool.{true≢false}
-use Prim.Native.Nat.{_+_, _-_, _≤_, _<_}
+use Prim.Native.Nat.{_+_, _-_, _*_, _≤_}
 use native.Mathlib.Omega.{arith}
-use lib.ListN.{length, length-take, length-drop}
+use borrow.Author.Needs.{needs}
+use borrow.Author.Tests.{eqb-true, not-true, not-false}
+use lib.ListN.{length, take, drop, length-take, length-drop}
 use lib.Seq.{length-take-le}
-use Rattle.moves.specs.Moves.{refusalNumber}
+use Rattle.basics.proofs.Facts.{and-both}
 use Rattle.arrays.specs.Arrays.{arrays}
-use Rattle.schedule.specs.Files.{pieces}
-use Rattle.file.specs.Contracts.{Runnable}
-use Rattle.file.proofs.ChunkLaws.{ahead, reports-inside, part-on}
+use Rattle.file.specs.Feeds.{Standing}
+use Rattle.file.proofs.FeedLaws.{feeds-within, feeds-inside, feeds-on, feeds-left}
 use Rattle.tickets.proofs.serve_part.Statement.{statement}
 use Rattle.tickets.proofs.serve_part.Tie as tie
 
 abbrev Inv-loop : tie.InvT-loop
-Inv-loop lines n order₀ labels₀ jobs₀ control₀ results₀ chunk out₀ count₀ at₀ order labels jobs control results out count at =
-    Runnable (arrays n labels jobs control results) order × (length out ≡ length out₀) × (at ≤ length chunk)
-    × (count + ahead chunk at ≡ lines + pieces chunk) × (count ≤ 1000001)
+Inv-loop last order₀ labels₀ jobs₀ control₀ results₀ part out₀ run at₀ order labels jobs control results out now at =
+    Standing now (arrays (now .count) labels jobs control results) order × (length out ≡ length out₀) × (at ≤ length part)
+    × (18 * now .lines ≡ 18 * run .lines + at) × (928 ≤ length out)
 
 abbrev μ-loop : tie.MeasureT-loop
-μ-loop lines n order₀ labels₀ jobs₀ control₀ results₀ chunk out₀ count₀ at₀ order labels jobs control results out count at =
-    length chunk - at
+μ-loop last order₀ labels₀ jobs₀ control₀ results₀ part out₀ run at₀ order labels jobs control results out now at = length part - at
 
 loop-holds : tie.Need-loop-holds Inv-loop μ-loop
-loop-holds c = (c .before .before .pre .0, refl, omega arith, omega arith, c .before .before .pre .1 .0)
+loop-holds c = (c .before .before .pre .0, refl, omega arith, omega arith, c .before .before .pre .1)
 
-report-lines-requires : tie.Need-report-lines-requires Inv-loop μ-loop
-report-lines-requires c κs = c .before .before .before .before .before .before .before .before .loop .inv .0
+feed-requires : tie.Need-feed-requires Inv-loop μ-loop
+feed-requires c κs = let l = c .before .before .before .before .before .before .before .loop in (l .inv .0, l .inv .4)
 
 slice-reshare-prefix-write-report : tie.Need-slice-reshare-prefix-write-report Inv-loop μ-loop
-slice-reshare-prefix-write-report c = reports-inside (c .before .before .report-lines .ensures .0)
+slice-reshare-prefix-write-report c = feeds-inside (c .before .before .before .feed .ensures .0)
 
 slice-aggregate-write-report : tie.Need-slice-aggregate-write-report Inv-loop μ-loop
-slice-aggregate-write-report c = sym (length-take-le _ _ (reports-inside (c .before .before .before .report-lines .ensures .0)))
+slice-aggregate-write-report c = sym (length-take-le _ _ (feeds-inside (c .before .before .before .before .feed .ensures .0)))
 
--- where the loop stood when some lines were served
-abbrev turn : tie.After-report-lines Inv-loop μ-loop → tie.At-loop Inv-loop μ-loop
-turn y = y .before .before .before .before .before .before .before .before .before
+-- the output buffer keeps its length, and the bytes read are of the part
+kept : (y : tie.After-feed Inv-loop μ-loop) → length (y .feed .last .1 .1 .1 .1 .1 .1 .1 .1 .0) ≡ length (y .before .before .before .before .before .before .before .before .before .before .before .args .out .now)
+kept y = y .feed .kept .1 .1 .1 .1 .1 .1 .1 .1 .0 ∙ y .before .before .before .before .before .before .before .before .loop .inv .1
 
--- after lines that end in no final refusal: where to go on, and how many are counted
-onward : (y : tie.After-report-lines Inv-loop μ-loop) → refusalNumber (y .report-lines .result .refusal) ≡ 0
-    → let r = y .report-lines .result in let l = turn y .loop in let a = turn y .before .before .before .args in
-    (0 < r .read) × (l .at + r .read ≤ length (a .chunk .now)) × (r .lines + ahead (a .chunk .now) (l .at + r .read) ≡ a .lines + pieces (a .chunk .now))
-    × (r .lines ≤ 1000001)
-onward y z =
-    let l = turn y .loop in
-    let s = turn y .before .before .before in
-    part-on (y .report-lines .ensures .0) (s .args .chunk .now) (l .at) _ (y .before .before .before .before .before .before .before .before .loop-test .taken)
-    (simp (length-take, length-drop) (omega arith)) (l .inv .3) (l .inv .4) (omega (arith, l .inv .1, s .pre .1 .1)) z
+chunk : (y : tie.After-feed Inv-loop μ-loop) → let part = y .before .before .before .before .before .before .before .before .before .before .before .args .part .now in let at = y .before .before .before .before .before .before .before .before .loop .at in
+    length (take (length part - at) (drop at part)) + at ≡ length part
+chunk y = simp (length-take, length-drop) (omega (arith, y .before .before .before .before .before .before .before .before .loop .inv .2))
 
--- the output buffer keeps its length
-kept : (y : tie.After-report-lines Inv-loop μ-loop)
-    → length (y .report-lines .last .1 .1 .1 .1 .1 .1 .1 .1 .0) ≡ length (turn y .before .before .before .args .out .now)
-kept y = y .report-lines .kept .1 .1 .1 .1 .1 .1 .1 .1 .0 ∙ turn y .loop .inv .1
+within : (y : tie.After-feed Inv-loop μ-loop) → y .before .before .before .before .before .before .before .before .loop .at + y .feed .result .read ≤ length (y .before .before .before .before .before .before .before .before .before .before .before .args .part .now)
+within y =
+    let long = chunk y in
+    omega (arith, feeds-within (y .feed .ensures .0), long)
 
 same-length : tie.Need-same-length Inv-loop μ-loop
-same-length c = kept (c .before .before .before .before .before)
+same-length c = kept (c .before .before .before .before .before .before)
 
 returns : tie.Need-returns Inv-loop μ-loop
-returns c = (c .before .before .before .before .before .report-lines .ensures .1, λ e. absurd (true≢false (sym e)))
+returns c = (c .before .before .before .before .before .before .feed .ensures .1, λ e. absurd (true≢false (sym e)))
 
 same-length-2 : tie.Need-same-length-2 Inv-loop μ-loop
-same-length-2 c = kept (c .before .before .before .before .before .before .before)
+same-length-2 c = kept (c .before .before .before .before .before .before .before .before .before .before)
 
 returns-2 : tie.Need-returns-2 Inv-loop μ-loop
-returns-2 c = (c .before .before .before .before .before .before .before .report-lines .ensures .1, λ e. absurd (true≢false (sym e)))
+returns-2 c =
+    let y = c .before .before .before .before .before .before .before .before .before .before in
+    let f = y .feed .ensures in (
+      f .1,
+      λ e.
+          let b = and-both _ _ e in
+          let z = sym (c .number .ensures) ∙ eqb-true _ 0 (b .0) in
+          let l = not-true _ (b .1) in
+          let left = feeds-left (f .0) (not-true _ (c .before .before .if2 .taken)) l z in
+          (l, within y, omega (arith, left .0, chunk y), omega (arith, left, y .before .before .before .before .before .before .before .before .loop .inv .3), f .1 .few z),
+    )
 
 add-at : tie.Need-add-at Inv-loop μ-loop
-add-at c =
-    let y = c .before .before .before .before .before .before .before .before in
-    let s = turn y .before .before .before in
-    omega (arith, onward y (sym (c .before .before .number .ensures) ∙ c .before .if2 .left), s .good .1 .1 .1 .1 .1 .1 .1 .0 .0)
+add-at c = let y = c .before .before .before .before .before .before .before .before .before in omega (arith, within y, y .before .before .before .before .before .before .before .before .before .before .before .good .1 .1 .1 .1 .1 .1 .1 .0 .0)
 
 loop-less : tie.Need-loop-less Inv-loop μ-loop
 loop-less c =
-    let y = c .before .before .before .before .before .before .before .before in
-    omega (arith, onward y (sym (c .before .before .number .ensures) ∙ c .before .if2 .left))
+    let y = c .before .before .before .before .before .before .before .before .before in
+    omega (arith, within y, feeds-on (y .feed .ensures .0) (not-false _ (c .before .if2 .left)) (y .before .before .before .before .before .before .before .before .loop .inv .4))
 
 loop-again : tie.Need-loop-again Inv-loop μ-loop
 loop-again c =
-    let y = c .before .before .before .before .before .before .before .before in
-    let on = onward y (sym (c .before .before .number .ensures) ∙ c .before .if2 .left) in
-    (y .report-lines .ensures .1, kept y, on .1, on .2, on .3)
-
-same-length-3 : tie.Need-same-length-3 Inv-loop μ-loop
-same-length-3 c = c .before .loop .inv .1
-
-returns-3 : tie.Need-returns-3 Inv-loop μ-loop
-returns-3 c =
-    let l = c .before .loop in
-    (l .inv .0, λ e. (omega (arith, l .inv .3), l .inv .4))
+    let y = c .before .before .before .before .before .before .before .before .before in
+    let on = feeds-on (y .feed .ensures .0) (not-false _ (c .before .if2 .left)) (y .before .before .before .before .before .before .before .before .loop .inv .4) in
+    (y .feed .ensures .1, kept y, within y, omega (arith, on, y .before .before .before .before .before .before .before .before .loop .inv .3), omega (arith, kept y, y .before .before .before .before .before .before .before .before .before .before .before .pre .1))
 
 pub serve-part-spec : {M : Type 1} → statement M
-serve-part-spec = tie.close (tie.spec Inv-loop μ-loop loop-holds (λ c. omega arith) (λ c. omega arith)
-    (λ c. omega arith) report-lines-requires slice-reshare-prefix-write-report slice-aggregate-write-report
-    (λ c κs. search needs) same-length returns (λ c κs. search needs) same-length-2 returns-2 add-at loop-less
-    loop-again same-length-3 returns-3)
+serve-part-spec = tie.close (tie.spec Inv-loop μ-loop loop-holds (λ c. omega arith) (λ c. omega arith) (λ c. omega arith) feed-requires
+    slice-reshare-prefix-write-report slice-aggregate-write-report (λ c κs. search needs) same-length returns
+    (λ c. let y = c .before .before .before .before .before .before .before .before .before in omega (arith, within y, y .before .before .before .before .before .before .before .before .before .before .before .good .1 .1 .1 .1 .1 .1 .1 .0 .0)) (λ c κs. search needs) same-length-2 returns-2 add-at
+    loop-less loop-again)

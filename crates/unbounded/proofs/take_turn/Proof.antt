@@ -22,7 +22,7 @@ returns c =
     let g = c .before .before in
     let x = judged g in
     let f = start x .pre .0 in
-    (turn-unfit f (x .judge .ensures) (g .given-to .ensures) (was-false refl (c .if1 .taken)) (was-false refl (c .if1 .taken)), f)
+    (turn-unfit f (x .judge .ensures) (g .given-to .ensures) (was-false refl (c .if1 .taken)), f)
 
 carry-rest-requires : tie.Need-carry-rest-requires
 carry-rest-requires c κs =
@@ -43,16 +43,17 @@ refresh-order-requires c κs =
     let x = judged g in
     let f = start x .pre .0 in
     let j = x .judge .ensures in
+    let numbers = c .before .before .renumber .last .1 .1 .1 .1 .0 in
     let l = c .before .before .renumber .ensures in (
       (turn-place f j, f .high),
       (
-        turn-before f j (g .given-to .ensures) (was-true refl (i .if1 .left)) (k .carry-rest .ensures) l,
-        turn-kept f j (g .given-to .ensures) (was-true refl (i .if1 .left)) (k .carry-rest .ensures) l,
+        turn-before f j (g .given-to .ensures) (was-true refl (i .if1 .left)) (k .carry-rest .ensures) numbers l,
+        turn-kept f j (g .given-to .ensures) (was-true refl (i .if1 .left)) (k .carry-rest .ensures) numbers l,
       ),
     )
 
-add-t16 : tie.Need-add-t16
-add-t16 c =
+add-t17 : tie.Need-add-t17
+add-t17 c =
     let g = c .before .before .before .before .before .before .before .before .before .before .before .before .before in
     omega (arith, g .given-to .ensures .inside, start (judged g) .good)
 
@@ -64,12 +65,13 @@ returns-2 c =
     let x = judged g in
     let f = start x .pre .0 in
     let j = x .judge .ensures in
+    let numbers = c .before .before .before .before .renumber .last .1 .1 .1 .1 .0 in
     let l = c .before .before .before .before .renumber .ensures in (
-      turn-served f j (g .given-to .ensures) (was-true refl (i .if1 .left)) (k .carry-rest .ensures) l refl refl refl refl,
-      turn-runnable f j (g .given-to .ensures) (was-true refl (i .if1 .left)) (k .carry-rest .ensures) l (c .before .refresh-order .ensures),
+      turn-served f j (g .given-to .ensures) (was-true refl (i .if1 .left)) (k .carry-rest .ensures) numbers l,
+      turn-runnable f j (g .given-to .ensures) (was-true refl (i .if1 .left)) (k .carry-rest .ensures) numbers l (c .before .refresh-order .ensures),
     )
 
 pub take-turn-spec : {M : Type 1} → statement M
 take-turn-spec = tie.close (tie.spec (λ c. search needs) (λ c. search needs) (λ c. search needs)
     (λ c κs. search needs) (λ c. search needs) given-to-requires returns carry-rest-requires renumber-requires
-    (λ c. search needs) refresh-order-requires add-t16 returns-2)
+    (λ c. search needs) refresh-order-requires add-t17 returns-2)

@@ -1,11 +1,10 @@
 use Prim.Native.Nat.{ℕ}
-use mathlib.Core.Path.{refl, sym, _∙_}
+use mathlib.Core.Path.{refl}
 use mathlib.Core.List.{List, [], _∷_}
-use Rattle.simulation.specs.Machine.{relabelled}
+use borrow.Author.Tests.{eq-eqb, ne-eqb}
 use Rattle.moves.specs.declared.Move.the-variants.{SnapLabel, Update}
 use Rattle.moves.proofs.MoveLaws.{not-among, step-stays}
 use Rattle.arrays.proofs.Planes.{planes-put, planes-copied}
-use Rattle.unbounded.proofs.NumberLaws.{newest-snapped, other-snapped}
 use borrow.Author.Needs.{needs}
 use Rattle.unbounded.proofs.numbers.renumber.Statement.{statement}
 use Rattle.unbounded.proofs.numbers.renumber.Tie as tie
@@ -13,29 +12,27 @@ use Rattle.unbounded.proofs.numbers.renumber.Tie as tie
 returns : tie.Need-returns
 returns c =
     let told = c .before in
-    let start = told .before .before .before .before in record {
-      each = λ n job z. rw (told .enum-told .given .1)
-          (planes-put _ (told .before .before .sized .ensures) _ (start .pre) _ ∙ other-snapped n _ _ _ (λ e. c .if1 .taken (e ∙ sym z)));
-    }
+    let start = told .before .before .before .before in
+    rw (told .enum-told .given .1, ne-eqb (start .args .place) (start .args .z) (c .if1 .taken))
+    (planes-put _ (told .before .before .sized .ensures) _ (start .pre) _)
 
 returns-2 : tie.Need-returns-2
-returns-2 c = record { each = λ n job z. rw (c .before .enum-told .given .1) (newest-snapped n _ _ _ (c .if1 .left ∙ z)) }
+returns-2 c =
+    let start = c .before .before .before .before .before in
+    rw (c .before .enum-told .given .1, eq-eqb (start .args .place) (start .args .z) (c .if1 .left)) refl
 
 returns-3 : tie.Need-returns-3
 returns-3 c =
     let told = c .before in
-    let start = told .before .before .before .before in record {
-      each = λ n job z.
-          rw (told .enum-told2 .given .1) (planes-copied _ (told .before .before .sized .ensures) _ (start .pre) ∙ unfold relabelled in refl);
-    }
+    let start = told .before .before .before .before in
+    rw (told .enum-told2 .given .1) (planes-copied _ (told .before .before .sized .ensures) _ (start .pre))
 
 returns-4 : tie.Need-returns-4
 returns-4 c =
     let m = c .before .before .before .args .m in
-    let tags : List ℕ = 0 ∷ 1 ∷ 3 ∷ 5 ∷ 6 ∷ 7 ∷ 8 ∷ [] in record {
-      each = λ n job z. rw (step-stays (c .before .before .before .args .place) job m (not-among tags SnapLabel tt m (c .match .keys3))
-          (not-among tags Update tt m (c .match .keys3))) (unfold relabelled in refl);
-    }
+    let tags : List ℕ = 0 ∷ 1 ∷ 3 ∷ 5 ∷ 6 ∷ 7 ∷ 8 ∷ [] in
+    rw (step-stays (c .before .before .before .args .place) 0 m (not-among tags SnapLabel tt m (c .match .keys3)) (not-among tags Update tt m (c .match .keys3)))
+    refl
 
 pub renumber-spec : {M : Type 1} → statement M
 renumber-spec = tie.close (tie.spec (λ c κs. search needs) (λ c. search needs) (λ c. search needs) (λ c. search needs) (λ c. search needs)

@@ -1,0 +1,544 @@
+-- A file that is served part by part: what a part leaves goes on as the file does, and all parts together come to its report.
+use Prim.Native.Nat.{ℕ, zero, suc, _+_, _-_, _*_, _/_, _≤_, _<_, min}
+use native.Mathlib.Decide.{decLt, ℕ-discrete}
+use native.Mathlib.Nat.{zero-add}
+use native.Mathlib.Omega.{arith}
+use mathlib.Core.Path.{_≡_, refl, sym, ap, subst, _∙_}
+use mathlib.Core.Logic.{_≢_, _⊎_, inl, inr, ⊎-elim, by-cases}
+use mathlib.Core.Bool.{Bool, true, false, not, _&&_, cond, true≢false, and-true}
+use mathlib.Core.List as Lists
+use mathlib.Core.List.{[], _∷_, _++_, append-assoc, append-nil}
+use lib.ListN.{length, take, drop, length-append, length-take, length-drop, take-append-drop, drop-of-length-le}
+use lib.Seq.{take-at, take-all, take-take, take-add, take-append-le, drop-append-le, drop-drop, length-take-le}
+use lib.Dec.{eqb, ltb}
+use borrow.Author.Tests.{eq-eqb, ne-eqb, lt-ltb, le-ltb, eqb-true, ltb-true, ltb-false, not-true}
+use Rattle.basics.proofs.Facts.{and-both}
+use Rattle.transition.specs.Forms.{over, freshTable}
+use Rattle.moves.specs.Moves.{refusalNumber}
+use Rattle.moves.proofs.MoveLaws.{accepted}
+use Rattle.moves.specs.declared.Refusal.{Refusal}
+use Rattle.moves.specs.declared.Refusal.the-variants.{Accepted}
+use Rattle.arrays.specs.Arrays.{Arrays}
+use Rattle.arrays.specs.Form.{lent}
+use Rattle.schedule.specs.Lines.{headerRead}
+use Rattle.schedule.specs.Sessions.{Session, session, Served, standing, openedBy, headerOf}
+use Rattle.schedule.specs.Files.{cut, pieces, printed, headerPrinted, behind, runLines, fileRun, fileReport, fileRefusal}
+use Rattle.schedule.proofs.SessionLaws.{header-refused, header-stations, header-length}
+use Rattle.schedule.proofs.Runs.{final-run, printed-refusal}
+use Rattle.schedule.proofs.Cuts.{run-append, cut-add}
+use Rattle.schedule.specs.declared.Header.the-variants as Headers
+use Rattle.schedule.specs.declared.Header.the-variants.{Stations}
+use Rattle.file.specs.Contracts.{Runnable, readLines, Reports}
+use Rattle.file.specs.Feeds.{sessionOf, awaits, runFrom, readyIn, ready, ahead, Standing, Feeds, fedOf, Feeding, FedBy, Ends, output}
+use Rattle.file.specs.declared.Run.{Run}
+use Rattle.file.specs.declared.Fed.{Fed}
+use Rattle.file.specs.declared.Progress.{Progress}
+
+-- LINES THAT ARE STILL TO COME
+
+-- a session with a refusal, or with a line, awaits no header
+refused-opened : (s : Session Arrays) → refusalNumber (s .refusal) ≢ 0 → awaits s ≡ false
+refused-opened s d = rw (ne-eqb _ 0 d) refl
+
+lines-opened : (s : Session Arrays) → s .lines ≢ 0 → awaits s ≡ false
+lines-opened s d = go (eqb (refusalNumber (s .refusal)) 0)
+  where
+    go : (b : Bool) → (b && eqb (s .lines) 0) ≡ false
+    go true = ne-eqb (s .lines) 0 d
+    go false = refl
+
+run-opened : (s : Session Arrays) → awaits s ≡ false → (ls : Lists.List (Lists.List ℕ)) → runFrom s ls ≡ runLines lent s ls
+unfolding runLines
+run-opened s e [] = refl
+run-opened s e (l ∷ ls) = rw e refl
+
+-- nothing follows a final refusal
+ahead-none : (s : Session Arrays) → refusalNumber (s .refusal) ≢ 0 → (rest : Lists.List ℕ) → ahead s rest ≡ standing s
+ahead-none s d rest = let ls = cut (ready s true rest) rest in run-opened s (refused-opened s d) ls ∙ final-run lent s ls d
+
+pub behind-twice : {T : Type 0} (a b : Lists.List ℕ) (o : Served T) → behind a (behind b o) ≡ behind (a ++ b) o
+behind-twice a b o = ap (λ x. record { session = o .session; refusal = o .refusal; bytes = x }) (sym (append-assoc a b (o .bytes)))
+
+-- lines in two groups
+run-from-append : (l : Lists.List ℕ) (ls ms : Lists.List (Lists.List ℕ)) (s : Session Arrays) → let o = runFrom s (l ∷ ls) in
+    awaits (o .session) ≡ false → runFrom s ((l ∷ ls) ++ ms) ≡ behind (o .bytes) (runFrom (o .session) ms)
+run-from-append l ls ms s e = go (awaits s) refl e
+  where
+    h : Session Arrays
+    h = headerOf lent l
+
+    first : Bool → Lists.List (Lists.List ℕ) → Served Arrays
+    first b ls = cond b (behind (headerPrinted h) (runLines lent h ls)) (runLines lent s (l ∷ ls))
+
+    go : (b : Bool) → awaits s ≡ b → awaits (first b ls .session) ≡ false
+        → first b (ls ++ ms) ≡ behind (first b ls .bytes) (runFrom (first b ls .session) ms)
+    go true q e = ap (behind (headerPrinted h)) (run-append lent ls ms h) ∙ behind-twice (headerPrinted h) (runLines lent h ls .bytes) _
+        ∙ ap (behind (first true ls .bytes)) (sym (run-opened (runLines lent h ls .session) e ms))
+    go false q e = run-append lent (l ∷ ls) ms s ∙ ap (behind (first false ls .bytes)) (sym (run-opened (first false ls .session) e ms))
+
+-- the first lines, whatever follows them
+cut-front : (k : ℕ) (a b : Lists.List ℕ) → 18 * k ≤ length a → cut k (a ++ b) ≡ cut k a
+unfolding cut
+cut-front zero a b h = refl
+cut-front (suc k) a b h =
+    let long : 18 ≤ length a = omega arith in
+    let left : 18 * k ≤ length (drop 18 a) = rw length-drop (omega arith) in
+    rw (take-append-le 18 a b long, drop-append-le 18 a b long) (ap (λ l. take 18 a ∷ l) (cut-front k (drop 18 a) b left))
+
+-- A PART
+
+module _ {run : Run} {a : Arrays} {last : Bool} {part : Lists.List ℕ} {r : Fed} {a′ : Arrays} {buffer buffer′ : Lists.List ℕ}
+    (f : Feeds run a last part r a′ buffer buffer′) where
+  abbrev s : Session Arrays
+  s = sessionOf run a
+
+  abbrev s′ : Session Arrays
+  s′ = sessionOf (r .run) a′
+
+  pub feeds-within : r .read ≤ length part
+  feeds-within = omega (arith, f .read)
+
+  pub feeds-inside : r .written ≤ length buffer′
+  feeds-inside = omega (arith, f .written, ap length (f .report) ∙ length-append (f .bytes) (drop (length (f .bytes)) buffer))
+
+  pub feeds-shown : take (r .written) buffer′ ≡ f .bytes
+  feeds-shown = rw (f .report, f .written) (take-at (f .bytes) (drop (length (f .bytes)) buffer) (length (f .bytes)) refl)
+
+  -- another could be served
+  pub feeds-more : r .more ≡ true → (refusalNumber (r .run .refusal) ≡ 0) × (f .served < ready s last part)
+  feeds-more m =
+      let b = and-both (eqb (refusalNumber (r .run .refusal)) 0) (ltb (f .served) (ready s last part)) (sym (f .more) ∙ m) in
+      (eqb-true _ 0 (b .0), ltb-true (f .served) (ready s last part) (b .1))
+
+  -- none could be, and none is refused for good
+  feeds-all : r .more ≡ false → refusalNumber (r .run .refusal) ≡ 0 → f .served ≡ ready s last part
+  feeds-all m z =
+      let none : ltb (f .served) (ready s last part) ≡ false = sym (ap (λ b. b && ltb (f .served) (ready s last part)) (eq-eqb _ 0 z)) ∙ sym (f .more) ∙ m in
+      omega (arith, f .most, ltb-false (f .served) (ready s last part) none)
+
+  -- whole lines were then, and with room for one there is one
+  pub feeds-on : r .more ≡ true → 928 ≤ length buffer → (0 < r .read) × (r .read ≡ 18 * f .served) × (r .run .lines ≡ run .lines + f .served)
+  feeds-on m room =
+      let l = go last (awaits s) (feeds-more m .1) in
+      (omega (arith, f .read, l, f .stops m, f .short, room), omega (arith, f .read, l), f .counted (feeds-more m .0))
+    where
+      go : (b w : Bool) → f .served < readyIn w b part → 18 * f .served ≤ length part
+      go true true l = omega (arith, length-drop 18 part)
+      go true false l = omega arith
+      go false w l = omega arith
+
+  -- of a part that is not the last, less than a line is left where no other could be served
+  pub feeds-left : r .more ≡ false → last ≡ false → refusalNumber (r .run .refusal) ≡ 0
+      → (length part < r .read + 18) × (r .read ≡ 18 * f .served) × (r .run .lines ≡ run .lines + f .served)
+  feeds-left m e z =
+      let all : f .served ≡ length part / 18 = feeds-all m z ∙ ap (λ b. ready s b part) e in
+      (omega (arith, f .read, all), omega (arith, f .read, all), f .counted z)
+
+  -- nothing is served: all stays
+  none-served : f .served ≡ 0 → (s′ ≡ s) × (f .bytes ≡ []) × (r .read ≡ 0)
+  unfolding cut
+  none-served z =
+      let e = sym (f .runs) ∙ ap (λ k. runFrom s (cut k part)) z in
+      (ap (λ (o : Served Arrays). o .session) e, ap (λ (o : Served Arrays). o .bytes) e, omega (arith, f .read, z))
+
+  -- behind a line no header is awaited
+  opened-then : f .served ≢ 0 → awaits s′ ≡ false
+  opened-then d = by-cases (ℕ-discrete (refusalNumber (r .run .refusal)) 0)
+      (λ z. lines-opened s′ (λ e. d (omega (arith, f .counted z, e))))
+      (λ n. refused-opened s′ n)
+
+  -- whole lines were served, or all bytes of the last part
+  served-whole : (18 * f .served ≤ length part) ⊎ ((last ≡ true) × (f .served ≡ ready s true part))
+  served-whole = go last refl (f .most)
+    where
+      go : (b : Bool) → last ≡ b → f .served ≤ ready s b part → (18 * f .served ≤ length part) ⊎ ((last ≡ true) × (f .served ≡ ready s true part))
+      go false e m = inl (omega arith)
+      go true e m = by-cases (decLt (length part) (18 * f .served)) (λ l. inr (e, by (awaits s) refl m l)) (λ n. inl (omega arith))
+        where
+          by : (w : Bool) → awaits s ≡ w → f .served ≤ cond w (suc (pieces (drop 18 part))) (pieces part) → length part < 18 * f .served
+              → f .served ≡ ready s true part
+          by true q m l = rw q (omega (arith, length-drop 18 part))
+          by false q m l = rw q (omega arith)
+
+  -- THE LAW OF A PART: what it prints, and behind that what comes of the bytes left, is what comes of all bytes, whatever comes behind the part
+  pub feeds-rest : (more : Lists.List ℕ) → (last ≡ true → more ≡ []) → ahead s (part ++ more) ≡ behind (f .bytes) (ahead s′ (drop (r .read) part ++ more))
+  unfolding cut
+  feeds-rest more over = by-cases (ℕ-discrete (f .served) 0)
+      (λ z. let n = none-served z in rw (n .0, n .1, n .2) refl)
+      (λ d. on d (⊎-elim (whole d) (λ h. by-cases (decLt (length part) (18 * f .served)) (all d h) (λ n. whole d (omega arith))) served-whole))
+    where
+      rest : Lists.List ℕ
+      rest = drop (r .read) part ++ more
+
+      -- the lines served are the first of all, and the others those of the rest
+      Split : Type 0
+      Split = cut (ready s true (part ++ more)) (part ++ more) ≡ cut (f .served) part ++ cut (ready s′ true rest) rest
+
+      whole : f .served ≢ 0 → 18 * f .served ≤ length part → Split
+      whole d l =
+          let k = f .served in
+          let e : r .read ≡ 18 * k = omega (arith, f .read) in
+          let left : drop (18 * k) (part ++ more) ≡ rest = drop-append-le (18 * k) part more l ∙ ap (λ i. drop i part ++ more) (sym e) in
+          let long : length (part ++ more) ≡ 18 * k + length rest = omega (arith, length-append part more, length-append (drop (r .read) part) more, length-drop (r .read) part) in
+          ap (λ i. cut i (part ++ more)) (count long (awaits s) refl) ∙ cut-add k (ready s′ true rest) (part ++ more)
+          ∙ (λ i. cut-front k part more l i ++ cut (ready s′ true rest) (left i))
+        where
+          count : length (part ++ more) ≡ 18 * f .served + length rest → (w : Bool) → awaits s ≡ w
+              → ready s true (part ++ more) ≡ f .served + ready s′ true rest
+          count long true q = rw (q, opened-then d) (omega (arith, long, length-drop 18 (part ++ more), d))
+          count long false q = rw (q, opened-then d) (omega (arith, long))
+
+      all : f .served ≢ 0 → (last ≡ true) × (f .served ≡ ready s true part) → length part < 18 * f .served → Split
+      all d h l =
+          let z : rest ≡ [] = (λ i. drop-of-length-le part {i = r .read} (omega (arith, f .read)) i ++ over (h .0) i) in
+          ap (λ m. cut (ready s true (part ++ m)) (part ++ m)) (over (h .0)) ∙ ap (λ m. cut (ready s true m) m) (append-nil part)
+          ∙ ap (λ k. cut k part) (sym (h .1)) ∙ sym (ap (λ m. cut (f .served) part ++ cut (ready s′ true m) m) z ∙ none)
+        where
+          none : cut (f .served) part ++ cut (ready s′ true []) [] ≡ cut (f .served) part
+          none = rw (opened-then d) (append-nil (cut (f .served) part))
+
+      on : f .served ≢ 0 → Split → ahead s (part ++ more) ≡ behind (f .bytes) (ahead s′ rest)
+      on d e = ap (runFrom s) e ∙ go (f .served) d (f .runs)
+        where
+          go : (k : ℕ) → k ≢ 0 → runFrom s (cut k part) ≡ record { session = s′; refusal = refusalNumber (r .run .refusal); bytes = f .bytes }
+              → runFrom s (cut k part ++ cut (ready s′ true rest) rest) ≡ behind (f .bytes) (ahead s′ rest)
+          go zero n q = absurd (n refl)
+          go (suc k) n q = run-from-append (take 18 part) (cut k (drop 18 part)) (cut (ready s′ true rest) rest) s
+              (ap (λ (o : Served Arrays). awaits (o .session)) q ∙ opened-then d)
+              ∙ ap (λ (o : Served Arrays). behind (o .bytes) (runFrom (o .session) (cut (ready s′ true rest) rest))) q
+
+  -- nothing more can be served: all of the last part was, or a line was refused for good
+  pub feeds-done : (more : Lists.List ℕ) → (last ≡ true → more ≡ []) → r .more ≡ false → (last ≡ true) ⊎ (refusalNumber (r .run .refusal) ≢ 0)
+      → ahead s′ (drop (r .read) part ++ more) ≡ standing s′
+  unfolding cut
+  feeds-done more over m = ⊎-elim
+      (λ e. by-cases (ℕ-discrete (refusalNumber (r .run .refusal)) 0) (ended e) (λ d. ahead-none s′ d (drop (r .read) part ++ more)))
+      (λ d. ahead-none s′ d (drop (r .read) part ++ more))
+    where
+      -- the header is one of the lines of the last part
+      opened : f .served ≡ ready s true part → awaits s′ ≡ false
+      opened all = by-cases (ℕ-discrete (f .served) 0) (λ n. go (awaits s) refl n all) opened-then
+        where
+          go : (w : Bool) → awaits s ≡ w → f .served ≡ 0 → f .served ≡ cond w (suc (pieces (drop 18 part))) (pieces part) → awaits s′ ≡ false
+          go true q n all = absurd (omega (arith, all))
+          go false q n all = ap awaits (none-served n .0) ∙ q
+
+      ended : last ≡ true → refusalNumber (r .run .refusal) ≡ 0 → ahead s′ (drop (r .read) part ++ more) ≡ standing s′
+      ended e z =
+          let whole = feeds-all m z ∙ ap (λ b. ready s b part) e in
+          let z : drop (r .read) part ++ more ≡ [] = (λ i. drop-of-length-le part {i = r .read} (long (awaits s) whole) i ++ over e i) in
+          ap (ahead s′) z ∙ rw (opened whole) refl
+        where
+          long : (w : Bool) → f .served ≡ cond w (suc (pieces (drop 18 part))) (pieces part) → length part ≤ r .read
+          long true h = omega (arith, f .read, h, length-drop 18 part)
+          long false h = omega (arith, f .read, h)
+
+  -- no more lines can be served
+  feeds-most : (k : ℕ) → k ≤ ready s last part → ((j : ℕ) → j < k → let o = runFrom s (cut j part) in (o .refusal ≡ 0) × (length (o .bytes) + 928 ≤ length buffer))
+      → k ≤ f .served
+  feeds-most k b g = by-cases (decLt (f .served) k)
+      (λ l. absurd (go l (subst (λ (o : Served Arrays). (o .refusal ≡ 0) × (length (o .bytes) + 928 ≤ length buffer)) (f .runs) (g _ l))))
+      (λ n. omega (arith, n))
+    where
+      go : f .served < k → (refusalNumber (r .run .refusal) ≡ 0) × (length (f .bytes) + 928 ≤ length buffer) → ⊥
+      go l w =
+          let e : r .more ≡ true = f .more ∙ rw (eq-eqb _ 0 (w .0), lt-ltb (f .served) (ready s last part) (omega arith)) refl in
+          omega (arith, f .stops e, w .1, f .written)
+
+-- the outcome is given by the run, the part and the buffer: two are the same
+pub feeds-one : {run : Run} {a : Arrays} {last : Bool} {part : Lists.List ℕ} {r r′ : Fed} {a₁ a₂ : Arrays} {buffer b b′ : Lists.List ℕ}
+    → Feeds run a last part r a₁ buffer b → Feeds run a last part r′ a₂ buffer b′
+    → (sessionOf (r .run) a₁ ≡ sessionOf (r′ .run) a₂) × (r .read ≡ r′ .read) × (r .written ≡ r′ .written) × (r .more ≡ r′ .more) × (b ≡ b′)
+feeds-one {run} {a} {last} {part} {r} {r′} {a₁} {a₂} {buffer} f g =
+    let few : f .served ≤ g .served = feeds-most g (f .served) (f .most) (f .goes) in
+    let many : g .served ≤ f .served = feeds-most f (g .served) (g .most) (g .goes) in
+    let same : f .served ≡ g .served = omega (arith, few, many) in
+    let e = sym (f .runs) ∙ ap (λ k. runFrom (sessionOf run a) (cut k part)) same ∙ g .runs in (
+      ap (λ o. o .session) e,
+      omega (arith, f .read, g .read, same),
+      f .written ∙ ap (λ o. length (o .bytes)) e ∙ sym (g .written),
+      f .more ∙ (λ i. eqb (refusalNumber (e i .session .refusal)) 0 && ltb (same i) (ready (sessionOf run a) last part)) ∙ sym (g .more),
+      f .report ∙ ap (λ o. over (o .bytes) buffer) e ∙ sym (g .report),
+    )
+
+-- EVERY SEQUENCE OF PARTS comes to the report of the file
+
+fed-runs : (xs : Lists.List Feeding) (run : Run) (a : Arrays) (rest : Lists.List ℕ) (final : Run) → FedBy run a rest xs → Ends xs final
+    → (ahead (sessionOf run a) rest .bytes ≡ output xs) × (ahead (sessionOf run a) rest .refusal ≡ refusalNumber (final .refusal))
+fed-runs [] run a rest final f e = absurd e
+fed-runs (x ∷ []) run a rest final f e =
+    let g = f .2 in
+    let q = ap (ahead (sessionOf run a)) (f .0) ∙ feeds-rest g (x .behind) (f .1) ∙ ap (behind (g .bytes)) (feeds-done g (x .behind) (f .1) (e .1) (e .2)) in (
+      ap (λ (o : Served Arrays). o .bytes) q ∙ ap (λ b. b ++ []) (sym (feeds-shown g)),
+      ap (λ (o : Served Arrays). o .refusal) q ∙ ap (λ (u : Run). refusalNumber (u .refusal)) (e .0),
+    )
+fed-runs (x ∷ (y ∷ xs)) run a rest final f e =
+    let g = f .2 in
+    let q = ap (ahead (sessionOf run a)) (f .0) ∙ feeds-rest g (x .behind) (f .1) in
+    let left = fed-runs (y ∷ xs) (x .fed .run) (x .table) (drop (x .fed .read) (x .part) ++ x .behind) final (f .3) e in (
+      ap (λ (o : Served Arrays). o .bytes) q ∙ (λ i. sym (feeds-shown g) i ++ left .0 i),
+      ap (λ (o : Served Arrays). o .refusal) q ∙ left .1,
+    )
+
+-- what comes of a run before its first line is what comes of a whole file
+pub run-started : (bs : Lists.List ℕ) → ahead (session 0 Accepted (freshTable lent 2)) bs ≡ fileRun lent bs
+unfolding fileRun cut
+run-started bs = refl
+
+pub fed-file : (bs : Lists.List ℕ) (xs : Lists.List Feeding) (final : Run)
+    → FedBy (record { lines = 0; count = 2; refusal = Accepted }) (freshTable lent 2) bs xs → Ends xs final
+    → (fileReport lent bs ≡ output xs) × (fileRefusal lent bs ≡ refusalNumber (final .refusal))
+fed-file bs xs final f e =
+    let h = fed-runs xs _ _ bs final f e in
+    let q = sym (run-started bs) in
+    (ap (λ (o : Served Arrays). o .bytes) q ∙ h .0, ap (λ (o : Served Arrays). o .refusal) q ∙ h .1)
+
+-- WHAT A CALL SERVES
+
+module _ (run : Run) (a : Arrays) (last : Bool) (part buffer : Lists.List ℕ) where
+  -- nothing
+  abbrev kept : Fed
+  kept = record { run = run; read = 0; written = 0; more = false }
+
+  feeds-none : (eqb (refusalNumber (run .refusal)) 0 && ltb 0 (ready (sessionOf run a) last part)) ≡ false → Feeds run a last part kept a buffer buffer
+  unfolding cut
+  feeds-none e = record {
+    served = 0;
+    most = omega arith;
+    read = omega arith;
+    bytes = [];
+    runs = refl;
+    written = refl;
+    report = refl;
+    goes = λ k l. absurd (omega (arith, l));
+    more = sym e;
+    stops = λ t. absurd (true≢false (sym t));
+    short = omega arith;
+    counted = λ _. omega arith;
+  }
+
+  -- after a final refusal
+  pub feeds-ended : refusalNumber (run .refusal) ≢ 0 → Feeds run a last part kept a buffer buffer
+  feeds-ended d = feeds-none (rw (ne-eqb _ 0 d) refl)
+
+  -- of a part without a whole line
+  pub feeds-waits : length part < 18 → last ≡ false → Feeds run a last part kept a buffer buffer
+  feeds-waits l e =
+      let none : length part / 18 ≡ 0 = omega arith in
+      feeds-none (rw (e, none) (go (eqb (refusalNumber (run .refusal)) 0)))
+    where
+      go : (b : Bool) → (b && ltb 0 0) ≡ false
+      go true = refl
+      go false = refl
+
+-- the session that awaits a header
+module _ (run : Run) (a : Arrays) (last : Bool) (part buffer : Lists.List ℕ) (going : refusalNumber (run .refusal) ≡ 0) (first : run .lines ≡ 0)
+    (fresh : awaits (sessionOf run a) ≡ true → a ≡ freshTable lent 2) (room : 928 ≤ length buffer) (enough : (18 ≤ length part) ⊎ (last ≡ true))
+    {l : Lists.List ℕ} (e : l ≡ take 18 part) where
+  waiting : awaits (sessionOf run a) ≡ true
+  waiting = rw (eq-eqb _ 0 going, eq-eqb _ 0 first) refl
+
+  run-header : (k : ℕ) → runFrom (sessionOf run a) (cut (suc k) part)
+      ≡ behind (headerPrinted (headerOf lent l)) (runLines lent (headerOf lent l) (cut k (drop 18 part)))
+  unfolding cut
+  run-header k = rw (waiting, e) refl
+
+  some-ready : 1 ≤ ready (sessionOf run a) last part
+  some-ready = go last refl enough
+    where
+      go : (b : Bool) → last ≡ b → (18 ≤ length part) ⊎ (last ≡ true) → 1 ≤ ready (sessionOf run a) b part
+      go true q h = rw waiting (omega arith)
+      go false q h = ⊎-elim (λ g. omega arith) (λ t. absurd (true≢false (sym t ∙ q))) h
+
+  -- it is refused
+  pub feeds-refused : {x : Refusal} {w : ℕ} {buffer′ : Lists.List ℕ} → headerRead l ≡ Headers.Refused x → let told = printed 1 (refusalNumber x) [] in
+      w ≡ length told → buffer′ ≡ over told buffer
+      → Feeds run a last part (record { run = record { lines = 0; count = run .count; refusal = x }; read = length l; written = w; more = false }) a
+      buffer buffer′
+  unfolding cut runLines
+  feeds-refused {x} h p q =
+      let told = printed 1 (refusalNumber x) [] in
+      let d = header-refused l x h in
+      record {
+        served = 1;
+        most = some-ready;
+        read = omega (arith, ap length e, length-take 18 part);
+        bytes = told;
+        runs = run-header 0 ∙ ended;
+        written = p;
+        report = q;
+        goes = λ k b. let z : k ≡ 0 = omega (arith, b) in rw z (going, omega (arith, room));
+        more = rw (ne-eqb _ 0 d) refl;
+        stops = λ t. absurd (true≢false (sym t));
+        short = omega (arith, p, printed-refusal 1 (refusalNumber x));
+        counted = λ z. absurd (d z);
+      }
+    where
+      ended : behind (headerPrinted (headerOf lent l)) (runLines lent (headerOf lent l) [])
+          ≡ record { session = session 0 x a; refusal = refusalNumber x; bytes = printed 1 (refusalNumber x) [] }
+      ended = rw h (λ i. record {
+        session = session 0 x (sym (fresh waiting) i);
+        refusal = refusalNumber x;
+        bytes = append-nil (printed 1 (refusalNumber x) []) i;
+      })
+
+-- WHERE THE LINES END that can be served of n bytes
+pub end-within : (last : Bool) (n : ℕ) {end : ℕ} → end ≡ cond last n (18 * (n / 18)) → end ≤ n
+end-within true n q = omega arith
+end-within false n q = omega arith
+
+-- there is no line yet, or a header
+pub header-waits : (n : ℕ) (last : Bool) → (ltb n 18 && not last) ≡ true → (n < 18) × (last ≡ false)
+header-waits n last t = let b = and-both (ltb n 18) (not last) t in (ltb-true n 18 (b .0), not-true last (b .1))
+
+pub header-there : (n : ℕ) (last : Bool) → (ltb n 18 && not last) ≡ false → (18 ≤ n) ⊎ (last ≡ true)
+header-there n true t = inr refl
+header-there n false t = inl (ltb-false n 18 (sym (and-true (ltb n 18)) ∙ t))
+
+-- LINES FROM A PLACE ON: behind h lines, none or the header, the others are served as those of a part of their own
+module _ (run : Run) (a : Arrays) (last : Bool) (part buffer : Lists.List ℕ) (h : ℕ) (s₁ : Session Arrays)
+    (opens : (k : ℕ) → runFrom (sessionOf run a) (cut (h + k) part) ≡ runLines lent s₁ (cut k (drop (18 * h) part)))
+    (first : (k : ℕ) → k < h → let o = runFrom (sessionOf run a) (cut k part) in (o .refusal ≡ 0) × (length (o .bytes) + 928 ≤ length buffer))
+    (lines : s₁ .lines ≡ run .lines + h) (end : ℕ) (isEnd : end ≡ cond last (length part) (18 * (length part / 18))) (inside : 18 * h ≤ end)
+    (due : ready (sessionOf run a) last part ≡ h + (end - 18 * h + 17) / 18)
+    (n : ℕ) {chunk : Lists.List ℕ} (e : chunk ≡ take (end - 18 * h) (drop (18 * h) part)) {a′ : Arrays} {p : Progress} {buffer′ : Lists.List ℕ}
+    (g : Reports s₁ chunk a′ p buffer buffer′) where
+  abbrev k : ℕ
+  k = readLines (p .read)
+
+  -- they end at the end of the part, or behind whole lines
+  ends : (end ≡ length part) ⊎ ((q : ℕ) × (end ≡ 18 * q))
+  ends = go last isEnd
+    where
+      go : (b : Bool) → end ≡ cond b (length part) (18 * (length part / 18)) → (end ≡ length part) ⊎ ((q : ℕ) × (end ≡ 18 * q))
+      go true q = inl q
+      go false q = inr (length part / 18, q)
+
+  long : length chunk ≡ end - 18 * h
+  long = ap length e ∙ length-take (end - 18 * h) (drop (18 * h) part) ∙ omega (arith, length-drop (18 * h) part, end-within last (length part) isEnd)
+
+  -- its first lines are those behind the h
+  lines-same : (j : ℕ) → j ≤ k → cut j (drop (18 * h) part) ≡ cut j chunk
+  lines-same j b =
+      let m = end - 18 * h in
+      let rest = drop (18 * h) part in
+      ⊎-elim
+      (λ q. ap (cut j) (sym (e ∙ take-all m rest (omega (arith, length-drop (18 * h) part)))))
+      (λ q. ap (cut j) (sym (take-append-drop m rest)) ∙ cut-front j (take m rest) (drop m rest) (few (q .0) (q .1)) ∙ ap (cut j) (sym e))
+      ends
+    where
+      few : (q : ℕ) → end ≡ 18 * q → 18 * j ≤ length (take (end - 18 * h) (drop (18 * h) part))
+      few q w = omega (arith, ap length e, long, g .whole)
+
+  -- another line could be served exactly if the end is not reached
+  more-same : ltb (18 * h + p .read) end ≡ ltb (h + k) (ready (sessionOf run a) last part)
+  more-same = by-cases (decLt (18 * h + p .read) end)
+      (λ l. lt-ltb _ _ l ∙ sym (lt-ltb (h + k) (ready (sessionOf run a) last part) (omega (arith, due, g .whole, long))))
+      (λ l. le-ltb (18 * h + p .read) end (omega (arith, l)) ∙ sym (le-ltb (h + k) (ready (sessionOf run a) last part) (omega (arith, due, l))))
+
+  pub feeds-lines : Feeds run a last part (fedOf n (18 * h) p end) a′ buffer buffer′
+  feeds-lines = record {
+    served = h + k;
+    most = omega (arith, due, g .whole, long);
+    read = ⊎-elim (λ q. omega (arith, g .whole, long, q)) (λ q. omega (arith, g .whole, long, q .1, end-within last (length part) isEnd)) ends;
+    bytes = g .bytes;
+    runs = opens k ∙ ap (runLines lent s₁) (lines-same k (omega arith)) ∙ g .runs;
+    written = g .written;
+    report = g .report;
+    goes = λ j b. by-cases (decLt j h) (first j) (λ n. later j (j - h) (omega (arith, n)) (omega (arith, b, n)));
+    more = ap (λ b. eqb (refusalNumber (p .refusal)) 0 && b) more-same;
+    stops = λ t. no-room (and-both _ _ t);
+    short = omega (arith, g .short);
+    counted = λ z. omega (arith, g .counted z, lines);
+  }
+    where
+      later : (j i : ℕ) → j ≡ h + i → i < k → let o = runFrom (sessionOf run a) (cut j part) in
+          (o .refusal ≡ 0) × (length (o .bytes) + 928 ≤ length buffer)
+      later j i q b = subst (λ (o : Served Arrays). (o .refusal ≡ 0) × (length (o .bytes) + 928 ≤ length buffer))
+          (sym (ap (λ x. runFrom (sessionOf run a) (cut x part)) q ∙ opens i ∙ ap (runLines lent s₁) (lines-same i (omega arith)))) (g .goes i b)
+
+      no-room : (eqb (refusalNumber (p .refusal)) 0 ≡ true) × (ltb (18 * h + p .read) end ≡ true) → length buffer < p .written + 928
+      no-room t = ⊎-elim (λ d. absurd (d (eqb-true _ 0 (t .0))))
+          (⊎-elim (λ q. absurd (omega (arith, q, long, ltb-true (18 * h + p .read) end (t .1)))) (λ l. l)) (g .stops)
+
+-- a run whose header was served before
+module _ (run : Run) (a : Arrays) (last : Bool) (part buffer : Lists.List ℕ) (going : refusalNumber (run .refusal) ≡ 0) (some : run .lines ≢ 0)
+    {end : ℕ} (isEnd : end ≡ cond last (length part) (18 * (length part / 18))) {chunk : Lists.List ℕ} (e : chunk ≡ take end part)
+    {a′ : Arrays} {p : Progress} {buffer′ : Lists.List ℕ} (g : Reports (session (run .lines) Accepted a) chunk a′ p buffer buffer′) where
+  pub steps-within : 0 + p .read ≤ end
+  steps-within = omega (arith, g .whole, ap length e ∙ length-take end part)
+
+  pub feeds-steps : (n : ℕ) → Feeds run a last part (fedOf n 0 p end) a′ buffer buffer′
+  feeds-steps n = feeds-lines run a last part buffer 0 (session (run .lines) Accepted a) opens (λ k l. absurd (omega (arith, l))) (omega arith) end isEnd
+      (omega arith) (due last isEnd) n (e ∙ ap (λ m. take m part) whole) g
+    where
+      whole : end ≡ end - 18 * 0
+      whole = omega arith
+
+      opened : awaits (sessionOf run a) ≡ false
+      opened = lines-opened (sessionOf run a) some
+
+      opens : (k : ℕ) → runFrom (sessionOf run a) (cut (0 + k) part) ≡ runLines lent (session (run .lines) Accepted a) (cut k part)
+      opens k = ap (λ i. runFrom (sessionOf run a) (cut i part)) (zero-add k) ∙ run-opened (sessionOf run a) opened (cut k part)
+          ∙ ap (λ x. runLines lent (session (run .lines) x a) (cut k part)) (accepted (run .refusal) going)
+
+      due : (b : Bool) → end ≡ cond b (length part) (18 * (length part / 18)) → ready (sessionOf run a) b part ≡ 0 + (end - 18 * 0 + 17) / 18
+      due true q = rw opened (omega arith)
+      due false q = omega arith
+
+-- a run whose header is accepted: the lines behind it are served from the fresh table of its stations
+module _ (last : Bool) (part : Lists.List ℕ) {l : Lists.List ℕ} (q : l ≡ take 18 part) {n : ℕ} (h : headerRead l ≡ Stations n)
+    {end : ℕ} (isEnd : end ≡ cond last (length part) (18 * (length part / 18))) where
+  pub header-inside : (18 ≤ end) × (end ≤ length part)
+  header-inside = (go (omega (arith, header-length l n h, ap length q ∙ length-take 18 part)) last isEnd, end-within last (length part) isEnd)
+    where
+      go : 18 ≤ length part → (b : Bool) → end ≡ cond b (length part) (18 * (length part / 18)) → 18 ≤ end
+      go g true i = omega arith
+      go g false i = omega arith
+
+  module _ {chunk : Lists.List ℕ} (e : chunk ≡ take (end - 18) (drop 18 part)) {a₁ a′ : Arrays} {p : Progress} {buffer buffer′ : Lists.List ℕ}
+      (g : Reports (session 1 Accepted a₁) chunk a′ p buffer buffer′) where
+    pub headed-within : 18 + p .read ≤ end
+    headed-within = omega (arith, header-inside, g .whole, ap length e ∙ length-take (end - 18) (drop 18 part))
+
+    pub feeds-headed : (run : Run) (a : Arrays) → refusalNumber (run .refusal) ≡ 0 → run .lines ≡ 0 → 928 ≤ length buffer → a₁ ≡ freshTable lent n
+        → Feeds run a last part (fedOf n 18 p end) a′ buffer buffer′
+    unfolding cut
+    feeds-headed run a going first room fresh = feeds-lines run a last part buffer 1 (session 1 Accepted a₁) opens
+        (λ k b. let z : k ≡ 0 = omega (arith, b) in rw z (going, omega (arith, room))) (omega (arith, first)) end isEnd (header-inside .0) (due last isEnd)
+        n e g
+      where
+        waits : awaits (sessionOf run a) ≡ true
+        waits = rw (eq-eqb _ 0 going, eq-eqb _ 0 first) refl
+
+        opens : (j : ℕ) → runFrom (sessionOf run a) (cut (1 + j) part) ≡ runLines lent (session 1 Accepted a₁) (cut j (drop 18 part))
+        opens j =
+            let one : 1 + j ≡ suc j = omega arith in
+            ap (λ i. runFrom (sessionOf run a) (cut i part)) one ∙ rw (waits, ← q, h, fresh) refl
+
+        due : (b : Bool) → end ≡ cond b (length part) (18 * (length part / 18)) → ready (sessionOf run a) b part ≡ 1 + (end - 18 * 1 + 17) / 18
+        due true i = rw waits (omega (arith, length-drop 18 part, header-inside))
+        due false i = omega (arith, header-inside)
+
+-- THE STATE THAT IS LEFT
+
+module _ {s₁ : Session Arrays} {chunk : Lists.List ℕ} {a′ : Arrays} {p : Progress} {buffer buffer′ : Lists.List ℕ}
+    (g : Reports s₁ chunk a′ p buffer buffer′) where
+  pub standing-lines : s₁ .lines ≢ 0 → s₁ .lines ≤ 1000001 → (n : ℕ) {order : Lists.List ℕ} → Runnable a′ order
+      → Standing (record { lines = p .lines; count = n; refusal = p .refusal }) a′ order
+  standing-lines d b n f = record {
+    runnable = f;
+    few = λ z. g .counted z .1 b;
+    fresh = λ w. absurd (true≢false (sym w ∙ opened));
+  }
+    where
+      opened : awaits (session (p .lines) (p .refusal) a′) ≡ false
+      opened = by-cases (ℕ-discrete (refusalNumber (p .refusal)) 0)
+          (λ z. lines-opened (session (p .lines) (p .refusal) a′) (λ e. d (omega (arith, g .counted z .0, e))))
+          (λ n. refused-opened (session (p .lines) (p .refusal) a′) n)
+
+pub standing-refused : {a : Arrays} {order : Lists.List ℕ} → Runnable a order → (n : ℕ) (l : Lists.List ℕ) (x : Refusal) → headerRead l ≡ Headers.Refused x
+    → Standing (record { lines = 0; count = n; refusal = x }) a order
+standing-refused {a} f n l x h =
+    let d = header-refused l x h in
+    record { runnable = f; few = λ z. absurd (d z); fresh = λ w. absurd (true≢false (sym w ∙ refused-opened (session 0 x a) d)) }

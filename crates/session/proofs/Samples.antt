@@ -1,0 +1,13 @@
+-- The samples, of the declared table.
+use Rattle.transition.specs.Samples.{SamplesHold}
+use Rattle.schedule.specs.Samples.{FileSamplesHold}
+use Rattle.schedule.proofs.Samples.{file-samples-hold}
+use Rattle.arrays.proofs.Samples.{samples-hold}
+use Rattle.table.specs.Tables.{declared}
+use Rattle.table.proofs.Apart.{declared-lawful}
+
+pub samples : SamplesHold declared
+samples = samples-hold declared declared-lawful
+
+pub file-samples : FileSamplesHold declared
+file-samples = file-samples-hold declared declared-lawful
