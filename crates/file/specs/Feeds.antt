@@ -9,14 +9,19 @@ use lib.ListN.{length, take, drop}
 use lib.Dec.{eqb, ltb}
 use Rattle.transition.specs.Forms.{over, freshTable}
 use Rattle.moves.specs.Moves.{refusalNumber}
+use Rattle.moves.specs.declared.Refusal.the-variants.{Accepted}
 use Rattle.arrays.specs.Arrays.{Arrays}
 use Rattle.arrays.specs.Form.{lent}
+use Rattle.schedule.specs.Lines.{headerRead}
 use Rattle.schedule.specs.Sessions.{Session, session, Served, standing, headerOf}
 use Rattle.schedule.specs.Files.{cut, pieces, headerPrinted, behind, runLines}
+use Rattle.schedule.specs.declared.Header.the-variants as Headers
 use Rattle.file.specs.Contracts.{Runnable}
 use Rattle.file.specs.declared.Run.{Run}
 use Rattle.file.specs.declared.Fed.{Fed}
 use Rattle.file.specs.declared.Progress.{Progress}
+use Rattle.file.specs.declared.Opening.{Opening}
+use Rattle.file.specs.declared.Opening.the-variants.{Nothing, Refused, Lines}
 
 -- WHAT IS STILL TO COME
 
@@ -71,15 +76,6 @@ pub record Feeds (run : Run) (a : Arrays) (last : Bool) (part : Lists.List ℕ) 
   pub short : r .written ≤ 928 * served
   pub counted : refusalNumber (r .run .refusal) ≡ 0 → r .run .lines ≡ run .lines + served
 
--- what is told of a part whose lines were served from one place up to another
-abbrev pub fedOf : ℕ → ℕ → Progress → ℕ → Fed
-fedOf n at r end = record {
-  run = record { lines = r .lines; count = n; refusal = r .refusal };
-  read = at + r .read;
-  written = r .written;
-  more = eqb (refusalNumber (r .refusal)) 0 && ltb (at + r .read) end;
-}
-
 -- EVERY SEQUENCE OF PARTS
 
 -- a call: the part that it is lent, what comes behind that in the file, whether the part is said to be the last, and what came of it
@@ -110,3 +106,34 @@ Ends (x ∷ (y ∷ xs)) run = Ends (y ∷ xs) run
 abbrev pub output : Lists.List Feeding → Lists.List ℕ
 output [] = []
 output (x ∷ xs) = take (x .fed .written) (x .buffer′) ++ output xs
+
+-- FOR THE CODE OF ONE PART
+
+-- what is told of a part whose lines were served from one place up to another
+abbrev pub fedOf : ℕ → ℕ → Progress → ℕ → Fed
+fedOf n at r end = record {
+  run = record { lines = r .lines; count = n; refusal = r .refusal };
+  read = at + r .read;
+  written = r .written;
+  more = eqb (refusalNumber (r .refusal)) 0 && ltb (at + r .read) end;
+}
+
+-- lines behind `lines` others are served next, from a place of the part on and on the table a′: all of the part, or those behind its header
+pub record Opened (run : Run) (a : Arrays) (part : Lists.List ℕ) (lines at : ℕ) (a′ : Arrays) : Type 0 where
+  pub going : refusalNumber (run .refusal) ≡ 0
+  pub header : ℕ
+  pub waits : ((header ≡ 0) × (awaits (sessionOf run a) ≡ false)) ⊎ ((header ≡ 1) × (awaits (sessionOf run a) ≡ true))
+  pub place : at ≡ 18 * header
+  pub within : at ≤ length part
+  pub counted : lines ≡ run .lines + header
+  pub few : (lines ≢ 0) × (lines ≤ 1000001)
+  pub runs : (k : ℕ) → runFrom (sessionOf run a) (cut (header + k) part) ≡ runLines lent (session lines Accepted a′) (cut k (drop at part))
+
+-- how a part starts: with nothing that can be served, with a header that is refused, or with lines
+abbrev pub Opens : Run → Arrays → Bool → Lists.List ℕ → (ℕ → Arrays) → Lists.List ℕ → Opening → Type 0
+Opens run a last part left order Nothing =
+    (left (run .count) ≡ a) × Standing run a order × ((eqb (refusalNumber (run .refusal)) 0 && ltb 0 (ready (sessionOf run a) last part)) ≡ false)
+Opens run a last part left order (Refused x) =
+    (left (run .count) ≡ a) × Standing run a order × (awaits (sessionOf run a) ≡ true) × (0 < ready (sessionOf run a) last part)
+    × (headerRead (take 18 part) ≡ Headers.Refused x)
+Opens run a last part left order (Lines lines n at) = Opened run a part lines at (left n) × Runnable (left n) order

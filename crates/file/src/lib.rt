@@ -16,7 +16,7 @@ ghost use Rattle.engine.specs.Scans.{orderOf};
 ghost use Rattle.schedule.specs.Sessions.{session};
 ghost use Rattle.schedule.specs.Files.{cut, pieces, printed, runLines};
 ghost use mathlib.Core.Bool.{cond};
-ghost use Rattle.file.specs.Feeds.{Standing, Feeds, fedOf};
+ghost use Rattle.file.specs.Feeds.{Standing, Feeds, fedOf, Opens};
 ghost use Rattle.file.specs.Contracts.{Runnable, Turns, Prints, Reports, RunsFile, ReportsFile};
 use arrays::Control;
 use arrays::Jobs;
@@ -289,6 +289,56 @@ fn fed_by(n: usize, at: usize, r: Progress, end: usize) -> Fed
     }
 }
 
+// How a part starts: with nothing that can be served, with a header that is refused, or with lines behind `lines` others, from a place on, on a table of
+// `count` stations.
+enum Opening {
+    Nothing,
+    Refused(Refusal),
+    Lines { lines: u32, count: usize, at: usize },
+}
+
+// Reads the header where it is still to come, and writes the fresh table of its stations.
+fn open_part(
+    run: Run,
+    last: bool,
+    order: &mut [usize; 32],
+    labels: &mut Labels,
+    jobs: &mut Jobs,
+    control: &mut Control,
+    results: &mut Results,
+    part: &[u8],
+) -> Opening
+    requires { ⌜ Standing run (arrays (run .count) (now labels) (now jobs) (now control) (now results)) (now order) ⌝ }
+    ensures { λ r. ⌜ Opens run (arrays (run .count) (now (labels .entry)) (now (jobs .entry)) (now (control .entry)) (now (results .entry))) last
+        (now (part .entry)) (λ n. arrays n (now (labels .exit)) (now (jobs .exit)) (now (control .exit)) (now (results .exit))) (now (order .exit)) r ⌝ }
+{
+    let refusal = run.refusal;
+    if refusal.number() != 0 {
+        return Opening::Nothing;
+    }
+    if run.lines != 0 {
+        return Opening::Lines {
+            lines: run.lines,
+            count: run.count,
+            at: 0,
+        };
+    }
+    if (part.len() < 18) & !last {
+        return Opening::Nothing;
+    }
+    match schedule::read_header(schedule::line_at(part, 0)) {
+        Header::Refused(refusal) => Opening::Refused(refusal),
+        Header::Stations(n) => {
+            refresh(n, order, labels, jobs, control, results);
+            Opening::Lines {
+                lines: 1,
+                count: n,
+                at: 18,
+            }
+        }
+    }
+}
+
 // Serves a part of the file, the header first where it is still to come, and writes what the lines print. What is left unread of the part, a line that is
 // not whole or lines for whose report there is no room, stands at the front of the next one.
 pub fn feed(
@@ -310,41 +360,16 @@ pub fn feed(
     ensures { λ r. ⌜ Standing (r .run) (arrays (r .run .count) (now (labels .exit)) (now (jobs .exit)) (now (control .exit)) (now (results .exit)))
         (now (order .exit)) ⌝ }
 {
-    let refusal = run.refusal;
-    if refusal.number() != 0 {
-        return Fed {
-            run,
-            read: 0,
-            written: 0,
-            more: false,
-        };
-    }
     let end = end_of(part.len(), last);
-    if run.lines != 0 {
-        let r = report_lines(
-            run.lines,
-            run.count,
-            order,
-            labels,
-            jobs,
-            control,
-            results,
-            &part[..end],
-            out,
-        );
-        return fed_by(run.count, 0, r, end);
-    }
-    if (part.len() < 18) & !last {
-        return Fed {
+    match open_part(run, last, order, labels, jobs, control, results, part) {
+        Opening::Nothing => Fed {
             run,
             read: 0,
             written: 0,
             more: false,
-        };
-    }
-    let header = schedule::line_at(part, 0);
-    match schedule::read_header(header) {
-        Header::Refused(refusal) => {
+        },
+        Opening::Refused(refusal) => {
+            let header = schedule::line_at(part, 0);
             let written = print_refusal(1, refusal, out);
             Fed {
                 run: Run {
@@ -357,20 +382,19 @@ pub fn feed(
                 more: false,
             }
         }
-        Header::Stations(n) => {
-            refresh(n, order, labels, jobs, control, results);
+        Opening::Lines { lines, count, at } => {
             let r = report_lines(
-                1,
-                n,
+                lines,
+                count,
                 order,
                 labels,
                 jobs,
                 control,
                 results,
-                &part[18..end],
+                &part[at..end],
                 out,
             );
-            fed_by(n, 18, r, end)
+            fed_by(count, at, r, end)
         }
     }
 }
