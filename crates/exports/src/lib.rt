@@ -131,16 +131,29 @@ pub extern "C" fn tickets_top_holders(
     }
 }
 
-// Writes the report of a whole schedule file, and answers its final refusal, 0 if it has none; 7, and nothing is written, if the report does not fit.
+// What is told of the report of a file: 7 if it does not fit, else 0; the final refusal of the file, 0 if it has none; how many bytes were written, none with
+// 7; and how long the report is.
+#[repr(C)]
+pub struct Reported {
+    pub refusal: u64,
+    pub ended: u64,
+    pub written: u64,
+    pub length: u64,
+}
+
+// Writes the report of a whole schedule file; 7, and nothing is written, if it does not fit.
 #[no_mangle]
-pub extern "C" fn tickets_report(schedule: &[u8], report: &mut [u8]) -> Answer
-    ensures { λ r. ⌜ ReportsFile (now (schedule .entry)) (now (report .entry)) (r .refusal) (r .written) (now (report .exit)) ⌝ }
+pub extern "C" fn tickets_report(schedule: &[u8], report: &mut [u8]) -> Reported
+    ensures { λ r. ⌜ ReportsFile (now (schedule .entry)) (now (report .entry)) (r .refusal) (r .ended) (r .written) (r .length) (now (report .exit)) ⌝ }
 {
     let whole = file::report(schedule, report);
     let refusal = whole.refusal;
-    Answer {
+    let ended = whole.ended;
+    Reported {
         refusal: refusal.number(),
+        ended: ended.number(),
         written: whole.written as u64,
+        length: whole.length as u64,
     }
 }
 

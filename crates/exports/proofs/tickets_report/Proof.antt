@@ -6,4 +6,4 @@ returns : tie.Need-returns
 returns c = search needs
 
 pub tickets-report-spec : {M : Type 1} → statement M
-tickets-report-spec = tie.close (tie.spec (λ c κs. search needs) (λ c κs. search needs) (λ c. search needs) returns)
+tickets-report-spec = tie.close (tie.spec (λ c κs. search needs) (λ c κs. search needs) (λ c κs. search needs) (λ c. search needs) returns)

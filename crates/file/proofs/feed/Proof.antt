@@ -66,8 +66,10 @@ returns-2 c =
     let s = start o in
     let f = starts o (c .before .before .before .before .before .before .refusal .given .1) in
     let told = c .before .before .print-refusal .ensures in
-    rw (f .0) (feeds-refused (s .args .run) (table s) (s .args .last) (s .args .part .now) (s .args .out .now) (f .2) (f .3) (s .pre .1) (s .pre .0 .fresh) (f .4) (c .before .before .before .before .line-at .ensures) (told .0) (told .1),
-    standing-refused (f .1) (s .args .run .count) _ _ (f .4))
+    rw (f .0) (
+      feeds-refused (s .args .run) (table s) (s .args .last) (s .args .part .now) (s .args .out .now) (f .2) (f .3) (s .pre .1) (s .pre .0 .fresh) (f .4) (c .before .before .before .before .line-at .ensures) (told .0) (told .1),
+      standing-refused (f .1) (s .args .run .count) _ _ (f .4),
+    )
 
 returns-3 : tie.Need-returns-3
 returns-3 c =
@@ -75,8 +77,10 @@ returns-3 c =
     let x = y .before .before .before .before .before .before .before .before .before in
     let s = start (x .before .before) in
     let g = y .report-lines .ensures in
-    rw (c .fed-by .ensures) (feeds-lines (opened x .0) (s .args .last) (x .before .before .before .before .before .before .before .before .end-of .ensures) refl (g .0) (x .lines .given .0 .1 .0) (s .pre .1),
-    standing-lines (opened x .0) (s .args .last) (x .before .before .before .before .before .before .before .before .end-of .ensures) refl (g .0) (x .lines .given .0 .1 .0) (g .1))
+    rw (c .fed-by .ensures) (
+      feeds-lines (opened x .0) (s .args .last) (x .before .before .before .before .before .before .before .before .end-of .ensures) refl (g .0) (x .lines .given .0 .1 .0) (s .pre .1),
+      standing-lines (opened x .0) (s .args .last) (x .before .before .before .before .before .before .before .before .end-of .ensures) refl (g .0) (x .lines .given .0 .1 .0) (g .1),
+    )
 
 pub feed-spec : {M : Type 1} → statement M
 feed-spec = tie.close (tie.spec (λ c κs. search needs) (λ c κs. search needs) (λ c. search needs) (λ c. search needs) (λ c κs. search needs)
