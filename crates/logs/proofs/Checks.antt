@@ -25,7 +25,7 @@ use Rattle.arrays.specs.Planes.{beside}
 use Rattle.engine.proofs.Reports.{result-length}
 use Rattle.schedule.proofs.Places.{callsFrom, StepAt, calls-step}
 use Rattle.unbounded.specs.Tables.{Table, table, restᵘ, stateᵘ, answeredᵘ, Turnsᵘ, Runnableᵘ}
-use Rattle.unbounded.specs.declared.Turn.{Turn}
+use Rattle.unbounded.specs.declared.NumberedTurn.{NumberedTurn}
 use Rattle.logs.specs.Files.{answerBytes}
 use Rattle.logs.specs.Contracts.{writes, RunsCall, numbersLeft, pending, callsLeft, ahead, placed, Checking, workLeft, Drained, Feeds, Finishes}
 use Rattle.logs.specs.declared.Ran.{Ran}
@@ -76,7 +76,7 @@ take-behind k n l h g =
 
 -- A CALL
 
-module _ {t t′ : Table} {order order′ : Lists.List ℕ} {c : Call} {log : Lists.List ℕ} {used : ℕ} {r : Turn}
+module _ {t t′ : Table} {order order′ : Lists.List ℕ} {c : Call} {log : Lists.List ℕ} {used : ℕ} {r : NumberedTurn}
     (g : Turnsᵘ t order c log used t′ order′ r) where
   -- its number does not fit
   pub run-unfit : (buffer : Lists.List ℕ) → {u v : ℕ} → r .fits ≡ false → RunsCall t c log used t′ buffer (record { fits = false; used = u; written = v })
