@@ -1,11 +1,9 @@
 // Reading a schedule from a descriptor, for programs that serve at most 4,096 step lines and refuse a longer file before any step is run. What is told of a
 // file is decided by functions of its bytes; only the reads stand outside them.
 ghost use mathlib.Core.Path.{_≡_};
-ghost use mathlib.Core.Bool.{Bool};
 ghost use mathlib.Core.List.{[]};
-ghost use Prim.Native.Nat.{_≤_};
 ghost use lib.ListN.{length};
-ghost use Rattle.intake.specs.Contracts.{ahead, Within, ReadsPart, isSettled, Taken};
+ghost use Rattle.intake.specs.Contracts.{aheadRead, Within, ReadsPart, isSettled, Taken};
 ghost use Rattle.intake.specs.declared.Reading.the-variants.{Start, Lines};
 use moves::Refusal;
 use schedule::Header;
@@ -28,10 +26,11 @@ fn read_lines(lines: u32, part: &[u8]) -> Reading
 {
     let s = schedule::survey_lines(lines, part);
     let refusal = s.refusal;
-    if refusal.number() != 0 {
+    if refusal.refuses() {
         return Reading::Refused(refusal);
     }
-    Reading::Lines(lines + s.steps)
+    let read = lines + s.steps;
+    Reading::Lines(read)
 }
 
 // Reads the first part of a file.
@@ -73,7 +72,7 @@ pub fn settled(reading: Reading) -> bool
 
 // What is told of a file that ends here.
 pub fn told(reading: Reading) -> Refusal
-    ensures { λ r. ⌜ r ≡ ahead reading [] ⌝ }
+    ensures { λ r. ⌜ r ≡ aheadRead reading [] ⌝ }
 {
     match reading {
         Reading::Start => Refusal::IncompleteLine,
@@ -105,9 +104,9 @@ fn read_on(fd: i32, part: &mut [u8], complaint: &[u8]) -> Intake
         if r.failed {
             return Intake::Failed;
         }
-        let count = r.count;
-        reading = read_part(reading, &part[..count]);
-        if count < part.len() {
+        let k = r.count;
+        reading = read_part(reading, &part[..k]);
+        if k < part.len() {
             return Intake::Refused(told(reading));
         }
     }

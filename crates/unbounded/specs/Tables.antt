@@ -19,7 +19,7 @@ use Rattle.arrays.specs.Planes.{beside}
 use Rattle.engine.specs.Contracts.{Named}
 use Rattle.unbounded.specs.Numbers.{orderBy}
 use Rattle.unbounded.specs.declared.Given.{Given}
-use Rattle.unbounded.specs.declared.Turn.{Turn}
+use Rattle.unbounded.specs.declared.NumberedTurn.{NumberedTurn}
 
 -- a table of `count` stations
 pub record Table : Type 0 where
@@ -63,7 +63,7 @@ answeredᵘ t c ns = step original (t .count) (numbered (getD ns 0 0)) (stateᵘ
 
 -- A CALL with room for a whole scan result, where the first `used` of the numbers are used up. If the next number fits, the table left holds the state that
 -- the machine comes to; the numbers used up, the refusal and the entries that make the report are told.
-pub record Servedᵘ (t : Table) (c : Call) (given : Lists.List ℕ) (used : ℕ) (t′ : Table) (r : Turn) : Type 0 where
+pub record Servedᵘ (t : Table) (c : Call) (given : Lists.List ℕ) (used : ℕ) (t′ : Table) (r : NumberedTurn) : Type 0 where
   pub state : stateᵘ t′ ≡ answeredᵘ t c (drop used given) .state
   pub counted : r .used ≡ used + snapsOf original (t .count) (stateᵘ t) c
   pub enough : r .used ≤ length given
@@ -76,12 +76,12 @@ pub record Servedᵘ (t : Table) (c : Call) (given : Lists.List ℕ) (used : ℕ
       ≡ reportLines (c .line) 1 (entriesIn (r .handed .entries) (getD (t′ .results) (r .handed .place) []))
 
 -- if not, nothing changes: no number is used up, and nothing is handed out. The call would be accepted, as it asks for a number.
-pub record Kept (t : Table) (order : Lists.List ℕ) (c : Call) (used : ℕ) (t′ : Table) (order′ : Lists.List ℕ) (r : Turn) : Type 0 where
+pub record Kept (t : Table) (order : Lists.List ℕ) (c : Call) (used : ℕ) (t′ : Table) (order′ : Lists.List ℕ) (r : NumberedTurn) : Type 0 where
   pub table : t′ ≡ t
   pub listed : order′ ≡ order
   pub turn : r ≡ record { fits = false; used = used; handed = record { refusal = Accepted; place = placeOf (t .count) (c .station); entries = 0 } }
 
-pub record Turnsᵘ (t : Table) (order : Lists.List ℕ) (c : Call) (given : Lists.List ℕ) (used : ℕ) (t′ : Table) (order′ : Lists.List ℕ) (r : Turn)
+pub record Turnsᵘ (t : Table) (order : Lists.List ℕ) (c : Call) (given : Lists.List ℕ) (used : ℕ) (t′ : Table) (order′ : Lists.List ℕ) (r : NumberedTurn)
     : Type 0 where
   pub fits : r .fits ≡ fitsNext (t .count) (beside (t .numbers)) (labelStep (judge false (t .count) (restᵘ t) c)) (drop used given)
   pub served : r .fits ≡ true → Servedᵘ t c given used t′ r

@@ -95,7 +95,7 @@ fn refresh_order(m: Move, place: usize, current: &[u32; 32], n: usize, order: &m
 }
 
 // What a step call comes to: whether its number fits, how many numbers are used up then, and what it hands out. A refused call takes no number.
-pub struct Turn {
+pub struct NumberedTurn {
     pub fits: bool,
     pub used: usize,
     pub handed: Handed,
@@ -112,7 +112,7 @@ pub fn take_turn(
     jobs: &mut Jobs,
     control: &mut Control,
     results: &mut Results,
-) -> Turn
+) -> NumberedTurn
     requires { ⌜ Runnableᵘ (table n (now numbers) (now jobs) (now control) (now results)) (now order) ⌝ }
     requires { ⌜ used ≤ length (now log) ⌝ }
     ensures { λ r. ⌜ Turnsᵘ (table n (now (numbers .entry)) (now (jobs .entry)) (now (control .entry)) (now (results .entry))) (now (order .entry))
@@ -131,7 +131,7 @@ pub fn take_turn(
             place,
             entries: 0,
         };
-        return Turn {
+        return NumberedTurn {
             fits: false,
             used,
             handed,
@@ -140,7 +140,7 @@ pub fn take_turn(
     let handed = engine::carry_rest(n, task, order, jobs, control, results);
     numbers::renumber(m, place, z, given.number, numbers);
     refresh_order(m, place, &numbers[CURRENT], n, order);
-    Turn {
+    NumberedTurn {
         fits: true,
         used: used + given.taken,
         handed,
