@@ -336,6 +336,17 @@ fn open_part(
     }
 }
 
+// The number of stations as it is. The compiler is told that there are two at least, which saves the loops over them a test and a copy.
+fn stations(n: usize) -> usize
+    requires { ⌜ 2 ≤ n ⌝ }
+    ensures { λ r. ⌜ r ≡ n ⌝ }
+{
+    if n < 2 {
+        return 2;
+    }
+    n
+}
+
 // Serves a part of the file, the header first where it is still to come, and writes what the lines print. What is left unread of the part, a line that is
 // not whole or lines for whose report there is no room, stands at the front of the next one.
 pub fn feed(
@@ -380,9 +391,10 @@ pub fn feed(
             }
         }
         Opening::Lines { lines, count, at } => {
+            let n = stations(count);
             let r = report_lines(
                 lines,
-                count,
+                n,
                 order,
                 labels,
                 jobs,
@@ -391,7 +403,7 @@ pub fn feed(
                 &part[at..end],
                 out,
             );
-            fed_by(count, at, r, end)
+            fed_by(n, at, r, end)
         }
     }
 }
