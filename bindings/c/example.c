@@ -115,12 +115,14 @@ int main(void) {
         printf("station 1 returns to service: %" PRIu64 "\n", tickets_board_return_to_service(&board, 1));
     print_shown(&board);
     static uint8_t whole[TICKETS_REPORT_ROOM(sizeof file - 1)];
-    struct tickets_answer answer = tickets_report((const uint8_t *)file, sizeof file - 1, whole, sizeof whole);
-    if (answer.refusal != 0)
+    struct tickets_reported told = tickets_report((const uint8_t *)file, sizeof file - 1, whole, 28);
+    printf("report in 28 bytes: refused by %" PRIu64 ", needs %" PRIu64 "\n", told.refusal, told.length);
+    told = tickets_report((const uint8_t *)file, sizeof file - 1, whole, sizeof whole);
+    if (told.refusal != 0 || told.ended != 0)
         return 1;
-    fwrite(whole, 1, answer.written, stdout);
+    fwrite(whole, 1, told.written, stdout);
     uint32_t numbers[TICKETS_MAX_STEPS] = {0};
-    answer = tickets_numbers((const uint8_t *)crossing, sizeof crossing - 1, numbers, TICKETS_MAX_STEPS);
+    struct tickets_answer answer = tickets_numbers((const uint8_t *)crossing, sizeof crossing - 1, numbers, TICKETS_MAX_STEPS);
     if (answer.refusal != 0)
         return 1;
     for (uint64_t at = 0; at < answer.written; at++)
@@ -131,13 +133,13 @@ int main(void) {
     for (size_t at = 0; at < count; at++)
         logged[at] = numbers[at];
     static uint8_t scans[TICKETS_REPORT_ROOM(sizeof crossing - 1)];
-    answer = tickets_report((const uint8_t *)crossing, len, scans, sizeof scans);
-    if (answer.refusal != 0)
+    told = tickets_report((const uint8_t *)crossing, len, scans, sizeof scans);
+    if (told.refusal != 0 || told.ended != 0)
         return 1;
-    print_verdict("its numbers, its scan", len, logged, count, scans, answer.written);
+    print_verdict("its numbers, its scan", len, logged, count, scans, told.written);
     const uint64_t others[] = {1, 2, 3, 3};
-    print_verdict("other numbers, its scan", len, others, 4, scans, answer.written);
+    print_verdict("other numbers, its scan", len, others, 4, scans, told.written);
     print_verdict("other numbers, the scan by these", len, others, 4, (const uint8_t *)shared_number, sizeof shared_number - 1);
-    print_verdict("cut short", len - 1, logged, count, scans, answer.written);
+    print_verdict("cut short", len - 1, logged, count, scans, told.written);
     return 0;
 }

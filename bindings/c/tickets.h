@@ -111,6 +111,17 @@ struct tickets_verdict {
 
 static_assert(sizeof(struct tickets_verdict) == 16, "two words");
 
+/* Of the report of a file: TICKETS_SHORT_REPORT if it is longer than the buffer, else 0; the refusal that ended the file, 0 if it was read to its end; how
+   many bytes were written, none if refused; and how long the report is. */
+struct tickets_reported {
+    uint64_t refusal;
+    uint64_t ended;
+    uint64_t written;
+    uint64_t length;
+};
+
+static_assert(sizeof(struct tickets_reported) == 32, "four words");
+
 /* The exported functions, on the arrays. */
 uint64_t tickets_fresh(uint64_t count, uint8_t (*labels)[TICKETS_MAX_STATIONS][TICKETS_MAX_DIGITS], uint32_t (*jobs)[TICKETS_MAX_STATIONS],
     uint8_t (*control)[TICKETS_MAX_STATIONS], uint32_t (*results)[2][TICKETS_MAX_STATIONS]);
@@ -123,12 +134,12 @@ struct tickets_answer tickets_step_panel(uint64_t count, uint8_t (*labels)[TICKE
 struct tickets_holders tickets_top_holders(uint64_t count, const uint8_t (*labels)[TICKETS_MAX_STATIONS][TICKETS_MAX_DIGITS],
     const uint32_t (*jobs)[TICKETS_MAX_STATIONS], const uint8_t (*control)[TICKETS_MAX_STATIONS], const uint32_t (*results)[2][TICKETS_MAX_STATIONS]);
 
-/* Writes the report of a whole schedule file to the front of the buffer; what stands past it stays. The refusal is the one that ended the file: 8, 9, 10,
-   1 or 11 of its header, 8, 9 or 12 of a step line; the report's last line shows it. It is 0 if the file was read to its end. TICKETS_SHORT_REPORT is
-   answered just if the report of this file is longer than the buffer, and then nothing is written. TICKETS_REPORT_ROOM bytes are enough for the report of
-   any file of that length. */
+/* Writes the report of a whole schedule file to the front of the buffer; what stands past it stays. TICKETS_SHORT_REPORT is answered just if the report of
+   this file is longer than the buffer, and then nothing is written. Whether it fits or not, `ended` is the refusal that ended the file: 8, 9, 10, 1 or 11 of
+   its header, 8, 9 or 12 of a step line, which the report's last line shows, or 0 if it was read to its end; and `length` is what the report needs.
+   TICKETS_REPORT_ROOM bytes are enough for the report of any file of that length. */
 #define TICKETS_REPORT_ROOM(schedule_len) (((schedule_len) / TICKETS_LINE + 1) * TICKETS_MAX_STATIONS * TICKETS_REPORT_LINE)
-struct tickets_answer tickets_report(const uint8_t *schedule, size_t schedule_len, uint8_t *report, size_t report_len);
+struct tickets_reported tickets_report(const uint8_t *schedule, size_t schedule_len, uint8_t *report, size_t report_len);
 
 /* Numbers the snaps of a whole schedule file: for each accepted snap for a label, in their order, writes a number to the front of the list, and answers
    their count; what stands past them stays. The number is 0 where the station was the newest already, else the pending number that this snap sets in the

@@ -13,7 +13,7 @@ use ticket_bench::generate::{crowded, schedule, stalled, Ending, Random};
 use ticket_bench::plain::{self, refusal, Record, Table, LINE, MAX_STEPS};
 use ticket_bench::reports::{self, final_refusal};
 use ticket_bench::{logs, numbers, unbounded};
-use tickets::{Answer, Board, Holders, Verdict};
+use tickets::{Answer, Board, Holders, Reported, Verdict};
 
 /// How often each refusal number was the plain program's answer, 0 for a call or a report line that is not refused.
 pub struct Counts {
@@ -54,9 +54,11 @@ fn check_buffer(schedule: &[u8], expected: &[u8], len: usize, fill: u8, counts: 
     let mut area = vec![fill; len + BEHIND];
     let fits = len >= expected.len();
     let report = if fits { expected } else { &[] };
-    let expected_answer = Answer { refusal: if fits { final_refusal(expected) } else { refusal::SHORT_REPORT }, written: report.len() as u64 };
+    let refusal = if fits { 0 } else { refusal::SHORT_REPORT };
+    let ended = final_refusal(expected);
+    let expected_answer = Reported { refusal, ended, written: report.len() as u64, length: expected.len() as u64 };
     let answer = tickets::report_into(schedule, &mut area[..len]);
-    counts.add(expected_answer.refusal);
+    counts.add(if fits { ended } else { refusal });
     let (front, rest) = area.split_at(report.len());
     same("answer", &answer, &expected_answer)
         .and_then(|()| same_bytes("report", front, report))

@@ -102,6 +102,8 @@ fn main() -> io::Result<()> {
         writeln!(out, "station 1 returns to service: {}", board.return_to_service(1).err().unwrap_or(0))?;
     }
     writeln!(out, "stations shown: {}", shown(&mut board))?;
+    let short = tickets::report_into(FILE, &mut [0; 28]);
+    writeln!(out, "report in 28 bytes: refused by {}, needs {}", short.refusal, short.length)?;
     let (report, refusal) = tickets::report(FILE);
     assert_eq!(refusal, 0, "nothing ends this file before its last line");
     out.write_all(&report)?;

@@ -133,6 +133,17 @@ pub struct Verdict {
     pub right: u64,
 }
 
+/// What is told of the report of a file: 7 if it is longer than the buffer, else 0; the refusal that ended the file, 0 if it was read to its end; how many
+/// bytes were written, none if refused; and how long the report is.
+#[repr(C)]
+#[derive(Clone, Copy, PartialEq, Eq, Debug)]
+pub struct Reported {
+    pub refusal: Refusal,
+    pub ended: Refusal,
+    pub written: u64,
+    pub length: u64,
+}
+
 // No padding, so every byte is a number's; the C header has the same layout.
 const _: () = {
     assert!(offset_of!(Board, jobs) == 8);
@@ -143,6 +154,7 @@ const _: () = {
     assert!(size_of::<Answer>() == 16 && align_of::<Answer>() == 8);
     assert!(size_of::<Holders>() == 16 && align_of::<Holders>() == 8);
     assert!(size_of::<Verdict>() == 16 && align_of::<Verdict>() == 8);
+    assert!(size_of::<Reported>() == 32 && align_of::<Reported>() == 8);
     assert!(size_of::<Record>() == 12 && align_of::<Record>() == 4);
 };
 
@@ -173,7 +185,7 @@ extern "C" {
         panel_len: usize,
     ) -> Answer;
     fn tickets_top_holders(count: u64, labels: &Labels, jobs: &Jobs, control: &Control, results: &Results) -> Holders;
-    fn tickets_report(schedule: *const u8, schedule_len: usize, report: *mut u8, report_len: usize) -> Answer;
+    fn tickets_report(schedule: *const u8, schedule_len: usize, report: *mut u8, report_len: usize) -> Reported;
     fn tickets_numbers(schedule: *const u8, schedule_len: usize, numbers: *mut u32, numbers_len: usize) -> Answer;
     fn tickets_check_log(
         schedule: *const u8,
@@ -187,9 +199,10 @@ extern "C" {
 
 /// Writes the report of a whole schedule file to the front of a buffer; what stands past it stays.
 ///
-/// The refusal is the one that ended the file: 8, 9, 10, 1 or 11 of its header, 8, 9 or 12 of a step line; the report's last line shows it. It is 0 if
-/// the file was read to its end. A buffer that is shorter than the report of this file is refused by 7, and nothing is written.
-pub fn report_into(schedule: &[u8], report: &mut [u8]) -> Answer {
+/// A buffer that is shorter than the report of this file is refused by 7, and nothing is written. Whether it fits or not, `ended` is the refusal that ended
+/// the file: 8, 9, 10, 1 or 11 of its header, 8, 9 or 12 of a step line, which the report's last line shows, or 0 if it was read to its end; and `length` is
+/// what the report needs.
+pub fn report_into(schedule: &[u8], report: &mut [u8]) -> Reported {
     // SAFETY: the function is declared as the library exports it; it takes any bytes, and writes at most `report.len()` to the buffer, which does not
     // overlap the schedule.
     unsafe { tickets_report(schedule.as_ptr(), schedule.len(), report.as_mut_ptr(), report.len()) }
@@ -206,9 +219,9 @@ pub const fn report_room(schedule_len: usize) -> usize {
 pub fn report(schedule: &[u8]) -> (Vec<u8>, Refusal) {
     let mut report = vec![0; report_room(schedule.len())];
     let answer = report_into(schedule, &mut report);
-    assert!(answer.refusal != refusal::SHORT_REPORT, "there is room for every report");
+    assert_eq!(answer.refusal, 0, "there is room for every report");
     report.truncate(answer.written as usize);
-    (report, answer.refusal)
+    (report, answer.ended)
 }
 
 /// Numbers the snaps of a whole schedule file: for each accepted snap for a label, in their order, writes a number to the front of the list; what stands

@@ -6,7 +6,7 @@ use std::path::Path;
 use ticket_bench::generate::{schedule, Ending};
 use ticket_bench::plain;
 use ticket_bench::reports::final_refusal;
-use tickets::{refusal, Answer, Refusal, REPORT_LINE};
+use tickets::{refusal, Refusal, Reported, REPORT_LINE};
 
 const GUARD: usize = 64;
 
@@ -16,12 +16,13 @@ fn check_buffer(schedule: &[u8], report: &[u8], len: usize) {
     let mut buffer = untouched.clone();
     let answer = tickets::report_into(schedule, &mut buffer[GUARD..GUARD + len]);
     let mut expected = untouched;
-    let expected_answer = if len < report.len() {
-        Answer { refusal: refusal::SHORT_REPORT, written: 0 }
+    let (refusal, written) = if len < report.len() {
+        (refusal::SHORT_REPORT, 0)
     } else {
         expected[GUARD..GUARD + report.len()].copy_from_slice(report);
-        Answer { refusal: final_refusal(report), written: report.len() as u64 }
+        (0, report.len() as u64)
     };
+    let expected_answer = Reported { refusal, ended: final_refusal(report), written, length: report.len() as u64 };
     assert_eq!(answer, expected_answer, "a buffer of {len} bytes");
     assert!(buffer == expected, "a buffer of {len} bytes");
 }

@@ -29,7 +29,7 @@ use Rattle.schedule.proofs.Cuts.{run-append, cut-add}
 use Rattle.schedule.specs.declared.Header.the-variants as Headers
 use Rattle.schedule.specs.declared.Header.the-variants.{Stations}
 use Rattle.file.specs.Contracts.{Runnable, readLines, Reports}
-use Rattle.file.specs.Feeds.{sessionOf, awaits, runFrom, readyIn, ready, ahead, Standing, Feeds, fedOf, Feeding, FedBy, Ends, output}
+use Rattle.file.specs.Feeds.{runSession, awaits, runFrom, readyIn, ready, ahead, Standing, Feeds, fedOf, Feeding, FedBy, Ends, output}
 use Rattle.file.specs.declared.Run.{Run}
 use Rattle.file.specs.declared.Fed.{Fed}
 use Rattle.file.specs.declared.Progress.{Progress}
@@ -90,10 +90,10 @@ cut-front (suc k) a b h =
 module _ {run : Run} {a : Arrays} {last : Bool} {part : Lists.List ℕ} {r : Fed} {a′ : Arrays} {buffer buffer′ : Lists.List ℕ}
     (f : Feeds run a last part r a′ buffer buffer′) where
   abbrev s : Session Arrays
-  s = sessionOf run a
+  s = runSession run a
 
   abbrev s′ : Session Arrays
-  s′ = sessionOf (r .run) a′
+  s′ = runSession (r .run) a′
 
   pub feeds-within : r .read ≤ length part
   feeds-within = omega (arith, f .read)
@@ -248,33 +248,33 @@ module _ {run : Run} {a : Arrays} {last : Bool} {part : Lists.List ℕ} {r : Fed
 -- the outcome is given by the run, the part and the buffer: two are the same
 pub feeds-one : {run : Run} {a : Arrays} {last : Bool} {part : Lists.List ℕ} {r r′ : Fed} {a₁ a₂ : Arrays} {buffer b b′ : Lists.List ℕ}
     → Feeds run a last part r a₁ buffer b → Feeds run a last part r′ a₂ buffer b′
-    → (sessionOf (r .run) a₁ ≡ sessionOf (r′ .run) a₂) × (r .read ≡ r′ .read) × (r .written ≡ r′ .written) × (r .more ≡ r′ .more) × (b ≡ b′)
+    → (runSession (r .run) a₁ ≡ runSession (r′ .run) a₂) × (r .read ≡ r′ .read) × (r .written ≡ r′ .written) × (r .more ≡ r′ .more) × (b ≡ b′)
 feeds-one {run} {a} {last} {part} {r} {r′} {a₁} {a₂} {buffer} f g =
     let few : f .served ≤ g .served = feeds-most g (f .served) (f .most) (f .goes) in
     let many : g .served ≤ f .served = feeds-most f (g .served) (g .most) (g .goes) in
     let same : f .served ≡ g .served = omega (arith, few, many) in
-    let e = sym (f .runs) ∙ ap (λ k. runFrom (sessionOf run a) (cut k part)) same ∙ g .runs in (
+    let e = sym (f .runs) ∙ ap (λ k. runFrom (runSession run a) (cut k part)) same ∙ g .runs in (
       ap (λ o. o .session) e,
       omega (arith, f .read, g .read, same),
       f .written ∙ ap (λ o. length (o .bytes)) e ∙ sym (g .written),
-      f .more ∙ (λ i. eqb (refusalNumber (e i .session .refusal)) 0 && ltb (same i) (ready (sessionOf run a) last part)) ∙ sym (g .more),
+      f .more ∙ (λ i. eqb (refusalNumber (e i .session .refusal)) 0 && ltb (same i) (ready (runSession run a) last part)) ∙ sym (g .more),
       f .report ∙ ap (λ o. over (o .bytes) buffer) e ∙ sym (g .report),
     )
 
 -- EVERY SEQUENCE OF PARTS comes to the report of the file
 
 fed-runs : (xs : Lists.List Feeding) (run : Run) (a : Arrays) (rest : Lists.List ℕ) (final : Run) → FedBy run a rest xs → Ends xs final
-    → (ahead (sessionOf run a) rest .bytes ≡ output xs) × (ahead (sessionOf run a) rest .refusal ≡ refusalNumber (final .refusal))
+    → (ahead (runSession run a) rest .bytes ≡ output xs) × (ahead (runSession run a) rest .refusal ≡ refusalNumber (final .refusal))
 fed-runs [] run a rest final f e = absurd e
 fed-runs (x ∷ []) run a rest final f e =
     let g = f .2 in
-    let q = ap (ahead (sessionOf run a)) (f .0) ∙ feeds-rest g (x .behind) (f .1) ∙ ap (behind (g .bytes)) (feeds-done g (x .behind) (f .1) (e .1) (e .2)) in (
+    let q = ap (ahead (runSession run a)) (f .0) ∙ feeds-rest g (x .behind) (f .1) ∙ ap (behind (g .bytes)) (feeds-done g (x .behind) (f .1) (e .1) (e .2)) in (
       ap (λ (o : Served Arrays). o .bytes) q ∙ ap (λ b. b ++ []) (sym (feeds-shown g)),
       ap (λ (o : Served Arrays). o .refusal) q ∙ ap (λ (u : Run). refusalNumber (u .refusal)) (e .0),
     )
 fed-runs (x ∷ (y ∷ xs)) run a rest final f e =
     let g = f .2 in
-    let q = ap (ahead (sessionOf run a)) (f .0) ∙ feeds-rest g (x .behind) (f .1) in
+    let q = ap (ahead (runSession run a)) (f .0) ∙ feeds-rest g (x .behind) (f .1) in
     let left = fed-runs (y ∷ xs) (x .fed .run) (x .table) (drop (x .fed .read) (x .part) ++ x .behind) final (f .3) e in (
       ap (λ (o : Served Arrays). o .bytes) q ∙ (λ i. sym (feeds-shown g) i ++ left .0 i),
       ap (λ (o : Served Arrays). o .refusal) q ∙ left .1,

@@ -19,7 +19,7 @@ use Rattle.arrays.specs.Form.{lent}
 use Rattle.schedule.specs.Sessions.{Session, Served, standing}
 use Rattle.schedule.specs.Files.{pieces, behind, fileRun, fileReport}
 use Rattle.file.specs.Contracts.{RunsFile, ReportsFile}
-use Rattle.file.specs.Feeds.{sessionOf, awaits, ready, ahead, Feeds}
+use Rattle.file.specs.Feeds.{runSession, awaits, ready, ahead, Feeds}
 use Rattle.file.proofs.FeedLaws.{run-started, behind-twice, feeds-within, feeds-shown, feeds-more, feeds-on, feeds-rest, feeds-done}
 use Rattle.file.specs.declared.Run.{Run}
 use Rattle.file.specs.declared.Fed.{Fed}
@@ -71,7 +71,7 @@ pub record Gathered (file out₀ : Lists.List ℕ) (run : Run) (a : Arrays) (lon
   pub counted : long ≡ length bytes
   pub same : length out ≡ length out₀
   pub area : long ≤ length out₀ → out ≡ over bytes out₀
-  pub runs : fileRun lent file ≡ behind bytes (ahead (sessionOf run a) (drop at file))
+  pub runs : fileRun lent file ≡ behind bytes (ahead (runSession run a) (drop at file))
 
 pub gathered-start : (file out : Lists.List ℕ) {run : Run} {a : Arrays} → run ≡ record { lines = 0; count = 2; refusal = Accepted } → a ≡ freshTable lent 2
     → Gathered file out run a 0 0 out
@@ -84,7 +84,7 @@ gathered-start file out {run} {a} e q = record {
   counted = refl;
   same = refl;
   area = λ _. refl;
-  runs = sym (run-started file) ∙ (λ i. ahead (sessionOf (sym e i) (sym q i)) file);
+  runs = sym (run-started file) ∙ (λ i. ahead (runSession (sym e i) (sym q i)) file);
 }
 
 module _ {file out₀ : Lists.List ℕ} {run : Run} {a : Arrays} {long at : ℕ} {out : Lists.List ℕ} (f : Gathered file out₀ run a long at out)
@@ -98,8 +98,8 @@ module _ {file out₀ : Lists.List ℕ} {run : Run} {a : Arrays} {long at : ℕ}
   pub part-few : run .lines ≤ 1000001 → length buffer′ ≡ 4096 → long + length (take (r .written) buffer′) ≤ 1000000000
   part-few h e = omega (arith, e, f .few, length-take (r .written) buffer′)
 
-  on : fileRun lent file ≡ behind (f .bytes ++ g .bytes) (ahead (sessionOf (r .run) a′) (drop (r .read) (drop at file) ++ []))
-  on = f .runs ∙ ap (λ x. behind (f .bytes) (ahead (sessionOf run a) x)) (sym (append-nil (drop at file)))
+  on : fileRun lent file ≡ behind (f .bytes ++ g .bytes) (ahead (runSession (r .run) a′) (drop (r .read) (drop at file) ++ []))
+  on = f .runs ∙ ap (λ x. behind (f .bytes) (ahead (runSession run a) x)) (sym (append-nil (drop at file)))
       ∙ ap (behind (f .bytes)) (feeds-rest g [] (λ _. refl)) ∙ behind-twice (f .bytes) (g .bytes) _
 
   -- its bytes stand behind those so far, if they fit
@@ -130,7 +130,7 @@ module _ {file out₀ : Lists.List ℕ} {run : Run} {a : Arrays} {long at : ℕ}
             g .most,
             f .few,
             f .placed,
-            ready-few (sessionOf run a) (drop at file),
+            ready-few (runSession run a) (drop at file),
             length-drop at file,
             f .within,
           );
@@ -154,7 +154,7 @@ module _ {file out₀ : Lists.List ℕ} {run : Run} {a : Arrays} {long at : ℕ}
         counted = total;
         same = q ∙ f .same;
         area = put-in;
-        runs = on ∙ ap (λ x. behind (f .bytes ++ g .bytes) (ahead (sessionOf (r .run) a′) x)) (append-nil _ ∙ drop-drop (r .read) at file);
+        runs = on ∙ ap (λ x. behind (f .bytes ++ g .bytes) (ahead (runSession (r .run) a′) x)) (append-nil _ ∙ drop-drop (r .read) at file);
       }
 
 -- THE REPORT

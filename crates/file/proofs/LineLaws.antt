@@ -144,7 +144,7 @@ module _ {a : Arrays} {order : Lists.List ℕ} (f : Runnable a order) where
       }
 
       pub line-turned : Turns a c a′
-          (record { action = x .action; newest = getD order (n - 1) 0; refusal = h .refusal; place = h .place; entries = h .entries })
+          (record { action = x .action; newest = getD order (n - 1) 0; handed = h })
       line-turned = record {
         hands = hands;
         action = (λ i. moveOf (g .0 .place i) (sym (j .job) i) (x .action)) ∙ judged a run-passes q (Buffer 928) _ x j;
@@ -154,17 +154,17 @@ module _ {a : Arrays} {order : Lists.List ℕ} (f : Runnable a order) where
   -- A TURN: what it hands out
   module _ {c : Call} {a′ : Arrays} {t : Turn} (g : Turns a c a′ t) where
     -- there is room for the report lines of the entries handed out
-    pub turn-fits : c .room ≡ Buffer 928 → (t .entries ≤ 32) × (t .entries * 29 ≤ 928)
+    pub turn-fits : c .room ≡ Buffer 928 → (t .handed .entries ≤ 32) × (t .handed .entries * 29 ≤ 928)
     turn-fits e = (g .hands .few, bytes-fit (g .hands) 928 e)
 
     abbrev lines : Lists.List ℕ
-    lines = reportLines (c .line) 1 (entriesIn (t .entries) (getD (a′ .results) (t .place) []))
+    lines = reportLines (c .line) 1 (entriesIn (t .handed .entries) (getD (a′ .results) (t .handed .place) []))
 
     told : c .room ≡ Buffer 928 → bytesOf (stepOf lent a c .report) ≡ lines
-    told e = ap bytesOf (g .hands .report) ∙ ap (λ r. bytesOf (written (c .line) r (entriesIn (t .entries) (getD (a′ .results) (t .place) [])))) e
+    told e = ap bytesOf (g .hands .report) ∙ ap (λ r. bytesOf (written (c .line) r (entriesIn (t .handed .entries) (getD (a′ .results) (t .handed .place) [])))) e
 
     -- a refused line hands out nothing
-    none : c .room ≡ Buffer 928 → refusalNumber (t .refusal) ≢ 0 → lines ≡ []
+    none : c .room ≡ Buffer 928 → refusalNumber (t .handed .refusal) ≢ 0 → lines ≡ []
     unfolding reportLines
     none e d = sym (told e)
         ∙ ap (λ (u : TableAnswer Arrays). bytesOf (u .report)) (step-kept lent a (λ _. same) c (λ v. d (g .hands .number ∙ v)))
@@ -175,12 +175,12 @@ module _ {a : Arrays} {order : Lists.List ℕ} (f : Runnable a order) where
 
     -- what the line prints: its report, or one line with its refusal
     pub turn-prints : c .room ≡ Buffer 928 → {k w : ℕ} {buffer buffer′ buffer″ : Lists.List ℕ}
-        → let refusal = printed (c .line) (refusalNumber (t .refusal)) [] in
-        w ≡ t .entries * 29 → buffer′ ≡ over lines buffer → k ≡ length refusal → buffer″ ≡ over refusal buffer′ → Prints a c buffer a′ (w + k) buffer″
-    turn-prints room {buffer = buffer} {buffer′} w r e b = by-cases (ℕ-discrete (refusalNumber (t .refusal)) 0)
+        → let refusal = printed (c .line) (refusalNumber (t .handed .refusal)) [] in
+        w ≡ t .handed .entries * 29 → buffer′ ≡ over lines buffer → k ≡ length refusal → buffer″ ≡ over refusal buffer′ → Prints a c buffer a′ (w + k) buffer″
+    turn-prints room {buffer = buffer} {buffer′} w r e b = by-cases (ℕ-discrete (refusalNumber (t .handed .refusal)) 0)
         (λ z.
         let y : stepOf lent a c .refusal ≡ 0 = sym (g .hands .number) ∙ z in
-        let empty = printed-accepted (c .line) (refusalNumber (t .refusal)) buffer′ z in
+        let empty = printed-accepted (c .line) (refusalNumber (t .handed .refusal)) buffer′ z in
         record {
           table = g .hands .table;
           count = rw (eq-eqb _ 0 y) (omega (arith, e, empty .0, w, long, ap length (told room)));
@@ -188,7 +188,7 @@ module _ {a : Arrays} {order : Lists.List ℕ} (f : Runnable a order) where
         })
         (λ z.
         let y : stepOf lent a c .refusal ≢ 0 = λ v. z (g .hands .number ∙ v) in
-        let short : printed (c .line) (refusalNumber (t .refusal)) [] ≡ printed (c .line) (stepOf lent a c .refusal) (bytesOf (stepOf lent a c .report))
+        let short : printed (c .line) (refusalNumber (t .handed .refusal)) [] ≡ printed (c .line) (stepOf lent a c .refusal) (bytesOf (stepOf lent a c .report))
         = ap (λ (v : ℕ). printed (c .line) v []) (g .hands .number) ∙ rw (ne-eqb _ 0 y) refl in
         record {
           table = g .hands .table;
@@ -196,8 +196,8 @@ module _ {a : Arrays} {order : Lists.List ℕ} (f : Runnable a order) where
           report = b ∙ (λ i. over (short i) ((r ∙ ap (λ l. over l buffer) (none room z)) i));
         })
       where
-        long : length lines ≡ t .entries * 29
-        long = result-length (c .line) (t .entries) (getD (a′ .results) (t .place) [])
+        long : length lines ≡ t .handed .entries * 29
+        long = result-length (c .line) (t .handed .entries) (getD (a′ .results) (t .handed .place) [])
 
 -- the fresh table is one
 module _ (n : ℕ) (low : 2 ≤ n) (high : n ≤ 32) {a : Arrays} (e : a ≡ freshTable lent n) where

@@ -28,7 +28,7 @@ use Rattle.schedule.proofs.Runs.{printed-refusal}
 use Rattle.schedule.specs.declared.Header.the-variants as Headers
 use Rattle.schedule.specs.declared.Header.the-variants.{Stations}
 use Rattle.file.specs.Contracts.{Runnable, readLines, Reports}
-use Rattle.file.specs.Feeds.{sessionOf, awaits, runFrom, ready, Standing, Feeds, fedOf, Opened}
+use Rattle.file.specs.Feeds.{runSession, awaits, runFrom, ready, Standing, Feeds, fedOf, Opened}
 use Rattle.file.proofs.FeedLaws.{refused-opened, lines-opened, run-opened, cut-front}
 use Rattle.file.specs.declared.Run.{Run}
 use Rattle.file.specs.declared.Fed.{Fed}
@@ -38,11 +38,11 @@ use Rattle.file.specs.declared.Progress.{Progress}
 
 -- with nothing: the run has ended, or there is no whole line
 pub ended-none : (run : Run) (a : Arrays) (last : Bool) (part : Lists.List ℕ) → refusalNumber (run .refusal) ≢ 0
-    → (eqb (refusalNumber (run .refusal)) 0 && ltb 0 (ready (sessionOf run a) last part)) ≡ false
+    → (eqb (refusalNumber (run .refusal)) 0 && ltb 0 (ready (runSession run a) last part)) ≡ false
 ended-none run a last part d = rw (ne-eqb _ 0 d) refl
 
 pub waits-none : (run : Run) (a : Arrays) (last : Bool) (part : Lists.List ℕ) → (ltb (length part) 18 && not last) ≡ true
-    → (eqb (refusalNumber (run .refusal)) 0 && ltb 0 (ready (sessionOf run a) last part)) ≡ false
+    → (eqb (refusalNumber (run .refusal)) 0 && ltb 0 (ready (runSession run a) last part)) ≡ false
 waits-none run a last part t =
     let b = and-both (ltb (length part) 18) (not last) t in
     let short : length part < 18 = ltb-true (length part) 18 (b .0) in
@@ -64,22 +64,22 @@ opened-steps run a part going some few = record {
   within = omega arith;
   counted = omega arith;
   few = (some, few);
-  runs = λ k. ap (λ i. runFrom (sessionOf run a) (cut i part)) (zero-add k) ∙ run-opened (sessionOf run a) opened (cut k part)
+  runs = λ k. ap (λ i. runFrom (runSession run a) (cut i part)) (zero-add k) ∙ run-opened (runSession run a) opened (cut k part)
       ∙ ap (λ x. runLines lent (session (run .lines) x a) (cut k part)) (accepted (run .refusal) going);
 }
   where
-    opened : awaits (sessionOf run a) ≡ false
-    opened = lines-opened (sessionOf run a) some
+    opened : awaits (runSession run a) ≡ false
+    opened = lines-opened (runSession run a) some
 
 -- with a header
 module _ (run : Run) (a : Arrays) (last : Bool) (part : Lists.List ℕ) (going : refusalNumber (run .refusal) ≡ 0) (first : run .lines ≡ 0) where
-  pub waiting : awaits (sessionOf run a) ≡ true
+  pub waiting : awaits (runSession run a) ≡ true
   waiting = rw (eq-eqb _ 0 going, eq-eqb _ 0 first) refl
 
-  pub some-ready : (ltb (length part) 18 && not last) ≡ false → 0 < ready (sessionOf run a) last part
+  pub some-ready : (ltb (length part) 18 && not last) ≡ false → 0 < ready (runSession run a) last part
   some-ready = go last
     where
-      go : (b : Bool) → (ltb (length part) 18 && not b) ≡ false → 0 < ready (sessionOf run a) b part
+      go : (b : Bool) → (ltb (length part) 18 && not b) ≡ false → 0 < ready (runSession run a) b part
       go true t = rw waiting (omega arith)
       go false t = omega (arith, ltb-false (length part) 18 (sym (and-true (ltb (length part) 18)) ∙ t))
 
@@ -97,10 +97,10 @@ module _ (run : Run) (a : Arrays) (last : Bool) (part : Lists.List ℕ) (going :
     runs = opens;
   }
     where
-      opens : (j : ℕ) → runFrom (sessionOf run a) (cut (1 + j) part) ≡ runLines lent (session 1 Accepted a₁) (cut j (drop 18 part))
+      opens : (j : ℕ) → runFrom (runSession run a) (cut (1 + j) part) ≡ runLines lent (session 1 Accepted a₁) (cut j (drop 18 part))
       opens j =
           let one : 1 + j ≡ suc j = omega arith in
-          ap (λ i. runFrom (sessionOf run a) (cut i part)) one ∙ rw (waiting, ← q, h, fresh) refl
+          ap (λ i. runFrom (runSession run a) (cut i part)) one ∙ rw (waiting, ← q, h, fresh) refl
 
 -- WHAT IS SERVED
 module _ (run : Run) (a : Arrays) (last : Bool) (part buffer : Lists.List ℕ) where
@@ -108,7 +108,7 @@ module _ (run : Run) (a : Arrays) (last : Bool) (part buffer : Lists.List ℕ) w
   abbrev kept : Fed
   kept = record { run = run; read = 0; written = 0; more = false }
 
-  pub feeds-none : (eqb (refusalNumber (run .refusal)) 0 && ltb 0 (ready (sessionOf run a) last part)) ≡ false → Feeds run a last part kept a buffer buffer
+  pub feeds-none : (eqb (refusalNumber (run .refusal)) 0 && ltb 0 (ready (runSession run a) last part)) ≡ false → Feeds run a last part kept a buffer buffer
   unfolding cut
   feeds-none e = record {
     served = 0;
@@ -126,8 +126,8 @@ module _ (run : Run) (a : Arrays) (last : Bool) (part buffer : Lists.List ℕ) w
   }
 
   -- a header that is refused
-  module _ (wait : awaits (sessionOf run a) ≡ true) (some : 0 < ready (sessionOf run a) last part) (room : 928 ≤ length buffer)
-      (fresh : awaits (sessionOf run a) ≡ true → a ≡ freshTable lent 2) where
+  module _ (wait : awaits (runSession run a) ≡ true) (some : 0 < ready (runSession run a) last part) (room : 928 ≤ length buffer)
+      (fresh : awaits (runSession run a) ≡ true → a ≡ freshTable lent 2) where
     pub feeds-refused : {x : Refusal} {l : Lists.List ℕ} {w : ℕ} {buffer′ : Lists.List ℕ} → headerRead (take 18 part) ≡ Headers.Refused x → l ≡ take 18 part
         → let told = printed 1 (refusalNumber x) [] in w ≡ length told → buffer′ ≡ over told buffer
         → Feeds run a last part (record { run = record { lines = 0; count = run .count; refusal = x }; read = length l; written = w; more = false }) a
@@ -172,10 +172,10 @@ module _ {run : Run} {a : Arrays} {part : Lists.List ℕ} {lines at : ℕ} {a₁
       go true q = omega (arith, f .within)
       go false q = omega (arith, f .within, f .place)
 
-  due : ready (sessionOf run a) last part ≡ h + (end - at + 17) / 18
+  due : ready (runSession run a) last part ≡ h + (end - at + 17) / 18
   due = go last isEnd
     where
-      go : (b : Bool) → end ≡ cond b (length part) (18 * (length part / 18)) → ready (sessionOf run a) b part ≡ h + (end - at + 17) / 18
+      go : (b : Bool) → end ≡ cond b (length part) (18 * (length part / 18)) → ready (runSession run a) b part ≡ h + (end - at + 17) / 18
       go true q = ⊎-elim (λ w. rw (w .1) (omega (arith, w .0, f .place, q))) (λ w. rw (w .1) (omega (arith, w .0, f .place, q, f .within, length-drop 18 part)))
           (f .waits)
       go false q = omega (arith, f .place, q, f .within)
@@ -213,11 +213,11 @@ module _ {run : Run} {a : Arrays} {part : Lists.List ℕ} {lines at : ℕ} {a₁
         few q w = omega (arith, ap length e, long, g .whole, f .place)
 
     -- another line could be served exactly if the end is not reached
-    more-same : ltb (at + p .read) end ≡ ltb (h + k) (ready (sessionOf run a) last part)
+    more-same : ltb (at + p .read) end ≡ ltb (h + k) (ready (runSession run a) last part)
     more-same = by-cases (decLt (at + p .read) end)
-        (λ l. lt-ltb _ _ l ∙ sym (lt-ltb (h + k) (ready (sessionOf run a) last part) (omega (arith, due, g .whole, long))))
+        (λ l. lt-ltb _ _ l ∙ sym (lt-ltb (h + k) (ready (runSession run a) last part) (omega (arith, due, g .whole, long))))
         (λ l. le-ltb (at + p .read) end (omega (arith, l))
-        ∙ sym (le-ltb (h + k) (ready (sessionOf run a) last part) (omega (arith, due, l, lines-within))))
+        ∙ sym (le-ltb (h + k) (ready (runSession run a) last part) (omega (arith, due, l, lines-within))))
 
     pub feeds-lines : (n : ℕ) → 928 ≤ length buffer → Feeds run a last part (fedOf n at p end) a′ buffer buffer′
     unfolding cut
@@ -239,14 +239,14 @@ module _ {run : Run} {a : Arrays} {part : Lists.List ℕ} {lines at : ℕ} {a₁
         Fits : Served Arrays → Type 0
         Fits o = (o .refusal ≡ 0) × (length (o .bytes) + 928 ≤ length buffer)
 
-        first : (j : ℕ) → j < h → Fits (runFrom (sessionOf run a) (cut j part))
+        first : (j : ℕ) → j < h → Fits (runFrom (runSession run a) (cut j part))
         first j b =
             let z : j ≡ 0 = ⊎-elim (λ w. omega (arith, w .0)) (λ w. omega (arith, w .0)) (f .waits) in
             rw z (f .going, omega (arith, room))
 
-        later : (j i : ℕ) → j ≡ h + i → i < k → Fits (runFrom (sessionOf run a) (cut j part))
+        later : (j i : ℕ) → j ≡ h + i → i < k → Fits (runFrom (runSession run a) (cut j part))
         later j i q b = subst Fits
-            (sym (ap (λ x. runFrom (sessionOf run a) (cut x part)) q ∙ f .runs i ∙ ap (runLines lent (session lines Accepted a₁)) (lines-same i (omega arith))))
+            (sym (ap (λ x. runFrom (runSession run a) (cut x part)) q ∙ f .runs i ∙ ap (runLines lent (session lines Accepted a₁)) (lines-same i (omega arith))))
             (g .goes i b)
 
         no-room : (eqb (refusalNumber (p .refusal)) 0 ≡ true) × (ltb (at + p .read) end ≡ true) → length buffer < p .written + 928

@@ -18,7 +18,6 @@ use Rattle.engine.specs.Contracts.{Hands}
 use Rattle.engine.specs.Scans.{orderOf}
 use Rattle.schedule.specs.Sessions.{Session, session}
 use Rattle.schedule.specs.Files.{cut, printed, runLines, fileReport, fileRefusal}
-use Rattle.engine.specs.declared.Handed.{Handed}
 use Rattle.file.specs.declared.Turn.{Turn}
 use Rattle.file.specs.declared.Progress.{Progress}
 use Rattle.file.specs.declared.Ending.{Ending}
@@ -31,15 +30,11 @@ pub record Runnable (a : Arrays) (order : Lists.List ℕ) : Type 0 where
   pub reached : a ≡ after lent (freshTable lent (a .count)) calls
   pub isOrder : order ≡ orderOf (a .count) (getD (a .labels) 0 [])
 
--- what a step call that was served hands out
-abbrev pub handedBy : Turn → Handed
-handedBy r = record { refusal = r .refusal; place = r .place; entries = r .entries }
-
 -- the step call c on the table a, up to what is written of it: the table left and what is handed out, what the call amounts to, and the newest station
 -- before it
 pub record Turns (a : Arrays) (c : Call) (a′ : Arrays) (r : Turn) : Type 0 where
-  pub hands : Hands a c a′ (handedBy r)
-  pub action : moveOf (r .place) (c .job) (r .action) ≡ judge false (a .count) (restOf a) c
+  pub hands : Hands a c a′ (r .handed)
+  pub action : moveOf (r .handed .place) (c .job) (r .action) ≡ judge false (a .count) (restOf a) c
   pub newest : r .newest ≡ newest (a .count) (standsIn (a .count) (getD (a .labels) 0 []))
 
 -- the step call c on the table a, and what its line prints into the buffer: n bytes

@@ -26,8 +26,8 @@ use Rattle.file.specs.declared.Opening.the-variants.{Nothing, Refused, L
 -- WHAT IS STILL TO COME
 
 -- a run with its table, as a session
-abbrev pub sessionOf : Run → Arrays → Session Arrays
-sessionOf run a = session (run .lines) (run .refusal) a
+abbrev pub runSession : Run → Arrays → Session Arrays
+runSession run a = session (run .lines) (run .refusal) a
 
 -- it has no line yet, and no refusal: its header is still to come
 abbrev pub awaits : Session Arrays → Bool
@@ -57,21 +57,21 @@ ahead s rest = runFrom s (cut (ready s true rest) rest)
 pub record Standing (run : Run) (a : Arrays) (order : Lists.List ℕ) : Type 0 where
   pub runnable : Runnable a order
   pub few : refusalNumber (run .refusal) ≡ 0 → run .lines ≤ 1000001
-  pub fresh : awaits (sessionOf run a) ≡ true → a ≡ freshTable lent 2
+  pub fresh : awaits (runSession run a) ≡ true → a ≡ freshTable lent 2
 
 -- a part, lent to the run: the whole outcome (proved unique: FeedLaws, `feeds-one`). The lines served leave the run and print the bytes. Before each of them
 -- none was refused for good and there was room for 928 bytes. `more` tells that another could be served, for which there is no room.
 pub record Feeds (run : Run) (a : Arrays) (last : Bool) (part : Lists.List ℕ) (r : Fed) (a′ : Arrays) (buffer buffer′ : Lists.List ℕ) : Type 0 where
   pub served : ℕ
-  pub most : served ≤ ready (sessionOf run a) last part
+  pub most : served ≤ ready (runSession run a) last part
   pub read : r .read ≡ min (18 * served) (length part)
   pub bytes : Lists.List ℕ
-  pub runs : runFrom (sessionOf run a) (cut served part)
-      ≡ record { session = sessionOf (r .run) a′; refusal = refusalNumber (r .run .refusal); bytes = bytes }
+  pub runs : runFrom (runSession run a) (cut served part)
+      ≡ record { session = runSession (r .run) a′; refusal = refusalNumber (r .run .refusal); bytes = bytes }
   pub written : r .written ≡ length bytes
   pub report : buffer′ ≡ over bytes buffer
-  pub goes : (k : ℕ) → k < served → let o = runFrom (sessionOf run a) (cut k part) in (o .refusal ≡ 0) × (length (o .bytes) + 928 ≤ length buffer)
-  pub more : r .more ≡ (eqb (refusalNumber (r .run .refusal)) 0 && ltb served (ready (sessionOf run a) last part))
+  pub goes : (k : ℕ) → k < served → let o = runFrom (runSession run a) (cut k part) in (o .refusal ≡ 0) × (length (o .bytes) + 928 ≤ length buffer)
+  pub more : r .more ≡ (eqb (refusalNumber (r .run .refusal)) 0 && ltb served (ready (runSession run a) last part))
   pub stops : r .more ≡ true → length buffer < r .written + 928
   pub short : r .written ≤ 928 * served
   pub counted : refusalNumber (r .run .refusal) ≡ 0 → r .run .lines ≡ run .lines + served
@@ -122,18 +122,18 @@ fedOf n at r end = record {
 pub record Opened (run : Run) (a : Arrays) (part : Lists.List ℕ) (lines at : ℕ) (a′ : Arrays) : Type 0 where
   pub going : refusalNumber (run .refusal) ≡ 0
   pub header : ℕ
-  pub waits : ((header ≡ 0) × (awaits (sessionOf run a) ≡ false)) ⊎ ((header ≡ 1) × (awaits (sessionOf run a) ≡ true))
+  pub waits : ((header ≡ 0) × (awaits (runSession run a) ≡ false)) ⊎ ((header ≡ 1) × (awaits (runSession run a) ≡ true))
   pub place : at ≡ 18 * header
   pub within : at ≤ length part
   pub counted : lines ≡ run .lines + header
   pub few : (lines ≢ 0) × (lines ≤ 1000001)
-  pub runs : (k : ℕ) → runFrom (sessionOf run a) (cut (header + k) part) ≡ runLines lent (session lines Accepted a′) (cut k (drop at part))
+  pub runs : (k : ℕ) → runFrom (runSession run a) (cut (header + k) part) ≡ runLines lent (session lines Accepted a′) (cut k (drop at part))
 
 -- how a part starts: with nothing that can be served, with a header that is refused, or with lines
 abbrev pub Opens : Run → Arrays → Bool → Lists.List ℕ → (ℕ → Arrays) → Lists.List ℕ → Opening → Type 0
 Opens run a last part left order Nothing =
-    (left (run .count) ≡ a) × Standing run a order × ((eqb (refusalNumber (run .refusal)) 0 && ltb 0 (ready (sessionOf run a) last part)) ≡ false)
+    (left (run .count) ≡ a) × Standing run a order × ((eqb (refusalNumber (run .refusal)) 0 && ltb 0 (ready (runSession run a) last part)) ≡ false)
 Opens run a last part left order (Refused x) =
-    (left (run .count) ≡ a) × Standing run a order × (awaits (sessionOf run a) ≡ true) × (0 < ready (sessionOf run a) last part)
+    (left (run .count) ≡ a) × Standing run a order × (awaits (runSession run a) ≡ true) × (0 < ready (runSession run a) last part)
     × (headerRead (take 18 part) ≡ Headers.Refused x)
 Opens run a last part left order (Lines lines n at) = Opened run a part lines at (left n) × Runnable (left n) order

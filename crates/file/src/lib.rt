@@ -22,6 +22,7 @@ use arrays::Control;
 use arrays::Jobs;
 use arrays::Labels;
 use arrays::Results;
+use engine::Handed;
 use engine::Reply;
 use moves::Move;
 use moves::Refusal;
@@ -77,9 +78,7 @@ fn refresh_order(m: Move, place: usize, rows: &[[u8; 31]; 32], n: usize, order: 
 pub struct Turn {
     pub action: Move,
     pub newest: usize,
-    pub refusal: Refusal,
-    pub place: usize,
-    pub entries: usize,
+    pub handed: Handed,
 }
 
 // Serves a step call, up to what is written of it, and brings the scan order up to date.
@@ -102,13 +101,10 @@ pub fn take_turn(
     let h = engine::carry_out(n, task, order, labels, jobs, control, results);
     let m = task.action;
     refresh_order(m, task.place, &labels[0], n, order);
-    let refusal = h.refusal;
     Turn {
         action: m,
         newest: top,
-        refusal,
-        place: h.place,
-        entries: h.entries,
+        handed: h,
     }
 }
 
@@ -131,9 +127,10 @@ fn serve_line(
     ensures { λ _. ⌜ Runnable (arrays n (now (labels .exit)) (now (jobs .exit)) (now (control .exit)) (now (results .exit))) (now (order .exit)) ⌝ }
 {
     let t = take_turn(n, request, order, labels, jobs, control, results);
-    let refusal = t.refusal;
-    let place = t.place;
-    let written = engine::write_result(&results[place], t.entries, request.line, out);
+    let handed = t.handed;
+    let refusal = handed.refusal;
+    let place = handed.place;
+    let written = engine::write_result(&results[place], handed.entries, request.line, out);
     written + print_refusal(request.line, refusal, out)
 }
 
@@ -339,6 +336,17 @@ fn open_part(
     }
 }
 
+// The number of stations as it is. The compiler is told that there are two at least, which saves the loops over them a test and a copy.
+fn stations(n: usize) -> usize
+    requires { ⌜ 2 ≤ n ⌝ }
+    ensures { λ r. ⌜ r ≡ n ⌝ }
+{
+    if n < 2 {
+        return 2;
+    }
+    n
+}
+
 // Serves a part of the file, the header first where it is still to come, and writes what the lines print. What is left unread of the part, a line that is
 // not whole or lines for whose report there is no room, stands at the front of the next one.
 pub fn feed(
@@ -383,9 +391,10 @@ pub fn feed(
             }
         }
         Opening::Lines { lines, count, at } => {
+            let n = stations(count);
             let r = report_lines(
                 lines,
-                count,
+                n,
                 order,
                 labels,
                 jobs,
@@ -394,7 +403,7 @@ pub fn feed(
                 &part[at..end],
                 out,
             );
-            fed_by(count, at, r, end)
+            fed_by(n, at, r, end)
         }
     }
 }

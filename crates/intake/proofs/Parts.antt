@@ -24,7 +24,7 @@ use Rattle.schedule.proofs.Surveys.{all-lines, survey-parts, firstOf, surveyed-
 use Rattle.schedule.specs.declared.Header.the-variants as Headers
 use Rattle.schedule.specs.declared.Header.the-variants.{Stations}
 use Rattle.schedule.specs.declared.Survey.{Survey}
-use Rattle.intake.specs.Contracts.{ahead, isSettled, Within, linesLeft, Cut, ReadsPart, TooLong, Taken}
+use Rattle.intake.specs.Contracts.{aheadRead, isSettled, Within, linesLeft, Cut, ReadsPart, TooLong, Taken}
 use Rattle.intake.specs.declared.Intake.{Intake}
 use Rattle.intake.specs.declared.Intake.the-variants as Intakes
 use Rattle.intake.specs.declared.Reading.{Reading}
@@ -52,7 +52,7 @@ module _ {lines : ℕ} (w : Within (Lines lines)) (part : Lists.List ℕ) {s : S
   pub part-refused : refusalNumber (s .refusal) ≢ 0 → ReadsPart (Lines lines) part (Refused (s .refusal))
   part-refused d = record { same = same; within = tt; fewer = omega arith }
     where
-      same : (more : Lists.List ℕ) → Cut part more → ahead (Lines lines) (part ++ more) ≡ s .refusal
+      same : (more : Lists.List ℕ) → Cut part more → aheadRead (Lines lines) (part ++ more) ≡ s .refusal
       same more h =
           let k = lines + length (stepCalls lines (linesOf part)) in
           let e : ending lines (linesOf (part ++ more)) ≡ s .refusal =
@@ -78,7 +78,7 @@ module _ {lines : ℕ} (w : Within (Lines lines)) (part : Lists.List ℕ) {s : S
     pub part-passed : ReadsPart (Lines lines) part (Lines (lines + s .steps))
     part-passed = record { same = same; within = (omega (arith, w .0), part-counted); fewer = omega (arith, counted) }
       where
-        same : (more : Lists.List ℕ) → Cut part more → ahead (Lines lines) (part ++ more) ≡ ahead (Lines (lines + s .steps)) more
+        same : (more : Lists.List ℕ) → Cut part more → aheadRead (Lines lines) (part ++ more) ≡ aheadRead (Lines (lines + s .steps)) more
         same more h = rw e (go (eqb (refusalNumber (ending k (linesOf more))) 0) refl)
           where
             k : ℕ
@@ -118,7 +118,7 @@ module _ (part : Lists.List ℕ) (some : 0 < length part) {l : Lists.List ℕ} (
   unfolding readingRefusal
   first-refused {r} e = record { same = same; within = tt; fewer = omega arith }
     where
-      same : (more : Lists.List ℕ) → Cut part more → ahead Start (part ++ more) ≡ r
+      same : (more : Lists.List ℕ) → Cut part more → aheadRead Start (part ++ more) ≡ r
       same more h = surveyed-header (part ++ more) (sym (first more h)) e (length (fileCalls (part ++ more))) Accepted .0
 
   pub first-read : {n : ℕ} → headerRead l ≡ Stations n → {rest : Lists.List ℕ} → rest ≡ drop (length l) part → {reading : Reading}
@@ -132,13 +132,13 @@ module _ (part : Lists.List ℕ) (some : 0 < length part) {l : Lists.List ℕ} (
       lines : pieces part ≡ 1 + pieces rest
       lines = omega (arith, ap length left ∙ length-drop 18 part)
 
-      same : (more : Lists.List ℕ) → Cut part more → ahead Start (part ++ more) ≡ ahead reading more
+      same : (more : Lists.List ℕ) → Cut part more → aheadRead Start (part ++ more) ≡ aheadRead reading more
       same more h =
           let joined = ap (λ b. b ++ more) left ∙ sym (behind more h) in
           let whole = ap headerRead (first more h) ∙ e in
           let bs = drop 18 (part ++ more) in
           rw whole (ap (λ j. surveyed (ending 1 (linesOf bs)) j Accepted) (sym (zero-add (length (stepCalls 1 (linesOf bs)))))
-          ∙ ap (ahead (Lines 1)) (sym joined) ∙ f .same more (rw (← left) at (cut-behind more h)))
+          ∙ ap (aheadRead (Lines 1)) (sym joined) ∙ f .same more (rw (← left) at (cut-behind more h)))
 
 -- an empty part, and one behind a final refusal
 pub first-none : (part : Lists.List ℕ) → length part ≡ 0 → ReadsPart Start part Start
@@ -149,15 +149,15 @@ pub stays-refused : (part : Lists.List ℕ) (r : Refusal) → ReadsPart (Refused
 stays-refused part r = record { same = λ more h. refl; within = tt; fewer = omega arith }
 
 -- THE END: no header, and lines of which none is refused
-pub told-start : ahead Start [] ≡ IncompleteLine
+pub told-start : aheadRead Start [] ≡ IncompleteLine
 unfolding readingRefusal headerRead lineRead
 told-start = refl
 
-pub told-many : (lines : ℕ) → 4097 < lines → ahead (Lines lines) [] ≡ TooManySteps
+pub told-many : (lines : ℕ) → 4097 < lines → aheadRead (Lines lines) [] ≡ TooManySteps
 unfolding ending stepCalls cut
 told-many lines h = rw (lt-ltb 4096 (lines - 1 + 0) (omega arith)) refl
 
-pub told-few : (lines : ℕ) → lines ≤ 4097 → ahead (Lines lines) [] ≡ Accepted
+pub told-few : (lines : ℕ) → lines ≤ 4097 → aheadRead (Lines lines) [] ≡ Accepted
 unfolding ending stepCalls cut
 told-few lines h = rw (le-ltb 4096 (lines - 1 + 0) (omega arith)) refl
 
@@ -167,13 +167,13 @@ ReadBy reading [] reading′ = reading ≡ reading′
 ReadBy reading (p ∷ ps) reading′ = (next : Reading) × ReadsPart reading p next × ReadBy next ps reading′
 
 pub parts-told : (ps : Lists.List (Lists.List ℕ)) (reading reading′ : Reading) → Whole ps → ReadBy reading ps reading′
-    → ahead reading (joined ps) ≡ ahead reading′ []
-parts-told [] reading reading′ w e = ap (λ r. ahead r []) e
-parts-told (p ∷ []) reading reading′ w (next, f, e) = f .same [] (inr refl) ∙ ap (λ r. ahead r []) e
+    → aheadRead reading (joined ps) ≡ aheadRead reading′ []
+parts-told [] reading reading′ w e = ap (λ r. aheadRead r []) e
+parts-told (p ∷ []) reading reading′ w (next, f, e) = f .same [] (inr refl) ∙ ap (λ r. aheadRead r []) e
 parts-told (p ∷ (q ∷ ps)) reading reading′ w (next, f, g) = f .same (joined (q ∷ ps)) (inl (w .0)) ∙ parts-told (q ∷ ps) next reading′ (w .1) g
 
 -- and from the start on it is what Card 7 tells of the file
-pub file-told : (ps : Lists.List (Lists.List ℕ)) (reading : Reading) → Whole ps → ReadBy Start ps reading → ahead reading [] ≡ readingRefusal (joined ps)
+pub file-told : (ps : Lists.List (Lists.List ℕ)) (reading : Reading) → Whole ps → ReadBy Start ps reading → aheadRead reading [] ≡ readingRefusal (joined ps)
 file-told ps reading w f = sym (parts-told ps Start reading w f)
 
 -- A FILE THAT IS TOO LONG is refused
@@ -189,7 +189,7 @@ long-refused bs h z = go (eqb (refusalNumber (finalOf bs)) 0) refl
 pub record Sofar (part : Lists.List ℕ) (reading : Reading) : Type 0 where
   pub before : Lists.List ℕ
   pub full : length part ≡ 73764
-  pub same : (more : Lists.List ℕ) → readingRefusal ((before ++ part) ++ more) ≡ ahead reading more
+  pub same : (more : Lists.List ℕ) → readingRefusal ((before ++ part) ++ more) ≡ aheadRead reading more
   pub within : Within reading
 
 -- a full part is one of whole lines
@@ -216,14 +216,14 @@ too-long part before count h long {r} e ends = record {
 
 module _ {part : Lists.List ℕ} {reading : Reading} (f : Sofar part reading) where
   -- nothing that follows changes what is told
-  pub sofar-settled : isSettled reading ≡ true → {r : Refusal} → r ≡ ahead reading [] → TooLong part r
+  pub sofar-settled : isSettled reading ≡ true → {r : Refusal} → r ≡ aheadRead reading [] → TooLong part r
   sofar-settled s {r} e =
       let all : take (length part) part ≡ part = take-all (length part) part (omega arith) in
       too-long part (f .before) (length part) (omega arith) (omega (arith, f .full))
       (e ∙ sym (f .same []) ∙ ap readingRefusal (append-nil (f .before ++ part)) ∙ ap (λ b. readingRefusal (f .before ++ b)) (sym all))
       (inr (λ more. ap (λ b. readingRefusal ((f .before ++ b) ++ more)) all ∙ f .same more ∙ stays reading s more ∙ sym e))
     where
-      stays : (w : Reading) → isSettled w ≡ true → (more : Lists.List ℕ) → ahead w more ≡ ahead w []
+      stays : (w : Reading) → isSettled w ≡ true → (more : Lists.List ℕ) → aheadRead w more ≡ aheadRead w []
       stays Start s more = absurd (true≢false (sym s))
       stays (Lines lines) s more = absurd (true≢false (sym s))
       stays (Refused r) s more = refl
@@ -238,11 +238,11 @@ module _ {part : Lists.List ℕ} {reading : Reading} (f : Sofar part reading) wh
 
   -- the next part
   module _ (part′ : Lists.List ℕ) (k : ℕ) (h : k ≤ length part′) {reading′ : Reading} (g : ReadsPart reading (take k part′) reading′) where
-    next : (more : Lists.List ℕ) → Cut (take k part′) more → readingRefusal (((f .before ++ part) ++ take k part′) ++ more) ≡ ahead reading′ more
+    next : (more : Lists.List ℕ) → Cut (take k part′) more → readingRefusal (((f .before ++ part) ++ take k part′) ++ more) ≡ aheadRead reading′ more
     next more c = ap readingRefusal (append-assoc (f .before ++ part) (take k part′) more) ∙ f .same (take k part′ ++ more) ∙ g .same more c
 
     -- it is the last
-    pub sofar-ends : k < length part′ → {r : Refusal} → r ≡ ahead reading′ [] → TooLong part′ r
+    pub sofar-ends : k < length part′ → {r : Refusal} → r ≡ aheadRead reading′ [] → TooLong part′ r
     sofar-ends short e =
         let bs = f .before ++ part in
         too-long part′ bs k h (rw (length-append (f .before) part) (omega (arith, f .full)))

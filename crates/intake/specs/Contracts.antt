@@ -20,10 +20,10 @@ use Rattle.intake.specs.declared.Intake.the-variants.{Failed, Refused, W
 
 -- WHAT READING TELLS of a file that is read so far, if these bytes are all that is still to come of it; from the start on, that is what Card 7 tells of a file.
 -- Behind `lines` lines, the header among them, it is their final refusal, or 16.
-abbrev pub ahead : Reading → Lists.List ℕ → Refusal
-ahead Start bs = readingRefusal bs
-ahead (Lines lines) bs = surveyed (ending lines (linesOf bs)) (lines - 1 + length (stepCalls lines (linesOf bs))) Accepted
-ahead (Readings.Refused r) bs = r
+abbrev pub aheadRead : Reading → Lists.List ℕ → Refusal
+aheadRead Start bs = readingRefusal bs
+aheadRead (Lines lines) bs = surveyed (ending lines (linesOf bs)) (lines - 1 + length (stepCalls lines (linesOf bs))) Accepted
+aheadRead (Readings.Refused r) bs = r
 
 -- nothing that follows changes it
 abbrev pub isSettled : Reading → Bool
@@ -49,7 +49,7 @@ Cut part more = ((k : ℕ) × (length part ≡ 18 * k)) ⊎ (more ≡ [])
 
 -- a part is read: whatever comes after it, what is told of the file is the same as before
 pub record ReadsPart (reading : Reading) (part : Lists.List ℕ) (reading′ : Reading) : Type 0 where
-  pub same : (more : Lists.List ℕ) → Cut part more → ahead reading (part ++ more) ≡ ahead reading′ more
+  pub same : (more : Lists.List ℕ) → Cut part more → aheadRead reading (part ++ more) ≡ aheadRead reading′ more
   pub within : Within reading′
   pub fewer : linesLeft reading′ ≤ linesLeft reading - pieces part
 

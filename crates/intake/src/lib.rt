@@ -3,7 +3,7 @@
 ghost use mathlib.Core.Path.{_≡_};
 ghost use mathlib.Core.List.{[]};
 ghost use lib.ListN.{length};
-ghost use Rattle.intake.specs.Contracts.{ahead, Within, ReadsPart, isSettled, Taken};
+ghost use Rattle.intake.specs.Contracts.{aheadRead, Within, ReadsPart, isSettled, Taken};
 ghost use Rattle.intake.specs.declared.Reading.the-variants.{Start, Lines};
 use moves::Refusal;
 use schedule::Header;
@@ -72,7 +72,7 @@ pub fn settled(reading: Reading) -> bool
 
 // What is told of a file that ends here.
 pub fn told(reading: Reading) -> Refusal
-    ensures { λ r. ⌜ r ≡ ahead reading [] ⌝ }
+    ensures { λ r. ⌜ r ≡ aheadRead reading [] ⌝ }
 {
     match reading {
         Reading::Start => Refusal::IncompleteLine,

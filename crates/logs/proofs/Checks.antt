@@ -27,7 +27,7 @@ use Rattle.schedule.proofs.Places.{callsFrom, StepAt, calls-step}
 use Rattle.unbounded.specs.Tables.{Table, table, restᵘ, stateᵘ, answeredᵘ, Turnsᵘ, Runnableᵘ}
 use Rattle.unbounded.specs.declared.NumberedTurn.{NumberedTurn}
 use Rattle.logs.specs.Files.{answerBytes}
-use Rattle.logs.specs.Contracts.{writes, RunsCall, numbersLeft, pending, callsLeft, ahead, placed, Checking, workLeft, Drained, Feeds, Finishes}
+use Rattle.logs.specs.Contracts.{writes, RunsCall, numbersLeft, pending, callsLeft, aheadLog, placedAt, Checking, workLeft, Drained, FeedsReport, Finishes}
 use Rattle.logs.specs.declared.Ran.{Ran}
 use Rattle.logs.specs.declared.Progress.{Progress}
 
@@ -109,11 +109,11 @@ module _ {t t′ : Table} {order order′ : Lists.List ℕ} {c : Call} {log : Li
 pub record Sofar (c₀ : Progress) (t₀ : Table) (file list buffer₀ part : Lists.List ℕ) (c : Progress) (t : Table) (buffer : Lists.List ℕ) (read : ℕ) : Type 0 where
   pub within : read ≤ length part
   pub going : c .right ≡ true
-  pub same : (more : Lists.List ℕ) → ahead c₀ t₀ file list buffer₀ (part ++ more) ≡ ahead c t file list buffer (drop read part ++ more)
+  pub same : (more : Lists.List ℕ) → aheadLog c₀ t₀ file list buffer₀ (part ++ more) ≡ aheadLog c t file list buffer (drop read part ++ more)
   pub less : workLeft c file + read ≤ workLeft c₀ file
 
 -- a check that is not right stays so
-pub feed-none : {c : Progress} {t : Table} {file list buffer part : Lists.List ℕ} → c .right ≡ false → Feeds c t file list buffer part c t buffer
+pub feed-none : {c : Progress} {t : Table} {file list buffer part : Lists.List ℕ} → c .right ≡ false → FeedsReport c t file list buffer part c t buffer
 feed-none {c} {t} {file} {list} {buffer} {part} e = record {
   same = λ more. rw e refl;
   drained = λ y. absurd (tf y e);
@@ -122,13 +122,13 @@ feed-none {c} {t} {file} {list} {buffer} {part} e = record {
 
 -- a place of a check, whatever is right so far
 abbrev pub here : Progress → Bool → Progress
-here c b = placed c b (c .used) (c .lines) (c .at) (c .written) (c .shown)
+here c b = placedAt c b (c .used) (c .lines) (c .at) (c .written) (c .shown)
 
 pub sofar-start : {c : Progress} {t : Table} {file list buffer part : Lists.List ℕ} → c .right ≡ true → Sofar c t file list buffer part (here c true) t buffer 0
 sofar-start {c} {t} {file} {list} {buffer} {part} e = record {
   within = omega arith;
   going = refl;
-  same = λ more. ap (λ b. ahead (here c b) t file list buffer (part ++ more)) e;
+  same = λ more. ap (λ b. aheadLog (here c b) t file list buffer (part ++ more)) e;
   less = omega arith;
 }
 
@@ -139,7 +139,7 @@ checking-here b g = record { runnable = g .runnable; numbers = g .numbers; place
 -- the check that is handed back, by another name
 abbrev pub FedTo : Progress → Table → Lists.List ℕ → Lists.List ℕ → Lists.List ℕ → Lists.List ℕ → Rows → Rows → Rows → Planes → Lists.List ℕ → Lists.List ℕ
     → Progress → Type 0
-FedTo c₀ t₀ file list buffer₀ part v j k s order buffer c = Feeds c₀ t₀ file list buffer₀ part c (table (c .stations) v j k s) buffer
+FedTo c₀ t₀ file list buffer₀ part v j k s order buffer c = FeedsReport c₀ t₀ file list buffer₀ part c (table (c .stations) v j k s) buffer
     × Checking c (table (c .stations) v j k s) order file list buffer
 
 module _ {c₀ : Progress} {t₀ : Table} {file list buffer₀ part : Lists.List ℕ} {c : Progress} {t : Table} {order buffer : Lists.List ℕ} {read : ℕ}
@@ -157,12 +157,12 @@ module _ {c₀ : Progress} {t₀ : Table} {file list buffer₀ part : Lists.List
   due-length : length due ≡ c .written - c .shown
   due-length = simp (length-take, length-drop) (omega (arith, g .bytes, g .room))
 
-  from-here : (more : Lists.List ℕ) → ahead c₀ t₀ file list buffer₀ (part ++ more) ≡ (atFront due (rest ++ more) && behind (drop (length due) (rest ++ more)))
+  from-here : (more : Lists.List ℕ) → aheadLog c₀ t₀ file list buffer₀ (part ++ more) ≡ (atFront due (rest ++ more) && behind (drop (length due) (rest ++ more)))
   from-here more = f .same more ∙ rw (f .going) refl
 
   -- the check ends here, and the log is wrong
   wrong : {c′ : Progress} → c′ .right ≡ false → ((more : Lists.List ℕ) → (atFront due (rest ++ more) && behind (drop (length due) (rest ++ more))) ≡ false)
-      → {t′ : Table} {buffer′ : Lists.List ℕ} → Feeds c₀ t₀ file list buffer₀ part c′ t′ buffer′
+      → {t′ : Table} {buffer′ : Lists.List ℕ} → FeedsReport c₀ t₀ file list buffer₀ part c′ t′ buffer′
   wrong e h = record {
     same = λ more. from-here more ∙ h more ∙ sym (rw e refl);
     drained = λ y. absurd (tf y e);
@@ -170,11 +170,11 @@ module _ {c₀ : Progress} {t₀ : Table} {file list buffer₀ part : Lists.List
   }
 
   -- THE PART IS USED UP, and something is still to be shown
-  pub sofar-waits : c .shown < c .written → length part ≤ read → Feeds c₀ t₀ file list buffer₀ part c t buffer
+  pub sofar-waits : c .shown < c .written → length part ≤ read → FeedsReport c₀ t₀ file list buffer₀ part c t buffer
   sofar-waits h l =
       let none : drop read part ≡ [] = drop-of-length-le part l in
       record {
-        same = λ more. f .same more ∙ ap (λ x. ahead c t file list buffer (x ++ more)) none;
+        same = λ more. f .same more ∙ ap (λ x. aheadLog c t file list buffer (x ++ more)) none;
         drained = λ y e. absurd (omega arith);
         fewer = λ y. omega (arith, f .less, f .within);
       }
@@ -182,7 +182,7 @@ module _ {c₀ : Progress} {t₀ : Table} {file list buffer₀ part : Lists.List
   -- SOME BYTES are to be shown, k of them by this part
   module _ (k : ℕ) (h : k ≤ c .written - c .shown) (l : k ≤ length part - read) where
     abbrev next : Progress
-    next = placed c true (c .used) (c .lines) (c .at) (c .written) (c .shown + k)
+    next = placedAt c true (c .used) (c .lines) (c .at) (c .written) (c .shown + k)
 
     front : take k due ≡ take k (drop (c .shown) buffer)
     front = take-take k (c .written - c .shown) (drop (c .shown) buffer) h
@@ -192,7 +192,7 @@ module _ {c₀ : Progress} {t₀ : Table} {file list buffer₀ part : Lists.List
         ∙ ap (λ x. atFront x rest && atFront (drop k due) (drop k rest ++ more)) front
 
     pub sofar-differs : {c′ : Progress} → c′ .right ≡ false → atFront (take k (drop (c .shown) buffer)) rest ≡ false
-        → {t′ : Table} {buffer′ : Lists.List ℕ} → Feeds c₀ t₀ file list buffer₀ part c′ t′ buffer′
+        → {t′ : Table} {buffer′ : Lists.List ℕ} → FeedsReport c₀ t₀ file list buffer₀ part c′ t′ buffer′
     sofar-differs e d = wrong e (λ more. rw (split more, d) refl)
 
     left : drop k due ≡ pending next buffer
@@ -234,11 +234,11 @@ module _ {c₀ : Progress} {t₀ : Table} {file list buffer₀ part : Lists.List
     steps-only more = rw nothing refl
 
     -- no step is left, so the report must end with the part
-    pub sofar-ends : callsLeft c file ≡ [] → Feeds c₀ t₀ file list buffer₀ part (here c (eqb read (length part))) t buffer
+    pub sofar-ends : callsLeft c file ≡ [] → FeedsReport c₀ t₀ file list buffer₀ part (here c (eqb read (length part))) t buffer
     unfolding right atFront
     sofar-ends e = go (eqb read (length part)) refl
       where
-        go : (b : Bool) → eqb read (length part) ≡ b → Feeds c₀ t₀ file list buffer₀ part (here c b) t buffer
+        go : (b : Bool) → eqb read (length part) ≡ b → FeedsReport c₀ t₀ file list buffer₀ part (here c b) t buffer
         go true d =
             let all : drop read part ≡ [] = drop-of-length-le part {i = read} (omega (arith, eqb-true read (length part) d)) in
             record {
@@ -277,12 +277,12 @@ module _ {c₀ : Progress} {t₀ : Table} {file list buffer₀ part : Lists.List
       step-first report = ap (right original (t .count) (stateᵘ t) (numbersLeft c list) report) (calls-step (c .lines) file (c .at) (g .place .0) s .0)
 
       pub sofar-unfit : {c′ : Progress} → c′ .right ≡ false → r .fits ≡ false → {t′ : Table} {buffer′ : Lists.List ℕ}
-          → Feeds c₀ t₀ file list buffer₀ part c′ t′ buffer′
+          → FeedsReport c₀ t₀ file list buffer₀ part c′ t′ buffer′
       sofar-unfit e d = wrong e (λ more. steps-only more ∙ step-first (rest ++ more) ∙ rw (sym (u .fits) ∙ d) refl)
 
       module _ (d : r .fits ≡ true) (n : t′ .count ≡ t .count) where
         abbrev then : Progress
-        then = placed c true (r .used) (c .lines + 1) (c .at + 18) (r .written) 0
+        then = placedAt c true (r .used) (c .lines + 1) (c .at + 18) (r .written) 0
 
         written : pending then buffer′ ≡ bytes
         written = let all : r .written - 0 ≡ r .written = omega arith in ap (λ i. take i buffer′) all ∙ u .bytes d .0
@@ -322,7 +322,7 @@ unfolding right atFront
 finished c = record { told = told }
   where
     told : (t : Table) (order file list buffer : Lists.List ℕ) → Checking c t order file list buffer → Drained c file
-        → ((c .right && eqb (c .used) (c .count)) && eqb (c .shown) (c .written)) ≡ ahead c t file list buffer []
+        → ((c .right && eqb (c .used) (c .count)) && eqb (c .shown) (c .written)) ≡ aheadLog c t file list buffer []
     told t order file list buffer g h = go (eqb (c .shown) (c .written)) (c .right) refl refl
       where
         test : Lists.List ℕ → Lists.List Call → Bool

@@ -33,7 +33,7 @@ use Rattle.schedule.specs.declared.Header.the-variants.{Stations}
 use Rattle.arrays.specs.Arrays.{Rows, Planes}
 use Rattle.unbounded.specs.Tables.{Table, stateᵘ, Runnableᵘ}
 use Rattle.logs.specs.Files.{ChecksLog, RightFile}
-use Rattle.logs.specs.Contracts.{ahead, Checking, Drained, Feeds, Finishes, Starts, Begins, BeginsFile}
+use Rattle.logs.specs.Contracts.{aheadLog, Checking, Drained, FeedsReport, Finishes, StartsCheck, Begins, BeginsFile}
 use Rattle.logs.specs.declared.Begun.{Begun}
 use Rattle.logs.specs.declared.Begun.the-variants.{Refused, Running}
 use Rattle.logs.specs.declared.Progress.{Progress}
@@ -67,13 +67,13 @@ module _ (bs : Lists.List ℕ) {l : Lists.List ℕ} (p : l ≡ take 18 bs) {n : 
     ns = take count list
 
     pub lines-begun : {t : Table} {order : Lists.List ℕ} (buffer : Lists.List ℕ) → t .count ≡ n → stateᵘ t ≡ fresh 0 → Runnableᵘ t order → count ≤ length list → length l ≤ length bs → length buffer ≡ 928
-        → Starts bs (λ report. (whole ≡ true) × RightLog bs ns report) begun t order list buffer
+        → StartsCheck bs (λ report. (whole ≡ true) × RightLog bs ns report) begun t order list buffer
     unfolding atFront
     lines-begun {t} {order} buffer c h o k m b = record {
       accepted = ap refusalNumber (sym lines-told) ∙ z;
       exactly = λ report.
           let exact = right-exactly original n (fileCalls bs) ns report in
-          let same : ahead begun t bs list buffer report ≡ (whole && right original n (fresh 0) ns report (fileCalls bs))
+          let same : aheadLog begun t bs list buffer report ≡ (whole && right original n (fresh 0) ns report (fileCalls bs))
           = λ i. whole && right original (c i) (h i) ns report (calls i) in (
             (λ y.
                 let a = and-both whole _ (sym same ∙ y) in
@@ -134,10 +134,10 @@ module _ (bs list : Lists.List ℕ) where
 
   abbrev pub FedBy : Stage → Lists.List (Lists.List ℕ) → Stage → Type 0
   FedBy s [] s′ = s ≡ s′
-  FedBy s (p ∷ ps) s′ = (next : Stage) × Feeds (s .check) (s .table) bs list (s .buffer) p (next .check) (next .table) (next .buffer) × FedBy next ps s′
+  FedBy s (p ∷ ps) s′ = (next : Stage) × FeedsReport (s .check) (s .table) bs list (s .buffer) p (next .check) (next .table) (next .buffer) × FedBy next ps s′
 
   abbrev aheadOf : Stage → Lists.List ℕ → Bool
-  aheadOf s report = ahead (s .check) (s .table) bs list (s .buffer) report
+  aheadOf s report = aheadLog (s .check) (s .table) bs list (s .buffer) report
 
   parts-fed : (ps : Lists.List (Lists.List ℕ)) (s s′ : Stage) → FedBy s ps s′ → aheadOf s (joined ps) ≡ aheadOf s′ []
   parts-fed [] s s′ e = ap (λ x. aheadOf x []) e
@@ -145,7 +145,7 @@ module _ (bs list : Lists.List ℕ) where
 
   -- yes exactly if the log is right, however its report is cut into parts
   pub log-told : {Right : Lists.List ℕ → Type 0} (s s′ : Stage) {order order′ : Lists.List ℕ}
-      → Starts bs Right (s .check) (s .table) order list (s .buffer) → (ps : Lists.List (Lists.List ℕ)) → FedBy s ps s′
+      → StartsCheck bs Right (s .check) (s .table) order list (s .buffer) → (ps : Lists.List (Lists.List ℕ)) → FedBy s ps s′
       → Checking (s′ .check) (s′ .table) order′ bs list (s′ .buffer) → Drained (s′ .check) bs → {yes : Bool} → Finishes (s′ .check) yes
       → (yes ≡ true) ↔ Right (joined ps)
   log-told s s′ {order′ = order′} b ps f g d {yes} e =
@@ -155,8 +155,8 @@ module _ (bs list : Lists.List ℕ) where
 
 -- in one part
 pub log-checked : {bs list report : Lists.List ℕ} {c : Progress} {t : Table} {order buffer : Lists.List ℕ} {c′ : Progress} {t′ : Table}
-    {order′ buffer′ : Lists.List ℕ} → Starts bs (λ report. (true ≡ true) × RightLog bs (take (length list) list) report) c t order list buffer
-    → Feeds c t bs list buffer report c′ t′ buffer′ → Checking c′ t′ order′ bs list buffer′ → {yes : Bool} → Finishes c′ yes
+    {order′ buffer′ : Lists.List ℕ} → StartsCheck bs (λ report. (true ≡ true) × RightLog bs (take (length list) list) report) c t order list buffer
+    → FeedsReport c t bs list buffer report c′ t′ buffer′ → Checking c′ t′ order′ bs list buffer′ → {yes : Bool} → Finishes c′ yes
     → ChecksLog bs list report 0 yes
 log-checked {bs} {list} {report} {c} {t} {buffer = buffer} {c′} {t′} {buffer′ = buffer′} b f g e =
     let all = take-all (length list) list (omega arith) in

@@ -48,14 +48,14 @@ abbrev pub callsLeft : Progress → Lists.List ℕ → Lists.List Call
 callsLeft c file = stepCalls (c .lines) (linesOf (drop (c .at) file))
 
 -- what is told of the log, if these bytes are all that is still to come of its report
-abbrev pub ahead : Progress → Table → Lists.List ℕ → Lists.List ℕ → Lists.List ℕ → Lists.List ℕ → Bool
-ahead c t file list buffer report =
+abbrev pub aheadLog : Progress → Table → Lists.List ℕ → Lists.List ℕ → Lists.List ℕ → Lists.List ℕ → Bool
+aheadLog c t file list buffer report =
     c .right && (atFront (pending c buffer) report
     && right original (t .count) (stateᵘ t) (numbersLeft c list) (drop (length (pending c buffer)) report) (callsLeft c file))
 
 -- the same check at another place
-abbrev pub placed : Progress → Bool → ℕ → ℕ → ℕ → ℕ → ℕ → Progress
-placed c right used lines at written shown = record {
+abbrev pub placedAt : Progress → Bool → ℕ → ℕ → ℕ → ℕ → ℕ → Progress
+placedAt c right used lines at written shown = record {
   right = right;
   stations = c .stations;
   count = c .count;
@@ -83,26 +83,26 @@ abbrev pub Drained : Progress → Lists.List ℕ → Type 0
 Drained c file = c .right ≡ true → c .shown ≡ c .written → callsLeft c file ≡ []
 
 -- a part of the report: whatever comes after it, what is told of the log is the same as before
-pub record Feeds (c : Progress) (t : Table) (file list buffer part : Lists.List ℕ) (c′ : Progress) (t′ : Table) (buffer′ : Lists.List ℕ) : Type 0 where
-  pub same : (more : Lists.List ℕ) → ahead c t file list buffer (part ++ more) ≡ ahead c′ t′ file list buffer′ more
+pub record FeedsReport (c : Progress) (t : Table) (file list buffer part : Lists.List ℕ) (c′ : Progress) (t′ : Table) (buffer′ : Lists.List ℕ) : Type 0 where
+  pub same : (more : Lists.List ℕ) → aheadLog c t file list buffer (part ++ more) ≡ aheadLog c′ t′ file list buffer′ more
   pub drained : Drained c′ file
   pub fewer : c′ .right ≡ true → workLeft c′ file + length part ≤ workLeft c file
 
 -- the end of the report
 pub record Finishes (c : Progress) (yes : Bool) : Type 0 where
   pub told : (t : Table) (order file list buffer : Lists.List ℕ) → Checking c t order file list buffer → Drained c file
-      → yes ≡ ahead c t file list buffer []
+      → yes ≡ aheadLog c t file list buffer []
 
 -- THE START of the log of a file, from the table of n stations that the header tells. The refusal is the file's, or, if there is none, what is told of the log
 -- is yes exactly if `Right` holds of its report.
-pub record Starts (bs : Lists.List ℕ) (Right : Lists.List ℕ → Type 0) (c : Progress) (t : Table) (order list buffer : Lists.List ℕ) : Type 0 where
+pub record StartsCheck (bs : Lists.List ℕ) (Right : Lists.List ℕ → Type 0) (c : Progress) (t : Table) (order list buffer : Lists.List ℕ) : Type 0 where
   pub accepted : refusalNumber (readingRefusal bs) ≡ 0
-  pub exactly : (report : Lists.List ℕ) → (ahead c t bs list buffer report ≡ true) ↔ Right report
+  pub exactly : (report : Lists.List ℕ) → (aheadLog c t bs list buffer report ≡ true) ↔ Right report
   pub checking : Checking c t order bs list buffer
 
 abbrev pub StartsBy : Lists.List ℕ → (Lists.List ℕ → Type 0) → Rows → Rows → Rows → Planes → Lists.List ℕ → Lists.List ℕ → Lists.List ℕ → Begun → Type 0
 StartsBy bs Right v j k s order list buffer (Refused r) = (r ≡ readingRefusal bs) × (refusalNumber r ≢ 0)
-StartsBy bs Right v j k s order list buffer (Running c) = Starts bs Right c (table (c .stations) v j k s) order list buffer
+StartsBy bs Right v j k s order list buffer (Running c) = StartsCheck bs Right c (table (c .stations) v j k s) order list buffer
 
 -- with these numbers, which are all that there are, or not; and with those of a file
 abbrev pub Begins : Lists.List ℕ → Lists.List ℕ → Bool → Rows → Rows → Rows → Planes → Lists.List ℕ → Lists.List ℕ → Lists.List ℕ → Begun → Type 0

@@ -9,7 +9,7 @@ ghost use Rattle.transition.specs.Logs.{atFront};
 ghost use Rattle.moves.specs.Moves.{refusalNumber, callOf};
 ghost use Rattle.schedule.specs.Files.{printed};
 ghost use Rattle.unbounded.specs.Tables.{table, Runnableᵘ};
-ghost use Rattle.logs.specs.Contracts.{RunsCall, placed, Checking, Feeds, Finishes, Begins, BeginsFile};
+ghost use Rattle.logs.specs.Contracts.{RunsCall, placedAt, Checking, FeedsReport, Finishes, Begins, BeginsFile};
 ghost use Rattle.logs.specs.Files.{ChecksLog, answerBytes};
 use arrays::Control;
 use arrays::Jobs;
@@ -120,7 +120,7 @@ fn place(
     written: usize,
     shown: usize,
 ) -> Progress
-    ensures { λ r. ⌜ r ≡ placed check right used lines at written shown ⌝ }
+    ensures { λ r. ⌜ r ≡ placedAt check right used lines at written shown ⌝ }
 {
     Progress {
         right,
@@ -156,7 +156,7 @@ pub fn feed(
 ) -> Progress
     requires { ⌜ Checking check (table (check .stations) (now numbers) (now jobs) (now control) (now results)) (now order)
         (now file) (now list) (now lines) ⌝ }
-    ensures { λ r. ⌜ Feeds check (table (check .stations) (now (numbers .entry)) (now (jobs .entry)) (now (control .entry)) (now (results .entry)))
+    ensures { λ r. ⌜ FeedsReport check (table (check .stations) (now (numbers .entry)) (now (jobs .entry)) (now (control .entry)) (now (results .entry)))
         (now (file .entry)) (now (list .entry)) (now (lines .entry)) (now (part .entry))
         r (table (r .stations) (now (numbers .exit)) (now (jobs .exit)) (now (control .exit)) (now (results .exit))) (now (lines .exit)) ⌝ }
     ensures { λ r. ⌜ Checking r (table (r .stations) (now (numbers .exit)) (now (jobs .exit)) (now (control .exit)) (now (results .exit))) (now (order .exit))

@@ -22,7 +22,6 @@ use Rattle.transition.proofs.Reached.{reached-fresh}
 use Rattle.transition.proofs.Theorem.{reached-held}
 use Rattle.moves.specs.Moves.{moveOf, callOf, placeOf}
 use Rattle.moves.proofs.MoveLaws.{step-any, place-below}
-use Rattle.moves.specs.declared.Move as Declared
 use Rattle.moves.specs.declared.Move.the-variants.{SnapLabel}
 use Rattle.arrays.specs.Planes as Planes
 use Rattle.arrays.specs.Arrays.{Rows, Arrays, restOf, stateOf}
@@ -52,10 +51,10 @@ module _ {a : Arrays} {order : Lists.List ℕ} (f : Runnable a order) {c : Call}
   abbrev asked : LabelStep
   asked = labelStep (judge false n (restOf a) c)
 
-  same-step : labelStep (moveOf (t .place) 0 (t .action)) ≡ asked
-  same-step = step-any (t .place) (c .job) (t .action) ∙ ap labelStep (g .action)
+  same-step : labelStep (moveOf (t .handed .place) 0 (t .action)) ≡ asked
+  same-step = step-any (t .handed .place) (c .job) (t .action) ∙ ap labelStep (g .action)
 
-  pub call-place : t .place < n
+  pub call-place : t .handed .place < n
   call-place = omega (arith, g .hands .place ∙ ap (λ b. cond b (placeOf n (c .station)) 0) (run-passes f), place-below n (c .station) (f .low))
 
   pub call-newest : t .newest < n
@@ -69,7 +68,7 @@ module _ {a : Arrays} {order : Lists.List ℕ} (f : Runnable a order) {c : Call}
   call-three e = go (eqb (c .code) 3) refl
     where
       snap-here : labelSnap asked ≡ 1
-      snap-here = ap labelSnap (sym same-step) ∙ ap (λ m. labelSnap (labelStep (moveOf (t .place) 0 m))) e
+      snap-here = ap labelSnap (sym same-step) ∙ ap (λ m. labelSnap (labelStep (moveOf (t .handed .place) 0 m))) e
 
       go : (b : Bool) → eqb (c .code) 3 ≡ b → c .code ≡ 3
       go true q = eqb-true (c .code) 3 q
@@ -91,7 +90,7 @@ module _ {a : Arrays} {order : Lists.List ℕ} (f : Runnable a order) {c : Call}
 
   -- what the code makes of the numbers is what the call makes of them
   pub call-numbered : {numbers : Rows} {count : ℕ} {list : Lists.List ℕ} → count ≤ length list → (c .code ≡ 3 → count < length list)
-      → Counted count numbers list → {numbers′ : Rows} {count′ : ℕ} {list′ : Lists.List ℕ} → let w = labelStep (moveOf (t .place) 0 (t .action)) in
+      → Counted count numbers list → {numbers′ : Rows} {count′ : ℕ} {list′ : Lists.List ℕ} → let w = labelStep (moveOf (t .handed .place) 0 (t .action)) in
       Renumbered (renumberIn n pending (t .newest) (Planes.beside numbers) w) (labelSnap w) count list numbers′ count′ list′
       → NumbersCall a c numbers count list a′ numbers′ count′ list′
   call-numbered {numbers} {count} {list} low room k {numbers′} {count′} {list′} r = record {

@@ -227,9 +227,10 @@ fn number_line(
 {
     let t = file::take_turn(n, request, order, labels, jobs, control, results);
     let m = t.action;
+    let handed = t.handed;
     renumber(
         m,
-        t.place,
+        handed.place,
         t.newest,
         &labels[PENDING],
         n,

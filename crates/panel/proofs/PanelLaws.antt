@@ -22,7 +22,7 @@ use Rattle.table.specs.declared.Table.{Table}
 use Rattle.step.specs.declared.Unfilled.{Unfilled}
 use Rattle.step.specs.Contracts.{firstEntries, reportOf, HandsEntries}
 use Rattle.panel.specs.declared.Record.{Record}
-use Rattle.panel.specs.Panels.{recordAt, filled, panelRecord, panelOf, Shows}
+use Rattle.panel.specs.Panels.{recordAt, filled, declaredRecord, panelOf, Shows}
 
 module _ {A : Type 0} (f : ℕ → A) where
   length-front : (n h : ℕ) (ys : List A) → n ≤ length ys → length (tabulate n h f ++ drop n ys) ≡ length ys
@@ -43,15 +43,15 @@ filled-none es ys = refl
 
 -- the panel filled from the entries of a call holds the records of the entries that it hands out
 filled-records : (es : List Entry) (n : ℕ) (ys : List Record)
-    → over (panelRecords 1 (firstEntries n es)) (map panelRecord ys) ≡ map panelRecord (filled es n ys)
-filled-records es n ys = ap (λ l. over l (map panelRecord ys)) (records-tabulate n 0 _)
-    ∙ ap₂ _++_ first (ap (λ k. drop k (map panelRecord ys)) (length-tabulate n 0 _) ∙ sym (map-drop panelRecord n ys))
-    ∙ sym (map-append panelRecord (tabulate n 0 (recordAt es)) (drop n ys))
+    → over (panelRecords 1 (firstEntries n es)) (map declaredRecord ys) ≡ map declaredRecord (filled es n ys)
+filled-records es n ys = ap (λ l. over l (map declaredRecord ys)) (records-tabulate n 0 _)
+    ∙ ap₂ _++_ first (ap (λ k. drop k (map declaredRecord ys)) (length-tabulate n 0 _) ∙ sym (map-drop declaredRecord n ys))
+    ∙ sym (map-append declaredRecord (tabulate n 0 (recordAt es)) (drop n ys))
   where
     first : tabulate n 0 (λ p. let e = getD es p blank in record { place = suc p; station = e .station; job = e .job })
-        ≡ map panelRecord (tabulate n 0 (recordAt es))
+        ≡ map declaredRecord (tabulate n 0 (recordAt es))
     first = tabulate-same n 0 _ _ (λ p _. ap (λ i. record { place = i; station = getD es p blank .station; job = getD es p blank .job }) (sym (add-one p)))
-        ∙ sym (map-tabulate panelRecord n 0 (recordAt es))
+        ∙ sym (map-tabulate declaredRecord n 0 (recordAt es))
 
 module _ {t : Table} {code station job : ℕ} (ys : List Record) {r : Unfilled} (l : HandsEntries t (called 0 code station job (Panel (length ys))) r) where
   abbrev c : Call
@@ -67,7 +67,7 @@ module _ {t : Table} {code station job : ℕ} (ys : List Record) {r : Unfilled} 
   shown {zs} e =
       let o = r .outcome in
       let long : size (reportOf c r) ≡ k = records-length 1 (firstEntries k (r .entries)) ∙ length-tabulate k 0 _ in
-      let left : onto (reportOf c r) (panelOf ys) ≡ panelOf zs = ap Records (filled-records (r .entries) k ys ∙ ap (map panelRecord) (sym e)) in
+      let left : onto (reportOf c r) (panelOf ys) ≡ panelOf zs = ap Records (filled-records (r .entries) k ys ∙ ap (map declaredRecord) (sym e)) in
       subst (λ (x : ℕ × Report). Steps declared t c (panelOf ys) (o .table) (refusalNumber (o .reply .refusal)) (x .0) (x .1))
       (λ i. (long i, left i)) (l .steps (panelOf ys))
 

@@ -21,11 +21,11 @@ abbrev pub filled : List Entry → ℕ → List Record → List Record
 filled es n ys = tabulate n 0 (recordAt es) ++ drop n ys
 
 -- declared records as the machine's
-abbrev pub panelRecord : Record → PanelRecord
-panelRecord r = record { place = r .place; station = r .station; job = r .job }
+abbrev pub declaredRecord : Record → PanelRecord
+declaredRecord r = record { place = r .place; station = r .station; job = r .job }
 
 abbrev pub panelOf : List Record → Report
-panelOf ys = Records (map panelRecord ys)
+panelOf ys = Records (map declaredRecord ys)
 
 -- a direct step call with the panel ys: the table, the reply and the panel that it leaves
 abbrev pub Shows : Table → ℕ → ℕ → ℕ → List Record → Table → Reply → List Record → Type 0

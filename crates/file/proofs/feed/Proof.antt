@@ -1,8 +1,8 @@
--- Openings tells what is served of a part by how it starts. `x` is what is known when it starts with lines, and `y` when they were served.
+-- Openings tells what is served of a part by how it starts. `o` is what is known then, `z` when it starts with lines, and `y` when these were served.
 use Prim.Native.Nat.{ℕ, _≤_}
 use native.Mathlib.Omega.{arith}
 use lib.ListN.{length}
-use mathlib.Core.Path.{_≡_, refl, subst}
+use mathlib.Core.Path.{_≡_, refl, sym, subst}
 use borrow.Author.Needs.{needs}
 use Rattle.arrays.specs.Arrays.{Arrays, arrays}
 use Rattle.file.specs.Contracts.{Runnable}
@@ -15,74 +15,93 @@ use Rattle.file.proofs.feed.Tie as tie
 abbrev start : tie.After-open-part → tie.Start
 start o = o .before .before .before .before .before .before .before .before .before
 
-abbrev table : tie.Start → Arrays
-table s = arrays (s .args .run .count) (s .args .labels .now) (s .args .jobs .now) (s .args .control .now) (s .args .results .now)
+abbrev ending : tie.After-open-part → tie.After-end-of
+ending o = o .before .before .before .before .before .before
+
+-- the table before it, and the one that it leaves, where that has n stations
+abbrev table : tie.After-open-part → Arrays
+table o = let s = start o .args in arrays (s .run .count) (s .labels .now) (s .jobs .now) (s .control .now) (s .results .now)
 
 abbrev left : tie.After-open-part → ℕ → Arrays
-left o n = arrays n (o .open-part .last .1 .1 .1 .0) (o .open-part .last .1 .1 .1 .1 .0) (o .open-part .last .1 .1 .1 .1 .1 .0) (o .open-part .last .1 .1 .1 .1 .1 .1 .0)
+left o n = let l = o .open-part .last .1 .1 in arrays n (l .1 .0) (l .1 .1 .0) (l .1 .1 .1 .0) (l .1 .1 .1 .1 .0)
 
 -- how the part starts
-starts : (o : tie.After-open-part) {v : Opening} → o .open-part .result ≡ v → let s = start o in
-    Opens (s .args .run) (table s) (s .args .last) (s .args .part .now) (left o) (o .open-part .last .1 .1 .0) v
+starts : (o : tie.After-open-part) {v : Opening} → o .open-part .result ≡ v
+    → Opens (start o .args .run) (table o) (start o .args .last) (start o .args .part .now) (left o) (o .open-part .last .1 .1 .0) v
 starts o e =
-    let s = start o in
-    subst (Opens (s .args .run) (table s) (s .args .last) (s .args .part .now) (left o) (o .open-part .last .1 .1 .0)) e (o .open-part .ensures)
+    let s = start o .args in
+    subst (Opens (s .run) (table o) (s .last) (s .part .now) (left o) (o .open-part .last .1 .1 .0)) e (o .open-part .ensures)
 
-opened : (x : tie.After-lines) → let o = x .before .before in let s = start o in let v = x .lines .given .0 in
-    Opened (s .args .run) (table s) (s .args .part .now) (v .0) (v .1 .1 .0) (left o (v .1 .0)) × Runnable (left o (v .1 .0)) (o .open-part .last .1 .1 .0)
-opened x = starts (x .before .before) (x .lines .given .1)
+-- with lines
+abbrev opening : tie.After-stations → tie.After-open-part
+opening z = z .before .before .before .before
 
-within : (x : tie.After-lines) → (x .lines .given .0 .1 .1 .0 ≤ x .before .before .before .before .before .before .before .before .end-of .result) × (x .before .before .before .before .before .before .before .before .end-of .result ≤ length (start (x .before .before) .args .part .now))
-within x = lines-within (opened x .0) (start (x .before .before) .args .last) (x .before .before .before .before .before .before .before .before .end-of .ensures)
+stations-requires : tie.Need-stations-requires
+stations-requires c κs = starts (c .before .before .before) (c .before .lines .given .1) .1 .low
+
+opened : (z : tie.After-stations) → let o = opening z in let v = z .before .before .lines .given .0 in let n = z .stations .result in
+    Opened (start o .args .run) (table o) (start o .args .part .now) (v .0) (v .1 .1 .0) (left o n) × Runnable (left o n) (o .open-part .last .1 .1 .0)
+opened z =
+    let o = opening z in
+    let v = z .before .before .lines .given .0 in
+    subst (λ n. Opened (start o .args .run) (table o) (start o .args .part .now) (v .0) (v .1 .1 .0) (left o n) × Runnable (left o n) (o .open-part .last .1 .1 .0))
+    (sym (z .stations .ensures)) (starts o (z .before .before .lines .given .1))
+
+within : (z : tie.After-stations) → let o = opening z in let end = ending o .end-of .result in
+    (z .before .before .lines .given .0 .1 .1 .0 ≤ end) × (end ≤ length (start o .args .part .now))
+within z = lines-within (opened z .0) (start (opening z) .args .last) (ending (opening z) .end-of .ensures)
 
 sub-report-lines : tie.Need-sub-report-lines
-sub-report-lines c = within (c .before .before .before .before .before .before) .0
+sub-report-lines c = within (c .before .before .before .before .before) .0
 
 part-report-lines-start : tie.Need-part-report-lines-start
-part-report-lines-start c = omega (arith, within (c .before .before .before .before .before .before))
+part-report-lines-start c = omega (arith, within (c .before .before .before .before .before))
 
 part-report-lines-end : tie.Need-part-report-lines-end
-part-report-lines-end c = omega (arith, within (c .before .before .before .before .before .before))
+part-report-lines-end c = omega (arith, within (c .before .before .before .before .before))
 
 report-lines-requires : tie.Need-report-lines-requires
-report-lines-requires c κs = opened (c .before .before .before .before .before .before .before .before) .1
+report-lines-requires c κs = opened (c .before .before .before .before .before .before .before) .1
 
 fed-by-requires : tie.Need-fed-by-requires
 fed-by-requires c κs =
     let y = c .before .before in
-    let x = y .before .before .before .before .before .before .before .before .before in
-    read-within (opened x .0) (start (x .before .before) .args .last) (x .before .before .before .before .before .before .before .before .end-of .ensures) refl (y .report-lines .ensures .0)
+    let o = opening (y .before .before .before .before .before .before .before .before) in
+    read-within (opened (y .before .before .before .before .before .before .before .before) .0) (start o .args .last) (ending o .end-of .ensures) refl (y .report-lines .ensures .0)
 
 returns : tie.Need-returns
 returns c =
     let o = c .before .before in
-    let s = start o in
+    let s = start o .args in
     let f = starts o (c .enum-told .given .1) in
-    rw (f .0) (feeds-none (s .args .run) (table s) (s .args .last) (s .args .part .now) (s .args .out .now) (f .2), f .1)
+    rw (f .0) (feeds-none (s .run) (table o) (s .last) (s .part .now) (s .out .now) (f .2), f .1)
 
 returns-2 : tie.Need-returns-2
 returns-2 c =
     let o = c .before .before .before .before .before .before .before .before in
-    let s = start o in
+    let s = start o .args in
     let f = starts o (c .before .before .before .before .before .before .refusal .given .1) in
     let told = c .before .before .print-refusal .ensures in
     rw (f .0) (
-      feeds-refused (s .args .run) (table s) (s .args .last) (s .args .part .now) (s .args .out .now) (f .2) (f .3) (s .pre .1) (s .pre .0 .fresh) (f .4) (c .before .before .before .before .line-at .ensures) (told .0) (told .1),
-      standing-refused (f .1) (s .args .run .count) _ _ (f .4),
+      feeds-refused (s .run) (table o) (s .last) (s .part .now) (s .out .now) (f .2) (f .3) (start o .pre .1) (start o .pre .0 .fresh) (f .4)
+          (c .before .before .before .before .line-at .ensures) (told .0) (told .1),
+      standing-refused (f .1) (s .run .count) _ _ (f .4),
     )
 
 returns-3 : tie.Need-returns-3
 returns-3 c =
     let y = c .before .before .before in
-    let x = y .before .before .before .before .before .before .before .before .before in
-    let s = start (x .before .before) in
+    let z = y .before .before .before .before .before .before .before .before in
+    let o = opening z in
+    let s = start o in
+    let end = ending o .end-of .ensures in
     let g = y .report-lines .ensures in
     rw (c .fed-by .ensures) (
-      feeds-lines (opened x .0) (s .args .last) (x .before .before .before .before .before .before .before .before .end-of .ensures) refl (g .0) (x .lines .given .0 .1 .0) (s .pre .1),
-      standing-lines (opened x .0) (s .args .last) (x .before .before .before .before .before .before .before .before .end-of .ensures) refl (g .0) (x .lines .given .0 .1 .0) (g .1),
+      feeds-lines (opened z .0) (s .args .last) end refl (g .0) (z .stations .result) (s .pre .1),
+      standing-lines (opened z .0) (s .args .last) end refl (g .0) (z .stations .result) (g .1),
     )
 
 pub feed-spec : {M : Type 1} → statement M
 feed-spec = tie.close (tie.spec (λ c κs. search needs) (λ c κs. search needs) (λ c. search needs) (λ c. search needs) (λ c κs. search needs)
-    (λ c κs. search needs) (λ c. search needs) sub-report-lines part-report-lines-start part-report-lines-end report-lines-requires fed-by-requires returns
-    (λ c. search needs) returns-2 (λ c. search needs) returns-3)
+    (λ c κs. search needs) (λ c. search needs) stations-requires sub-report-lines part-report-lines-start part-report-lines-end report-lines-requires
+    fed-by-requires returns (λ c. search needs) returns-2 (λ c. search needs) returns-3)

@@ -12,24 +12,24 @@ use Rattle.file.proofs.serve_line.Tie as tie
 abbrev start : tie.After-take-turn → tie.Start
 start x = x .before .before .before .before .before .before .before
 
-fits : (x : tie.After-take-turn) → (x .take-turn .result .entries ≤ 32) × (x .take-turn .result .entries * 29 ≤ 928)
+fits : (x : tie.After-take-turn) → (x .take-turn .result .handed .entries ≤ 32) × (x .take-turn .result .handed .entries * 29 ≤ 928)
 fits x = turn-fits (start x .pre .0) (x .take-turn .ensures .0) refl
 
 write-result-requires : tie.Need-write-result-requires
 write-result-requires c κs =
-    let x = c .before .before in
+    let x = c .before .before .before in
     (fits x .0, (x .take-turn .ensures .0 .hands .named, omega (arith, fits x .1, start x .pre .1)))
 
 add-result : tie.Need-add-result
 add-result c =
-    let x = c .before .before .before .before .before .before .before .before .before in
+    let x = c .before .before .before .before .before .before .before .before .before .before in
     let told = c .before .before .print-refusal .ensures .0 in
     let wrote = c .before .before .before .before .before .before .write-result .ensures .0 in
-    omega (arith, told, wrote, fits x .1, printed-refusal (start x .args .request .line) (refusalNumber (x .take-turn .result .refusal)))
+    omega (arith, told, wrote, fits x .1, printed-refusal (start x .args .request .line) (refusalNumber (x .take-turn .result .handed .refusal)))
 
 returns : tie.Need-returns
 returns c =
-    let x = c .before .before .before .before .before .before .before .before .before in
+    let x = c .before .before .before .before .before .before .before .before .before .before in
     let wrote = c .before .before .before .before .before .before .write-result .ensures in
     let told = c .before .before .print-refusal .ensures in
     (turn-prints (start x .pre .0) (x .take-turn .ensures .0) refl (wrote .0) (wrote .1) (told .0) (told .1), x .take-turn .ensures .1)

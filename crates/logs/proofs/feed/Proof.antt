@@ -12,7 +12,7 @@ use Rattle.basics.proofs.Loops.{was-true, was-false}
 use Rattle.transition.specs.Logs.{atFront}
 use Rattle.schedule.proofs.Places.{StepAt, at-end, at-refused, at-call, calls-none, calls-refused}
 use Rattle.unbounded.specs.Tables.{table}
-use Rattle.logs.specs.Contracts.{callsLeft, placed, Checking}
+use Rattle.logs.specs.Contracts.{callsLeft, placedAt, Checking}
 use Rattle.logs.specs.declared.Progress.{Progress}
 use Rattle.logs.proofs.Checks.{Sofar, feed-none, sofar-start, checking-here, FedTo, sofar-waits, sofar-differs, sofar-shown, next-checking}
 use Rattle.logs.proofs.Checks.{sofar-ends, sofar-unfit, sofar-step, step-checking}
@@ -23,7 +23,7 @@ use Rattle.logs.proofs.feed.Tie as tie
 abbrev Inv-loop : tie.InvT-loop
 Inv-loop check file list part _ numbers₀ jobs₀ control₀ results₀ lines₀ n _ _ _ _ _ _ _ _ order numbers jobs control results lines used counted at written shown
     read =
-    let c = placed check true used counted at written shown in
+    let c = placedAt check true used counted at written shown in
     let t = table (check .stations) numbers jobs control results in
     Sofar check (table (check .stations) numbers₀ jobs₀ control₀ results₀) file list lines₀ part c t lines read × Checking c t order file list lines
 
@@ -126,8 +126,8 @@ same-length-3 c = let l = c .before .before .before .before .before in l .loop .
 
 -- no step is left
 ended : (e : tie.Else2 Inv-loop μ-loop) → let l = e .before in let s = start l .args in
-    callsLeft (placed (s .check) true (l .loop .used) (l .loop .counted) (l .loop .at) (l .loop .written) (l .loop .shown)) (s .file .now) ≡ [] → (r : Progress)
-    → r ≡ placed (s .check) (eqb (l .loop .read) (length (s .part .now))) (l .loop .used) (l .loop .counted) (l .loop .at) (l .loop .written) (l .loop .shown)
+    callsLeft (placedAt (s .check) true (l .loop .used) (l .loop .counted) (l .loop .at) (l .loop .written) (l .loop .shown)) (s .file .now) ≡ [] → (r : Progress)
+    → r ≡ placedAt (s .check) (eqb (l .loop .read) (length (s .part .now))) (l .loop .used) (l .loop .counted) (l .loop .at) (l .loop .written) (l .loop .shown)
     → FedTo (s .check) (table (s .check .stations) (s .numbers .now) (s .jobs .now) (s .control .now) (s .results .now)) (s .file .now) (s .list .now)
     (s .lines .now) (s .part .now) (l .loop .numbers) (l .loop .jobs) (l .loop .control) (l .loop .results) (l .loop .order) (l .loop .lines) r
 ended e h r q =

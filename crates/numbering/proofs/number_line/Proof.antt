@@ -10,7 +10,7 @@ start x = x .before .before .before .before .before .before .before
 
 renumber-requires : tie.Need-renumber-requires
 renumber-requires c κs =
-    let x = c .before .before .before in
+    let x = c .before .before .before .before in
     let s = start x in
     let f = s .pre .0 in
     let g = x .take-turn .ensures in (
@@ -23,7 +23,7 @@ renumber-requires c κs =
 
 returns : tie.Need-returns
 returns c =
-    let x = c .before .before .before .before .before .before in
+    let x = c .before .before .before .before .before .before .before in
     let s = start x in
     let g = x .take-turn .ensures in
     (call-numbered (s .pre .0) (g .1) (g .0) (s .pre .1 .1 .0 .0) (s .pre .1 .0) (s .pre .1 .1 .1) (c .before .before .renumber .ensures), g .1)
