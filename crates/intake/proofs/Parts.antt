@@ -1,15 +1,15 @@
 -- What is told of a file that is only read, part by part: a part behind other lines, the first one, and all of them together.
-use Prim.Native.Nat.{ℕ, _+_, _-_, _*_, _≤_, _<_}
+use Prim.Native.Nat.{ℕ, _+_, _-_, _≤_, _<_}
 use native.Mathlib.Nat.{zero-add}
 use native.Mathlib.Omega.{arith}
 use mathlib.Core.Path.{_≡_, refl, sym, ap, subst, _∙_}
-use mathlib.Core.Logic.{_≢_, _⊎_, inl, inr, ⊎-elim}
-use mathlib.Core.Bool.{Bool, true, false, cond, true≢false}
+use mathlib.Core.Logic.{_≢_, _⊎_, inl, inr}
+use mathlib.Core.Bool.{Bool, true, false, true≢false}
 use mathlib.Core.List as Lists
 use mathlib.Core.List.{[], _∷_, _++_, append-assoc, append-nil}
-use lib.ListN.{length, take, drop, length-append, length-take, length-drop}
+use lib.ListN.{length, take, drop, length-append, length-drop}
 use lib.Seq.{take-append-le, drop-append-le, take-all, length-take-le}
-use lib.Dec.{eqb, ltb}
+use lib.Dec.{eqb}
 use borrow.Author.Tests.{eq-eqb, ne-eqb, eqb-true, eqb-false, lt-ltb, le-ltb}
 use Rattle.moves.specs.Moves.{refusalNumber}
 use Rattle.moves.specs.declared.Refusal.{Refusal}
@@ -18,7 +18,6 @@ use Rattle.schedule.specs.Lines.{lineRead, headerRead}
 use Rattle.schedule.specs.Files.{cut, pieces, linesOf}
 use Rattle.schedule.specs.Demand.{stepCalls, ending, fileCalls}
 use Rattle.schedule.specs.Numbers.{finalOf, surveyed, readingRefusal, Surveys}
-use Rattle.schedule.proofs.SessionLaws.{header-refused}
 use Rattle.schedule.proofs.Cuts.{joined, Whole}
 use Rattle.schedule.proofs.Runs.{rest-after}
 use Rattle.schedule.proofs.Surveys.{all-lines, survey-parts, firstOf, surveyed-header, long-file}

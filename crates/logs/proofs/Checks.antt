@@ -1,5 +1,5 @@
 -- A log, held against the unbounded table: bytes that come next, one call, and the loop over what is shown and the lines.
-use Prim.Native.Nat.{ℕ, suc, _+_, _-_, _*_, _≤_, _<_, min}
+use Prim.Native.Nat.{ℕ, suc, _+_, _-_, _*_, _≤_, _<_}
 use native.Mathlib.Numerals.{add-one}
 use native.Mathlib.Omega.{arith}
 use native.Mathlib.Decide.{ℕ-discrete}
@@ -7,14 +7,14 @@ use mathlib.Core.Path.{_≡_, refl, sym, ap, ap₂, _∙_}
 use mathlib.Core.Logic.{by-cases}
 use mathlib.Core.Bool.{Bool, true, false, _&&_, and-assoc, and-true, and-false}
 use mathlib.Core.List as Lists
-use mathlib.Core.List.{[], _∷_, _++_, append-nil}
+use mathlib.Core.List.{[], _∷_, _++_}
 use lib.ListN.{length, getD, take, drop, set, length-take, length-drop, length-append, take-append-drop, drop-of-length-le}
-use lib.Seq.{drop-drop, take-at, take-take, length-take-le, drop-append-le, take-append-le}
+use lib.Seq.{drop-drop, take-at, take-take, length-take-le, drop-append-le}
 use lib.Dec.{eqb}
 use borrow.Author.Tests.{eq-eqb, ne-eqb, eqb-true, eqb-false}
-use Rattle.basics.proofs.Facts.{tf, and-both}
+use Rattle.basics.proofs.Facts.{tf}
 use Rattle.simulation.specs.Calls.{Call, Buffer, judge, reportLines}
-use Rattle.simulation.specs.Machine.{original, labelStep, step, snapsOf}
+use Rattle.simulation.specs.Machine.{original, labelStep, snapsOf}
 use Rattle.transition.specs.Forms.{over}
 use Rattle.transition.specs.Logs.{fitsNext, atFront, right}
 use Rattle.transition.proofs.Logs.{front-from, front-end, front-short}
@@ -79,12 +79,13 @@ take-behind k n l h g =
 module _ {t t′ : Table} {order order′ : Lists.List ℕ} {c : Call} {log : Lists.List ℕ} {used : ℕ} {r : NumberedTurn}
     (g : Turnsᵘ t order c log used t′ order′ r) where
   -- its number does not fit
-  pub run-unfit : (buffer : Lists.List ℕ) → {u v : ℕ} → r .fits ≡ false → RunsCall t c log used t′ buffer (record { fits = false; used = u; written = v })
+  pub run-unfit : (buffer : Lists.List ℕ) → r .fits ≡ false → RunsCall t c log used t′ buffer (record { fits = false; used = used; written = 0 })
   run-unfit buffer e = record {
     fits = sym e ∙ g .fits;
     state = λ y. absurd (tf y refl);
     numbers = λ y. absurd (tf y refl);
     bytes = λ y. absurd (tf y refl);
+    nothing = λ _. (refl, refl);
   }
 
   -- it fits, and what is written is k bytes at the front of a buffer
@@ -101,6 +102,7 @@ module _ {t t′ : Table} {order order′ : Lists.List ℕ} {c : Call} {log : Li
           ap (take k) o ∙ take-at l (drop (length l) buffer) k (result-length (c .line) (r .handed .entries) rows ∙ sym w) ∙ sym (g .served e .report),
           omega (arith, w, g .served e .few),
         );
+        nothing = λ y. absurd (tf refl y);
       }
 
 -- THE LOOP over a part of the report, from the check c₀: `read` bytes of it are used up, and what is told of the log is what is told from here on by the rest

@@ -1,11 +1,11 @@
 -- The log of a whole file: it is refused before any step is run, or what is told of it is the test of its lines, which is exact.
-use Prim.Native.Nat.{ℕ, _*_, _≤_, _<_}
+use Prim.Native.Nat.{ℕ, _≤_, _<_}
 use native.Mathlib.Omega.{arith}
 use mathlib.Core.Path.{_≡_, refl, sym, ap, subst, _∙_}
 use mathlib.Core.Logic.{_≢_, _↔_}
 use mathlib.Core.Bool.{Bool, true, false, _&&_}
 use mathlib.Core.List as Lists
-use mathlib.Core.List.{[], _∷_, _++_, append-nil}
+use mathlib.Core.List.{[], _∷_, append-nil}
 use lib.ListN.{length, take, drop}
 use lib.Seq.{take-all}
 use Rattle.basics.proofs.Facts.{and-both, both}

@@ -1,5 +1,5 @@
 -- What the contracts of the parts of a check say.
-use Prim.Native.Nat.{ℕ, _+_, _-_, _*_, _≤_, _<_}
+use Prim.Native.Nat.{ℕ, _+_, _-_, _*_, _≤_}
 use mathlib.Core.Path.{_≡_}
 use mathlib.Core.Logic.{_≢_, _↔_}
 use mathlib.Core.Bool.{Bool, true, false, _&&_}
@@ -10,7 +10,6 @@ use Rattle.simulation.specs.Calls.{Call, judge, bytesOf}
 use Rattle.simulation.specs.Machine.{original, labelStep, snapsOf}
 use Rattle.transition.specs.Logs.{fitsNext, atFront, right}
 use Rattle.moves.specs.Moves.{refusalNumber}
-use Rattle.moves.specs.declared.Refusal.{Refusal}
 use Rattle.arrays.specs.Arrays.{Rows, Planes}
 use Rattle.arrays.specs.Planes.{beside}
 use Rattle.schedule.specs.Files.{linesOf}
@@ -29,12 +28,13 @@ abbrev pub writes : Table → Call → Lists.List ℕ → Lists.List ℕ
 writes t c ns = bytesOf (answeredᵘ t c ns .report)
 
 -- the call c, where the first `used` numbers are used up: whether the next number fits it. If it does, the table left holds the state that the machine comes
--- to, it is told how many numbers are used up, and what the call writes is at the front of the buffer.
+-- to, it is told how many numbers are used up, and what the call writes is at the front of the buffer; if not, nothing is used up or written.
 pub record RunsCall (t : Table) (c : Call) (log : Lists.List ℕ) (used : ℕ) (t′ : Table) (buffer : Lists.List ℕ) (r : Ran) : Type 0 where
   pub fits : r .fits ≡ fitsNext (t .count) (beside (t .numbers)) (labelStep (judge false (t .count) (restᵘ t) c)) (drop used log)
   pub state : r .fits ≡ true → stateᵘ t′ ≡ answeredᵘ t c (drop used log) .state
   pub numbers : r .fits ≡ true → (r .used ≡ used + snapsOf original (t .count) (stateᵘ t) c) × (r .used ≤ length log)
   pub bytes : r .fits ≡ true → (take (r .written) buffer ≡ writes t c (drop used log)) × (r .written ≤ 928)
+  pub nothing : r .fits ≡ false → (r .used ≡ used) × (r .written ≡ 0)
 
 -- A CHECK that goes on: the numbers left of its list, the bytes that the last step wrote and that the report is still to show, and the steps left of the
 -- schedule

@@ -1,8 +1,6 @@
 // Logs of schedule files (document 02, Card 7: the old books): the numbers and the report of a log held against the unbounded table, which is fed with them.
 // The report comes part by part.
 ghost use mathlib.Core.Path.{_≡_};
-ghost use mathlib.Core.Bool.{cond};
-ghost use mathlib.Core.List.{_++_};
 ghost use Prim.Native.Nat.{_≤_, min};
 ghost use lib.ListN.{length, take, drop};
 ghost use Rattle.simulation.specs.Calls.{Buffer};

@@ -22,7 +22,6 @@ use Rattle.transition.proofs.Reached.{reached-fresh}
 use Rattle.transition.proofs.Theorem.{reached-held}
 use Rattle.moves.specs.Moves.{moveOf, callOf, placeOf}
 use Rattle.moves.proofs.MoveLaws.{step-any, place-below}
-use Rattle.moves.specs.declared.Move as Declared
 use Rattle.moves.specs.declared.Move.the-variants.{SnapLabel}
 use Rattle.arrays.specs.Planes as Planes
 use Rattle.arrays.specs.Arrays.{Rows, Arrays, restOf, stateOf}

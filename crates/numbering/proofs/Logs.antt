@@ -2,7 +2,6 @@
 use Prim.Native.Nat.{ℕ}
 use mathlib.Core.Path.{_≡_, refl, sym, ap, subst, _∙_}
 use mathlib.Core.List as Lists
-use mathlib.Core.List.{map}
 use lib.ListN.{length, take, drop}
 use lib.Seq.{take-at}
 use Rattle.moves.specs.Moves.{refusalNumber}

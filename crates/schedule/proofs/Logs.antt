@@ -1,22 +1,16 @@
 -- The numbers for a file and what its steps write are a right log; and its report without refusals is what they write (02, Card 7).
-use Prim.Native.Nat.{ℕ, zero, suc, _+_, _*_, _/_, _≤_, _<_}
-use native.Mathlib.Nat.{zero-add}
+use Prim.Native.Nat.{ℕ, _+_, _*_, _≤_, _<_}
 use native.Mathlib.Omega.{arith}
 use mathlib.Core.Path.{_≡_, refl, sym, ap, ap₂, subst, _∙_}
 use mathlib.Core.Logic.{_≢_, ⊎-elim}
 use mathlib.Core.Bool.{Bool, true, false, _||_, cond}
 use mathlib.Core.List as Lists
-use mathlib.Core.List.{[], _∷_, _++_, map, append-assoc, append-nil}
-use lib.ListN.{length, take, drop, length-append, length-drop}
-use lib.Seq.{take-all, take-append-le, drop-append-le}
+use mathlib.Core.List.{[], _∷_, _++_, map, append-nil}
+use lib.ListN.{length, take}
 use lib.Dec.{eqb}
 use borrow.Author.Tests.{eq-eqb, eqb-true, eqb-false}
 use Rattle.basics.specs.Tests.{within}
 use Rattle.basics.proofs.Facts.{or-cases, within-true}
-use Rattle.columns.specs.Columns.{column, lineHead, lineTail, reportLine}
-use Rattle.columns.proofs.ColumnLaws.{length-report-line, column-iff}
-use Rattle.columns.specs.Reading.{columnRead}
-use Rattle.columns.specs.declared.Column.the-variants.{Value}
 use Rattle.simulation.specs.Calls.{Call, Entry, Room, Buffer, Panel, reportLines, bytesOf, written}
 use Rattle.simulation.specs.Machine.{original}
 use Rattle.simulation.proofs.Judged.{direct}

@@ -1,8 +1,7 @@
 -- The reports of the sample files, on tables of every lawful form: computed on the machine's states.
 use mathlib.Core.Path.{refl, _∙_}
-use mathlib.Core.List as Lists
-use mathlib.Core.List.{[], _∷_, _++_}
-use Rattle.basics.specs.Tests.{every, count, firstFrom, newest, inserted, ordered, passing, All}
+use mathlib.Core.List.{_∷_, _++_}
+use Rattle.basics.specs.Tests.{every, count, firstFrom, newest, inserted, ordered, passing}
 use Rattle.basics.proofs.Facts.{all-weaken}
 use Rattle.columns.specs.Columns.{lineHead, lineTail, reportLine}
 use Rattle.columns.specs.Reading.{columnRead}
@@ -16,7 +15,7 @@ use Rattle.schedule.specs.Lines.{lineRead, headerRead}
 use Rattle.schedule.specs.Sessions.{serveOf}
 use Rattle.schedule.specs.Files.{cut, runLines, fileRun}
 use Rattle.schedule.specs.Before.{asStates}
-use Rattle.schedule.specs.Samples.{FileSample, texts, FilePrints, listing, refusals, incomplete, headers, FileSamplesHold}
+use Rattle.schedule.specs.Samples.{texts, FilePrints, listing, refusals, incomplete, headers, FileSamplesHold}
 use Rattle.schedule.proofs.FileTheorem.{same-report}
 use Rattle.schedule.proofs.Before.{states-lawful}
 

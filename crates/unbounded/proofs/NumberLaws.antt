@@ -8,7 +8,7 @@ use mathlib.Core.List.{List, [], _++_}
 use lib.ListN.{length, getD, set, take, replicate}
 use lib.Seq.{getD-take}
 use lib.Dec.{eqb, ltb}
-use borrow.Author.Tests.{ltb-true, lt-ltb, le-ltb, eq-eqb, ne-eqb}
+use borrow.Author.Tests.{ltb-true, lt-ltb, le-ltb, ne-eqb}
 use Rattle.basics.specs.Tests.{newest, inserted, ordered}
 use Rattle.basics.proofs.Facts.{tf, by-here, ordered-length}
 use Rattle.label.proofs.Digits.{Tri, lt, eq, gt, compare}

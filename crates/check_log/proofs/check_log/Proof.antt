@@ -1,6 +1,6 @@
 -- The check begins, and goes on with the report; `b` is what is known when it has begun.
 use native.Mathlib.Omega.{arith}
-use mathlib.Core.Path.{_≡_, refl, sym, subst}
+use mathlib.Core.Path.{subst}
 use Rattle.logs.specs.Contracts.{BeginsFile}
 use borrow.Author.Needs.{needs}
 use Rattle.check_log.proofs.check_log.Statement.{statement}

@@ -1,6 +1,5 @@
 -- The check goes on from part to part. Each that is full shows bytes, of which there are as many as the steps left can write. `x` is what is known when a part
 -- has been read, `f` when the check has been fed with it.
-use Prim.Native.Nat.{_≤_, _<_}
 use native.Mathlib.Omega.{arith}
 use mathlib.Core.Path.{_≡_, refl, sym, _∙_}
 use mathlib.Core.Bool.{Bool, true, false, not, _||_, true≢false}

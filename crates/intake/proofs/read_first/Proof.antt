@@ -1,7 +1,7 @@
 -- The header is read, and the lines behind it; `l` is what is known when the header has been found.
 use Prim.Native.Nat.{_<_}
 use native.Mathlib.Omega.{arith}
-use mathlib.Core.Path.{_≡_, refl, sym, ap, _∙_}
+use mathlib.Core.Path.{sym, _∙_}
 use lib.ListN.{length}
 use Rattle.schedule.proofs.Runs.{header-within}
 use Rattle.intake.proofs.Parts.{first-none, first-refused, first-read}

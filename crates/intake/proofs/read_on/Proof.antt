@@ -1,9 +1,8 @@
 -- The invariant is `Sofar` of Parts: a full part stands in the buffer, and what is told of the file is what the reading tells of the rest. `x` is what is known
 -- when the next part has been read from the descriptor, `y` when it has been read as lines.
 use Prim.Native.Nat.{_≤_}
-use native.Mathlib.Omega.{arith}
 use mathlib.Core.Path.{_≡_, refl, sym, _∙_}
-use mathlib.Core.Bool.{true, false}
+use mathlib.Core.Bool.{false}
 use lib.ListN.{length}
 use lib.Seq.{length-take-le}
 use Rattle.basics.proofs.Loops.{was-true, was-false}

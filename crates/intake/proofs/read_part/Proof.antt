@@ -1,4 +1,4 @@
-use mathlib.Core.Path.{_≡_, refl, sym, ap, subst, _∙_}
+use mathlib.Core.Path.{sym, subst}
 use Rattle.intake.specs.Contracts.{Within, ReadsPart}
 use Rattle.intake.proofs.Parts.{stays-refused}
 use borrow.Author.Needs.{needs}

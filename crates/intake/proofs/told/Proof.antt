@@ -1,4 +1,4 @@
-use mathlib.Core.Path.{_≡_, refl, sym, ap, _∙_}
+use mathlib.Core.Path.{sym, ap, _∙_}
 use mathlib.Core.List.{[]}
 use Rattle.intake.specs.Contracts.{aheadRead}
 use Rattle.intake.proofs.Parts.{told-start, told-many, told-few}

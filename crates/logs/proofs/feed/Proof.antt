@@ -4,14 +4,14 @@ use Prim.Native.Nat.{_+_, _-_, _*_, _≤_, _<_}
 use native.Mathlib.Omega.{arith}
 use mathlib.Core.Path.{_≡_, refl, sym, ap, subst, _∙_}
 use mathlib.Core.Bool.{Bool, true, false}
-use mathlib.Core.List.{List, []}
+use mathlib.Core.List.{[]}
 use lib.ListN.{length, take, drop}
 use lib.Dec.{eqb}
 use lib.Seq.{length-take-le}
 use Rattle.basics.proofs.Loops.{was-true, was-false}
 use Rattle.transition.specs.Logs.{atFront}
 use Rattle.schedule.proofs.Places.{StepAt, at-end, at-refused, at-call, calls-none, calls-refused}
-use Rattle.unbounded.specs.Tables.{Table, table}
+use Rattle.unbounded.specs.Tables.{table}
 use Rattle.logs.specs.Contracts.{callsLeft, placedAt, Checking}
 use Rattle.logs.specs.declared.Progress.{Progress}
 use Rattle.logs.proofs.Checks.{Sofar, feed-none, sofar-start, checking-here, FedTo, sofar-waits, sofar-differs, sofar-shown, next-checking}

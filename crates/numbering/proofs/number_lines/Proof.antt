@@ -1,5 +1,5 @@
 -- The invariant is `Sofar` of Lines: what the lines left make of the numbers so far are the numbers of all lines.
-use Prim.Native.Nat.{_+_, _-_, _≤_, _<_}
+use Prim.Native.Nat.{_-_}
 use native.Mathlib.Omega.{arith}
 use mathlib.Core.Path.{refl}
 use lib.ListN.{length}
