@@ -16,7 +16,7 @@ use Rattle.moves.specs.Moves.{refusalNumber}
 use Rattle.moves.specs.declared.Refusal.the-variants.{Accepted}
 use Rattle.arrays.specs.Arrays.{Arrays}
 use Rattle.arrays.specs.Form.{lent}
-use Rattle.schedule.specs.Sessions.{Session, Served, standing}
+use Rattle.schedule.specs.Sessions.{Session, Served}
 use Rattle.schedule.specs.Files.{pieces, behind, fileRun, fileReport}
 use Rattle.file.specs.Contracts.{RunsFile, ReportsFile}
 use Rattle.file.specs.Feeds.{runSession, awaits, ready, ahead, Feeds}

@@ -14,7 +14,7 @@ ghost use Rattle.arrays.specs.Arrays.{arrays};
 ghost use Rattle.arrays.specs.Form.{lent};
 ghost use Rattle.engine.specs.Scans.{orderOf};
 ghost use Rattle.schedule.specs.Sessions.{session};
-ghost use Rattle.schedule.specs.Files.{cut, pieces, printed, runLines};
+ghost use Rattle.schedule.specs.Files.{printed};
 ghost use mathlib.Core.Bool.{cond};
 ghost use Rattle.file.specs.Feeds.{Standing, Feeds, fedOf, Opens};
 ghost use Rattle.file.specs.Contracts.{Runnable, Turns, Prints, Reports, RunsFile, ReportsFile};
@@ -23,7 +23,6 @@ use arrays::Jobs;
 use arrays::Labels;
 use arrays::Results;
 use engine::Handed;
-use engine::Reply;
 use moves::Move;
 use moves::Refusal;
 use moves::Request;
@@ -282,7 +281,7 @@ fn fed_by(n: usize, at: usize, r: Progress, end: usize) -> Fed
         },
         read: at + r.read,
         written: r.written,
-        more: (refusal.number() == 0) & (at + r.read < end),
+        more: !refusal.refuses() & (at + r.read < end),
     }
 }
 
@@ -310,7 +309,7 @@ fn open_part(
         (now (part .entry)) (λ n. arrays n (now (labels .exit)) (now (jobs .exit)) (now (control .exit)) (now (results .exit))) (now (order .exit)) r ⌝ }
 {
     let refusal = run.refusal;
-    if refusal.number() != 0 {
+    if refusal.refuses() {
         return Opening::Nothing;
     }
     if run.lines != 0 {

@@ -15,7 +15,7 @@ use libc::STDIN_FILENO;
 use streams::Input;
 
 // After a part of the file: the run, the bytes that were served, or of which the first are kept for the next part, and whether to read on.
-struct Turn {
+struct Stage {
     run: Run,
     count: usize,
     more: bool,
@@ -49,7 +49,7 @@ fn serve_part(
     results: &mut Results,
     part: &[u8],
     out: &mut [u8],
-) -> Turn
+) -> Stage
     requires { ⌜ Standing run (arrays (run .count) (now labels) (now jobs) (now control) (now results)) (now order) ⌝ }
     requires { ⌜ 928 ≤ length (now out) ⌝ }
     ensures { λ r. ⌜ Standing (r .run) (arrays (r .run .count) (now (labels .exit)) (now (jobs .exit)) (now (control .exit)) (now (results .exit)))
@@ -75,17 +75,17 @@ fn serve_part(
         let next = fed.run;
         let refusal = next.refusal;
         if !write_report(&out[..k]) {
-            return Turn {
+            return Stage {
                 run: next,
                 count: 0,
                 more: false,
             };
         }
         if !fed.more {
-            return Turn {
+            return Stage {
                 run: next,
                 count: at + fed.read,
-                more: (refusal.number() == 0) & !last,
+                more: !refusal.refuses() & !last,
             };
         }
         now = next;
@@ -117,7 +117,7 @@ fn read_part(
     results: &mut Results,
     input: &mut [u8],
     out: &mut [u8],
-) -> Turn
+) -> Stage
     requires { ⌜ Standing run (arrays (run .count) (now labels) (now jobs) (now control) (now results)) (now order) ⌝ }
     requires { ⌜ (kept < 18) × (36 ≤ length (now input)) ⌝ }
     requires { ⌜ 928 ≤ length (now out) ⌝ }
@@ -127,7 +127,7 @@ fn read_part(
 {
     let r = read_schedule(&mut input[kept..]);
     if r.failed {
-        return Turn {
+        return Stage {
             run,
             count: 0,
             more: false,
@@ -147,13 +147,13 @@ fn read_part(
     );
     let next = t.run;
     if !t.more {
-        return Turn {
+        return Stage {
             run: next,
             count: 0,
             more: false,
         };
     }
-    Turn {
+    Stage {
         run: next,
         count: keep(input, t.count, end),
         more: true,

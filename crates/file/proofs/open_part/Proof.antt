@@ -1,6 +1,7 @@
 -- Openings tells how a part starts. `x` is what is known when the run is found to go on, and `u` when the header has been read.
 use mathlib.Core.Path.{_≡_, refl, sym, ap, _∙_}
 use Rattle.moves.specs.Moves.{refusalNumber}
+use Rattle.moves.proofs.MoveLaws.{refuses-yes, refuses-no}
 use Rattle.arrays.specs.Arrays.{Arrays, arrays}
 use Rattle.schedule.specs.Lines.{headerRead}
 use Rattle.schedule.proofs.SessionLaws.{header-stations}
@@ -16,13 +17,13 @@ table s = arrays (s .args .run .count) (s .args .labels .now) (s .args .jobs .no
 returns : tie.Need-returns
 returns c =
     let s = c .before .before .before in
-    (refl, s .pre, ended-none (s .args .run) (table s) (s .args .last) (s .args .part .now) (λ z. c .if1 .taken (c .before .number .ensures ∙ z)))
+    (refl, s .pre, ended-none (s .args .run) (table s) (s .args .last) (s .args .part .now) (refuses-yes (s .args .run .refusal) (c .before .refuses .ensures) (c .if1 .taken)))
 
 abbrev start : tie.After-struct-known → tie.Start
 start x = x .before .before .before .before
 
 going : (x : tie.After-struct-known) → refusalNumber (start x .args .run .refusal) ≡ 0
-going x = sym (x .before .before .number .ensures) ∙ x .before .if1 .left
+going x = refuses-no (start x .args .run .refusal) (x .before .before .refuses .ensures) (x .before .if1 .left)
 
 returns-2 : tie.Need-returns-2
 returns-2 c =

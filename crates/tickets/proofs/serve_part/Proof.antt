@@ -4,11 +4,12 @@ use mathlib.Core.Bool.{true≢false}
 use Prim.Native.Nat.{_+_, _-_, _*_, _≤_}
 use native.Mathlib.Omega.{arith}
 use borrow.Author.Needs.{needs}
-use borrow.Author.Tests.{eqb-true, not-true, not-false}
+use borrow.Author.Tests.{not-true, not-false}
 use lib.ListN.{length, take, drop, length-take, length-drop}
 use lib.Seq.{length-take-le}
 use Rattle.basics.proofs.Facts.{and-both}
 use Rattle.arrays.specs.Arrays.{arrays}
+use Rattle.moves.proofs.MoveLaws.{refuses-no}
 use Rattle.file.specs.Feeds.{Standing}
 use Rattle.file.proofs.FeedLaws.{feeds-within, feeds-inside, feeds-on, feeds-left}
 use Rattle.tickets.proofs.serve_part.Statement.{statement}
@@ -63,7 +64,7 @@ returns-2 c =
       f .1,
       λ e.
           let b = and-both _ _ e in
-          let z = sym (c .number .ensures) ∙ eqb-true _ 0 (b .0) in
+          let z = refuses-no (y .feed .result .run .refusal) (c .refuses .ensures) (not-true _ (b .0)) in
           let l = not-true _ (b .1) in
           let left = feeds-left (f .0) (not-true _ (c .before .before .if2 .taken)) l z in
           (l, within y, omega (arith, left .0, chunk y), omega (arith, left, y .before .before .before .before .before .before .before .before .loop .inv .3), f .1 .few z),
