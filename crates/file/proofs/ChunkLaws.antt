@@ -4,11 +4,11 @@ use mathlib.Core.Logic.{_⊎_, inl, inr, ⊎-elim, by-cases}
 use mathlib.Core.Bool.{true}
 use mathlib.Core.List as Lists
 use mathlib.Core.List.{[], _∷_, _++_}
-use Prim.Native.Nat.{ℕ, _+_, _-_, _*_, _/_, _≤_, _<_, min}
+use Prim.Native.Nat.{ℕ, _+_, _-_, _*_, _≤_, _<_, min}
 use native.Mathlib.Decide.{decLt}
 use native.Mathlib.Omega.{arith}
-use lib.ListN.{length, take, drop, length-append, length-take, length-drop, drop-of-length-le}
-use lib.Seq.{take-at, length-take-le}
+use lib.ListN.{length, take, drop, length-append, length-take, length-drop}
+use lib.Seq.{length-take-le}
 use borrow.Rule.Slice.PartMut.{midOf, putMid}
 use Rattle.simulation.specs.Calls.{Buffer, Call}
 use Rattle.transition.specs.Forms.{over, stepOf}
@@ -21,14 +21,13 @@ use Rattle.arrays.specs.WellFormed.{wellFormed}
 use Rattle.arrays.specs.Form.{lent}
 use Rattle.schedule.specs.Lines.{nextLine}
 use Rattle.schedule.specs.Sessions.{Session, session, Served}
-use Rattle.schedule.specs.Files.{cut, pieces, printed, behind, runLines}
+use Rattle.schedule.specs.Files.{cut, printed, behind, runLines}
 use Rattle.schedule.proofs.SessionLaws.{next-refused}
 use Rattle.schedule.proofs.Runs.{shownOf, run-refused, run-step, put-over, length-over, over-short, printed-refusal}
 use Rattle.schedule.proofs.Cuts.{run-append, cut-add}
 use Rattle.schedule.proofs.Places.{lineAt, StepAt, RefusedAt}
-use Rattle.schedule.specs.declared.Line.the-variants.{Step, Refused}
+use Rattle.schedule.specs.declared.Line.the-variants.{Step}
 use Rattle.file.specs.Contracts.{Prints, readLines, Reports}
-use Rattle.file.specs.declared.Progress.{Progress}
 
 -- a line that leaves the buffer as long as it was printed no more than that
 pub prints-short : {a a′ : Arrays} {c : Call} {n : ℕ} {buffer buffer′ : Lists.List ℕ} → Prints a c buffer a′ n buffer′ → length buffer′ ≡ length buffer

@@ -1,38 +1,30 @@
 -- A file that is served part by part: what a part leaves goes on as the file does, and all parts together come to its report.
-use Prim.Native.Nat.{ℕ, zero, suc, _+_, _-_, _*_, _/_, _≤_, _<_, min}
+use Prim.Native.Nat.{ℕ, zero, suc, _+_, _*_, _/_, _≤_, _<_}
 use native.Mathlib.Decide.{decLt, ℕ-discrete}
-use native.Mathlib.Nat.{zero-add}
 use native.Mathlib.Omega.{arith}
 use mathlib.Core.Path.{_≡_, refl, sym, ap, subst, _∙_}
 use mathlib.Core.Logic.{_≢_, _⊎_, inl, inr, ⊎-elim, by-cases}
-use mathlib.Core.Bool.{Bool, true, false, not, _&&_, cond, true≢false, and-true}
+use mathlib.Core.Bool.{Bool, true, false, not, _&&_, cond}
 use mathlib.Core.List as Lists
 use mathlib.Core.List.{[], _∷_, _++_, append-assoc, append-nil}
-use lib.ListN.{length, take, drop, length-append, length-take, length-drop, take-append-drop, drop-of-length-le}
-use lib.Seq.{take-at, take-all, take-take, take-add, take-append-le, drop-append-le, drop-drop, length-take-le}
+use lib.ListN.{length, take, drop, length-append, length-drop, drop-of-length-le}
+use lib.Seq.{take-at, take-append-le, drop-append-le}
 use lib.Dec.{eqb, ltb}
-use borrow.Author.Tests.{eq-eqb, ne-eqb, lt-ltb, le-ltb, eqb-true, ltb-true, ltb-false, not-true}
+use borrow.Author.Tests.{eq-eqb, ne-eqb, lt-ltb, eqb-true, ltb-true, ltb-false}
 use Rattle.basics.proofs.Facts.{and-both}
 use Rattle.transition.specs.Forms.{over, freshTable}
 use Rattle.moves.specs.Moves.{refusalNumber}
-use Rattle.moves.proofs.MoveLaws.{accepted}
-use Rattle.moves.specs.declared.Refusal.{Refusal}
 use Rattle.moves.specs.declared.Refusal.the-variants.{Accepted}
 use Rattle.arrays.specs.Arrays.{Arrays}
 use Rattle.arrays.specs.Form.{lent}
-use Rattle.schedule.specs.Lines.{headerRead}
-use Rattle.schedule.specs.Sessions.{Session, session, Served, standing, openedBy, headerOf}
-use Rattle.schedule.specs.Files.{cut, pieces, printed, headerPrinted, behind, runLines, fileRun, fileReport, fileRefusal}
-use Rattle.schedule.proofs.SessionLaws.{header-refused, header-stations, header-length}
-use Rattle.schedule.proofs.Runs.{final-run, printed-refusal}
+use Rattle.schedule.specs.Sessions.{Session, session, Served, standing, headerOf}
+use Rattle.schedule.specs.Files.{cut, pieces, headerPrinted, behind, runLines, fileRun, fileReport, fileRefusal}
+use Rattle.schedule.proofs.Runs.{final-run}
 use Rattle.schedule.proofs.Cuts.{run-append, cut-add}
 use Rattle.schedule.specs.declared.Header.the-variants as Headers
-use Rattle.schedule.specs.declared.Header.the-variants.{Stations}
-use Rattle.file.specs.Contracts.{Runnable, readLines, Reports}
-use Rattle.file.specs.Feeds.{runSession, awaits, runFrom, readyIn, ready, ahead, Standing, Feeds, fedOf, Feeding, FedBy, Ends, output}
+use Rattle.file.specs.Feeds.{runSession, awaits, runFrom, readyIn, ready, ahead, Feeds, Feeding, FedBy, Ends, output}
 use Rattle.file.specs.declared.Run.{Run}
 use Rattle.file.specs.declared.Fed.{Fed}
-use Rattle.file.specs.declared.Progress.{Progress}
 
 -- LINES THAT ARE STILL TO COME
 
@@ -179,7 +171,9 @@ module _ {run : Run} {a : Arrays} {last : Bool} {part : Lists.List ℕ} {r : Fed
           let k = f .served in
           let e : r .read ≡ 18 * k = omega (arith, f .read) in
           let left : drop (18 * k) (part ++ more) ≡ rest = drop-append-le (18 * k) part more l ∙ ap (λ i. drop i part ++ more) (sym e) in
-          let long : length (part ++ more) ≡ 18 * k + length rest = omega (arith, length-append part more, length-append (drop (r .read) part) more, length-drop (r .read) part) in
+          let whole = length-append part more in
+          let front = length-append (drop (r .read) part) more in
+          let long : length (part ++ more) ≡ 18 * k + length rest = omega (arith, whole, front, length-drop (r .read) part) in
           ap (λ i. cut i (part ++ more)) (count long (awaits s) refl) ∙ cut-add k (ready s′ true rest) (part ++ more)
           ∙ (λ i. cut-front k part more l i ++ cut (ready s′ true rest) (left i))
         where
@@ -234,7 +228,8 @@ module _ {run : Run} {a : Arrays} {last : Bool} {part : Lists.List ℕ} {r : Fed
           long false h = omega (arith, f .read, h)
 
   -- no more lines can be served
-  feeds-most : (k : ℕ) → k ≤ ready s last part → ((j : ℕ) → j < k → let o = runFrom s (cut j part) in (o .refusal ≡ 0) × (length (o .bytes) + 928 ≤ length buffer))
+  feeds-most : (k : ℕ) → k ≤ ready s last part
+      → ((j : ℕ) → j < k → let o = runFrom s (cut j part) in (o .refusal ≡ 0) × (length (o .bytes) + 928 ≤ length buffer))
       → k ≤ f .served
   feeds-most k b g = by-cases (decLt (f .served) k)
       (λ l. absurd (go l (subst (λ (o : Served Arrays). (o .refusal ≡ 0) × (length (o .bytes) + 928 ≤ length buffer)) (f .runs) (g _ l))))

@@ -21,8 +21,8 @@ use Rattle.moves.specs.declared.Refusal.the-variants.{Accepted}
 use Rattle.arrays.specs.Arrays.{Arrays}
 use Rattle.arrays.specs.Form.{lent}
 use Rattle.schedule.specs.Lines.{headerRead}
-use Rattle.schedule.specs.Sessions.{Session, session, Served, headerOf}
-use Rattle.schedule.specs.Files.{cut, pieces, printed, headerPrinted, behind, runLines}
+use Rattle.schedule.specs.Sessions.{Session, session, Served}
+use Rattle.schedule.specs.Files.{cut, printed, behind, runLines}
 use Rattle.schedule.proofs.SessionLaws.{header-refused, header-length}
 use Rattle.schedule.proofs.Runs.{printed-refusal}
 use Rattle.schedule.specs.declared.Header.the-variants as Headers
