@@ -1,5 +1,5 @@
 -- A file that is served part by part: what a part leaves goes on as the file does, and all parts together come to its report.
-use Prim.Native.Nat.{ℕ, zero, suc, _+_, _-_, _*_, _/_, _≤_, _<_}
+use Prim.Native.Nat.{ℕ, zero, suc, _+_, _*_, _/_, _≤_, _<_}
 use native.Mathlib.Decide.{decLt, ℕ-discrete}
 use native.Mathlib.Omega.{arith}
 use mathlib.Core.Path.{_≡_, refl, sym, ap, subst, _∙_}
@@ -170,7 +170,9 @@ module _ {run : Run} {a : Arrays} {last : Bool} {part : Lists.List ℕ} {r : Fed
           let k = f .served in
           let e : r .read ≡ 18 * k = omega (arith, f .read) in
           let left : drop (18 * k) (part ++ more) ≡ rest = drop-append-le (18 * k) part more l ∙ ap (λ i. drop i part ++ more) (sym e) in
-          let long : length (part ++ more) ≡ 18 * k + length rest = omega (arith, length-append part more, length-append (drop (r .read) part) more, length-drop (r .read) part) in
+          let whole = length-append part more in
+          let front = length-append (drop (r .read) part) more in
+          let long : length (part ++ more) ≡ 18 * k + length rest = omega (arith, whole, front, length-drop (r .read) part) in
           ap (λ i. cut i (part ++ more)) (count long (awaits s) refl) ∙ cut-add k (ready s′ true rest) (part ++ more)
           ∙ (λ i. cut-front k part more l i ++ cut (ready s′ true rest) (left i))
         where
@@ -225,7 +227,8 @@ module _ {run : Run} {a : Arrays} {last : Bool} {part : Lists.List ℕ} {r : Fed
           long false h = omega (arith, f .read, h)
 
   -- no more lines can be served
-  feeds-most : (k : ℕ) → k ≤ ready s last part → ((j : ℕ) → j < k → let o = runFrom s (cut j part) in (o .refusal ≡ 0) × (length (o .bytes) + 928 ≤ length buffer))
+  feeds-most : (k : ℕ) → k ≤ ready s last part
+      → ((j : ℕ) → j < k → let o = runFrom s (cut j part) in (o .refusal ≡ 0) × (length (o .bytes) + 928 ≤ length buffer))
       → k ≤ f .served
   feeds-most k b g = by-cases (decLt (f .served) k)
       (λ l. absurd (go l (subst (λ (o : Served Arrays). (o .refusal ≡ 0) × (length (o .bytes) + 928 ≤ length buffer)) (f .runs) (g _ l))))

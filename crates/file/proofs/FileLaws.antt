@@ -88,7 +88,8 @@ gathered-start file out {run} {a} e q = record {
 }
 
 module _ {file out₀ : Lists.List ℕ} {run : Run} {a : Arrays} {long at : ℕ} {out : Lists.List ℕ} (f : Gathered file out₀ run a long at out)
-    {part : Lists.List ℕ} (p : part ≡ drop at file) {r : Fed} {a′ : Arrays} {buffer buffer′ : Lists.List ℕ} (fed : Feeds run a true part r a′ buffer buffer′) where
+    {part : Lists.List ℕ} (p : part ≡ drop at file) {r : Fed} {a′ : Arrays} {buffer buffer′ : Lists.List ℕ}
+    (fed : Feeds run a true part r a′ buffer buffer′) where
   g : Feeds run a true (drop at file) r a′ buffer buffer′
   g = rw p at fed
 

@@ -1,6 +1,7 @@
 // Schedule files on the engine: the lines of a part of a file, and a whole file with its report.
 ghost use mathlib.Core.Path.{_≡_};
 ghost use mathlib.Core.Logic.{_≢_};
+ghost use mathlib.Core.Bool.{cond};
 ghost use mathlib.Core.List.{[], _++_};
 ghost use Prim.Native.Nat.{_+_, _*_, _/_, _≤_, _<_};
 ghost use lib.ListN.{length, take};
@@ -15,9 +16,8 @@ ghost use Rattle.arrays.specs.Form.{lent};
 ghost use Rattle.engine.specs.Scans.{orderOf};
 ghost use Rattle.schedule.specs.Sessions.{session};
 ghost use Rattle.schedule.specs.Files.{printed};
-ghost use mathlib.Core.Bool.{cond};
-ghost use Rattle.file.specs.Feeds.{Standing, Feeds, fedOf, Opens};
 ghost use Rattle.file.specs.Contracts.{Runnable, Turns, Prints, Reports, RunsFile, ReportsFile};
+ghost use Rattle.file.specs.Feeds.{Standing, Feeds, fedOf, Opens};
 use arrays::Control;
 use arrays::Jobs;
 use arrays::Labels;

@@ -44,7 +44,8 @@ opened : (z : tie.After-stations) → let o = opening z in let v = z .before .be
 opened z =
     let o = opening z in
     let v = z .before .before .lines .given .0 in
-    subst (λ n. Opened (start o .args .run) (table o) (start o .args .part .now) (v .0) (v .1 .1 .0) (left o n) × Runnable (left o n) (o .open-part .last .1 .1 .0))
+    let s = start o .args in
+    subst (λ n. Opened (s .run) (table o) (s .part .now) (v .0) (v .1 .1 .0) (left o n) × Runnable (left o n) (o .open-part .last .1 .1 .0))
     (sym (z .stations .ensures)) (starts o (z .before .before .lines .given .1))
 
 within : (z : tie.After-stations) → let o = opening z in let end = ending o .end-of .result in
@@ -66,8 +67,9 @@ report-lines-requires c κs = opened (c .before .before .before .before .before 
 fed-by-requires : tie.Need-fed-by-requires
 fed-by-requires c κs =
     let y = c .before .before in
-    let o = opening (y .before .before .before .before .before .before .before .before) in
-    read-within (opened (y .before .before .before .before .before .before .before .before) .0) (start o .args .last) (ending o .end-of .ensures) refl (y .report-lines .ensures .0)
+    let z = y .before .before .before .before .before .before .before .before in
+    let o = opening z in
+    read-within (opened z .0) (start o .args .last) (ending o .end-of .ensures) refl (y .report-lines .ensures .0)
 
 returns : tie.Need-returns
 returns c =

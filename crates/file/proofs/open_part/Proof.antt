@@ -61,7 +61,9 @@ returns-5 c =
     let x = u .before .before .before .before in
     let s = start x in
     let fresh = c .refresh .ensures in
-    (opened-header (s .args .run) _ (s .args .last) (s .args .part .now) (going x) (u .before .before .before .if2 .left) (u .before .line-at .ensures) (said w) (fresh .0), fresh .1)
+    let first = u .before .before .before .if2 .left in
+    let part = s .args .part .now in
+    (opened-header (s .args .run) _ (s .args .last) part (going x) first (u .before .line-at .ensures) (said w) (fresh .0), fresh .1)
 
 pub open-part-spec : {M : Type 1} → statement M
 open-part-spec = tie.close (tie.spec (λ c κs. search needs) returns returns-2 returns-3 (λ c κs. search needs) (λ c κs. search needs) (λ c. search needs)

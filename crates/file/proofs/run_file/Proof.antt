@@ -37,47 +37,57 @@ array-share-prefix-scratch c = feeds-inside (c .before .feed .ensures .0)
 slice-aggregate-put : tie.Need-slice-aggregate-put Inv-loop μ-loop
 slice-aggregate-put c = sym (length-take-le _ _ (feeds-inside (c .before .before .feed .ensures .0)))
 
+-- where the loop and the function stood
+abbrev turn : tie.After-feed Inv-loop μ-loop → tie.At-loop Inv-loop μ-loop
+turn y = y .before .before .before .before .before .before .before .before
+
+abbrev start : tie.At-loop Inv-loop μ-loop → tie.Start Inv-loop μ-loop
+start t = t .before .before .before .before .before .before .before .before .before
+
 -- the buffer keeps its length
 kept : (y : tie.After-feed Inv-loop μ-loop) → length (y .feed .last .1 .1 .1 .1 .1 .1 .1 .1 .0) ≡ 4096
-kept y = y .feed .kept .1 .1 .1 .1 .1 .1 .1 .1 .0 ∙ y .before .before .before .before .before .before .before .before .loop .inv .2
+kept y = y .feed .kept .1 .1 .1 .1 .1 .1 .1 .1 .0 ∙ turn y .loop .inv .2
 
 put-requires : tie.Need-put-requires Inv-loop μ-loop
 put-requires c κs =
     let y = c .before .before .before in
-    let t = y .before .before .before .before .before .before .before .before in
+    let t = turn y in
     part-few (t .loop .inv .0) (y .before .before .from .ensures) (y .feed .ensures .0) (t .loop .inv .1 .few (t .loop .inv .0 .going)) (kept y)
 
 same-length : tie.Need-same-length Inv-loop μ-loop
-same-length c = c .before .before .before .before .before .put .kept .1 .0 ∙ c .before .before .before .before .before .before .before .before .before .before .before .before .before .before .before .before .before .loop .inv .0 .same
+same-length c =
+    let y = c .before .before .before .before .before .before .before .before .before in
+    c .before .before .before .before .before .put .kept .1 .0 ∙ turn y .loop .inv .0 .same
 
 returns : tie.Need-returns Inv-loop μ-loop
 returns c =
     let y = c .before .before .before .before .before .before .before .before .before in
-    let t = y .before .before .before .before .before .before .before .before in
+    let t = turn y in
     let put = c .before .before .before .before .before .put in
     gathered-end (t .loop .inv .0) (y .before .before .from .ensures) (y .feed .ensures .0) (put .ensures) (put .kept .1 .0) (not-true _ (c .if1 .taken))
 
 add-at : tie.Need-add-at Inv-loop μ-loop
 add-at c =
     let y = c .before .before .before .before .before .before .before .before .before .before in
-    let t = y .before .before .before .before .before .before .before .before in
-    omega (arith, part-within (t .loop .inv .0) (y .before .before .from .ensures) (y .feed .ensures .0), t .before .before .before .before .before .before .before .before .before .good .0 .0)
+    let t = turn y in
+    omega (arith, part-within (t .loop .inv .0) (y .before .before .from .ensures) (y .feed .ensures .0), start t .good .0 .0)
 
 loop-less : tie.Need-loop-less Inv-loop μ-loop
 loop-less c =
     let y = c .before .before .before .before .before .before .before .before .before .before in
-    let t = y .before .before .before .before .before .before .before .before in
+    let t = turn y in
     let put = c .before .before .before .before .before .before .put in
-    part-less (t .loop .inv .0) (y .before .before .from .ensures) (y .feed .ensures .0) (put .ensures) (put .kept .1 .0) (not-false _ (c .before .if1 .left))
+    let more = not-false _ (c .before .if1 .left) in
+    part-less (t .loop .inv .0) (y .before .before .from .ensures) (y .feed .ensures .0) (put .ensures) (put .kept .1 .0) more
     (t .loop .inv .2)
 
 loop-again : tie.Need-loop-again Inv-loop μ-loop
 loop-again c =
     let y = c .before .before .before .before .before .before .before .before .before .before in
-    let t = y .before .before .before .before .before .before .before .before in
+    let t = turn y in
     let put = c .before .before .before .before .before .before .put in (
-      gathered-more (t .loop .inv .0) (y .before .before .from .ensures) (y .feed .ensures .0) (put .ensures) (put .kept .1 .0) (not-false _ (c .before .if1 .left))
-          (t .loop .inv .2),
+      gathered-more (t .loop .inv .0) (y .before .before .from .ensures) (y .feed .ensures .0) (put .ensures) (put .kept .1 .0)
+          (not-false _ (c .before .if1 .left)) (t .loop .inv .2),
       y .feed .ensures .1,
       kept y,
     )

@@ -31,7 +31,8 @@ read-part-requires c κs =
 loop-less : tie.Need-loop-less Inv-loop μ-loop
 loop-less c =
     let test = c .before .before .before .before .before .before .before .before .before .before .before in
-    fewer-left _ _ _ _ (test .loop-test .taken) (test .before .loop .inv .1 (test .loop-test .taken) .1) (λ e. let on = c .before .before .before .read-part .ensures .1 e in (on .1, on .2))
+    let on = test .before .loop .inv .1 (test .loop-test .taken) in
+    fewer-left _ _ _ _ (test .loop-test .taken) (on .1) (λ e. let next = c .before .before .before .read-part .ensures .1 e in (next .1, next .2))
 
 loop-again : tie.Need-loop-again Inv-loop μ-loop
 loop-again c = let r = c .before .before .before .read-part in (r .ensures .0, (λ e. let on = r .ensures .1 e in (on .0, on .2)), search needs, search needs)

@@ -35,15 +35,22 @@ slice-reshare-prefix-write-report c = feeds-inside (c .before .before .before .f
 slice-aggregate-write-report : tie.Need-slice-aggregate-write-report Inv-loop μ-loop
 slice-aggregate-write-report c = sym (length-take-le _ _ (feeds-inside (c .before .before .before .before .feed .ensures .0)))
 
+-- where the loop and the function stood
+abbrev turn : tie.After-feed Inv-loop μ-loop → tie.At-loop Inv-loop μ-loop
+turn y = y .before .before .before .before .before .before .before .before
+
+abbrev start : tie.After-feed Inv-loop μ-loop → tie.Start Inv-loop μ-loop
+start y = turn y .before .before .before
+
 -- the output buffer keeps its length, and the bytes read are of the part
-kept : (y : tie.After-feed Inv-loop μ-loop) → length (y .feed .last .1 .1 .1 .1 .1 .1 .1 .1 .0) ≡ length (y .before .before .before .before .before .before .before .before .before .before .before .args .out .now)
-kept y = y .feed .kept .1 .1 .1 .1 .1 .1 .1 .1 .0 ∙ y .before .before .before .before .before .before .before .before .loop .inv .1
+kept : (y : tie.After-feed Inv-loop μ-loop) → length (y .feed .last .1 .1 .1 .1 .1 .1 .1 .1 .0) ≡ length (start y .args .out .now)
+kept y = y .feed .kept .1 .1 .1 .1 .1 .1 .1 .1 .0 ∙ turn y .loop .inv .1
 
-chunk : (y : tie.After-feed Inv-loop μ-loop) → let part = y .before .before .before .before .before .before .before .before .before .before .before .args .part .now in let at = y .before .before .before .before .before .before .before .before .loop .at in
+chunk : (y : tie.After-feed Inv-loop μ-loop) → let part = start y .args .part .now in let at = turn y .loop .at in
     length (take (length part - at) (drop at part)) + at ≡ length part
-chunk y = simp (length-take, length-drop) (omega (arith, y .before .before .before .before .before .before .before .before .loop .inv .2))
+chunk y = simp (length-take, length-drop) (omega (arith, turn y .loop .inv .2))
 
-within : (y : tie.After-feed Inv-loop μ-loop) → y .before .before .before .before .before .before .before .before .loop .at + y .feed .result .read ≤ length (y .before .before .before .before .before .before .before .before .before .before .before .args .part .now)
+within : (y : tie.After-feed Inv-loop μ-loop) → turn y .loop .at + y .feed .result .read ≤ length (start y .args .part .now)
 within y =
     let long = chunk y in
     omega (arith, feeds-within (y .feed .ensures .0), long)
@@ -53,6 +60,11 @@ same-length c = kept (c .before .before .before .before .before .before)
 
 returns : tie.Need-returns Inv-loop μ-loop
 returns c = (c .before .before .before .before .before .before .feed .ensures .1, λ e. absurd (true≢false (sym e)))
+
+add-t31 : tie.Need-add-t31 Inv-loop μ-loop
+add-t31 c =
+    let y = c .before .before .before .before .before .before .before .before .before in
+    omega (arith, within y, start y .good .1 .1 .1 .1 .1 .1 .1 .0 .0)
 
 same-length-2 : tie.Need-same-length-2 Inv-loop μ-loop
 same-length-2 c = kept (c .before .before .before .before .before .before .before .before .before .before)
@@ -67,25 +79,27 @@ returns-2 c =
           let z = refuses-no (y .feed .result .run .refusal) (c .refuses .ensures) (not-true _ (b .0)) in
           let l = not-true _ (b .1) in
           let left = feeds-left (f .0) (not-true _ (c .before .before .if2 .taken)) l z in
-          (l, within y, omega (arith, left .0, chunk y), omega (arith, left, y .before .before .before .before .before .before .before .before .loop .inv .3), f .1 .few z),
+          (l, within y, omega (arith, left .0, chunk y), omega (arith, left, turn y .loop .inv .3), f .1 .few z),
     )
 
 add-at : tie.Need-add-at Inv-loop μ-loop
-add-at c = let y = c .before .before .before .before .before .before .before .before .before in omega (arith, within y, y .before .before .before .before .before .before .before .before .before .before .before .good .1 .1 .1 .1 .1 .1 .1 .0 .0)
+add-at c =
+    let y = c .before .before .before .before .before .before .before .before .before in
+    omega (arith, within y, start y .good .1 .1 .1 .1 .1 .1 .1 .0 .0)
 
 loop-less : tie.Need-loop-less Inv-loop μ-loop
 loop-less c =
     let y = c .before .before .before .before .before .before .before .before .before in
-    omega (arith, within y, feeds-on (y .feed .ensures .0) (not-false _ (c .before .if2 .left)) (y .before .before .before .before .before .before .before .before .loop .inv .4))
+    omega (arith, within y, feeds-on (y .feed .ensures .0) (not-false _ (c .before .if2 .left)) (turn y .loop .inv .4))
 
 loop-again : tie.Need-loop-again Inv-loop μ-loop
 loop-again c =
     let y = c .before .before .before .before .before .before .before .before .before in
-    let on = feeds-on (y .feed .ensures .0) (not-false _ (c .before .if2 .left)) (y .before .before .before .before .before .before .before .before .loop .inv .4) in
-    (y .feed .ensures .1, kept y, within y, omega (arith, on, y .before .before .before .before .before .before .before .before .loop .inv .3), omega (arith, kept y, y .before .before .before .before .before .before .before .before .before .before .before .pre .1))
+    let on = feeds-on (y .feed .ensures .0) (not-false _ (c .before .if2 .left)) (turn y .loop .inv .4) in
+    (y .feed .ensures .1, kept y, within y, omega (arith, on, turn y .loop .inv .3), omega (arith, kept y, start y .pre .1))
 
 pub serve-part-spec : {M : Type 1} → statement M
 serve-part-spec = tie.close (tie.spec Inv-loop μ-loop loop-holds (λ c. omega arith) (λ c. omega arith) (λ c. omega arith) feed-requires
     slice-reshare-prefix-write-report slice-aggregate-write-report (λ c κs. search needs) same-length returns
-    (λ c. let y = c .before .before .before .before .before .before .before .before .before in omega (arith, within y, y .before .before .before .before .before .before .before .before .before .before .before .good .1 .1 .1 .1 .1 .1 .1 .0 .0)) (λ c κs. search needs) same-length-2 returns-2 add-at
+    add-t31 (λ c κs. search needs) same-length-2 returns-2 add-at
     loop-less loop-again)
