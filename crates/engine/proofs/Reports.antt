@@ -3,15 +3,15 @@ use Prim.Native.Nat.{ℕ, zero, suc, _+_, _-_, _*_, _≤_, _<_}
 use native.Mathlib.Nat.{zero-add}
 use native.Mathlib.Numerals.{add-one}
 use native.Mathlib.Omega.{arith}
-use mathlib.Core.Path.{_≡_, refl, sym, ap, ap₂, _∙_}
+use mathlib.Core.Path.{_≡_, sym, ap, ap₂, _∙_}
 use mathlib.Core.List as Lists
 use mathlib.Core.List.{[], _∷_, _++_, map, map-map, map-id, map-append, append-assoc, append-nil}
-use lib.ListN.{length, set, take, drop, length-append, length-map}
-use lib.Seq.{take-at, drop-at, drop-drop}
+use lib.ListN.{length, set, take, drop, length-map}
+use lib.Seq.{take-at}
 use borrow.Rule.Slice.PartMut.{putMid}
 use Rattle.basics.specs.Tests.{tabulate}
 use Rattle.basics.proofs.Facts.{map-drop, length-tabulate, map-tabulate}
-use Rattle.basics.proofs.Filled.{front-more}
+use Rattle.basics.proofs.Filled.{front-more, put-behind}
 use Rattle.columns.specs.Columns.{lineHead, lineTail, reportLine}
 use Rattle.columns.proofs.ColumnLaws.{length-report-line}
 use Rattle.columns.proofs.Stores.{length-head}
@@ -45,13 +45,6 @@ lines-last line from (suc k) h f =
     ap (λ (l : Lists.List ℕ). first ++ l)
     (lines-last line (suc from) k (suc h) f ∙ ap₂ (λ (p q : ℕ). middle ++ lineAt line p (f q)) a b)
     ∙ sym (append-assoc first middle (lineAt line (from + suc k) (f (h + suc k))))
-
--- a buffer after x was put behind the bytes at its front
-put-behind : (bytes x buffer : Lists.List ℕ) → putMid (length bytes) (length x) (over bytes buffer) x ≡ over (bytes ++ x) buffer
-put-behind bytes x buffer =
-    let rest = drop (length bytes) buffer in
-    rw (take-at bytes rest (length bytes) refl, drop-at bytes rest (length bytes) refl, drop-drop (length x) (length bytes) buffer, length-append bytes x)
-    (sym (append-assoc bytes x (drop (length bytes + length x) buffer)))
 
 -- the line of entry k, made with the head that all of them have, put behind the k lines before it
 pub one-line-more : (line : ℕ) (rows : Rows) (k : ℕ) (head out buffer x : Lists.List ℕ) → head ≡ lineHead line 0

@@ -6,7 +6,7 @@ use mathlib.Core.Path.{_≡_, refl, sym, ap, subst, _∙_}
 use mathlib.Core.Logic.{_≢_, _⊎_, inl, inr, ⊎-elim, by-cases}
 use mathlib.Core.Bool.{Bool, true, false, _&&_, cond}
 use mathlib.Core.List as Lists
-use mathlib.Core.List.{[], _∷_, _++_, append-assoc, append-nil}
+use mathlib.Core.List.{[], _∷_, _++_, append-nil}
 use lib.ListN.{length, take, drop, length-append, length-drop, drop-of-length-le}
 use lib.Seq.{take-at, take-append-le, drop-append-le}
 use lib.Dec.{eqb, ltb}
@@ -20,7 +20,7 @@ use Rattle.arrays.specs.Form.{lent}
 use Rattle.schedule.specs.Sessions.{Session, session, Served, standing, headerOf}
 use Rattle.schedule.specs.Files.{cut, pieces, headerPrinted, behind, runLines, fileRun, fileReport, fileRefusal}
 use Rattle.schedule.proofs.Runs.{final-run}
-use Rattle.schedule.proofs.Cuts.{run-append, cut-add}
+use Rattle.schedule.proofs.Cuts.{behind-twice, run-append, cut-add}
 use Rattle.file.specs.Feeds.{runSession, awaits, runFrom, readyIn, ready, ahead, Feeds, Feeding, FedBy, Ends, output}
 use Rattle.file.specs.declared.Run.{Run}
 use Rattle.file.specs.declared.Fed.{Fed}
@@ -46,9 +46,6 @@ run-opened s e (l ∷ ls) = rw e refl
 -- nothing follows a final refusal
 ahead-none : (s : Session Arrays) → refusalNumber (s .refusal) ≢ 0 → (rest : Lists.List ℕ) → ahead s rest ≡ standing s
 ahead-none s d rest = let ls = cut (ready s true rest) rest in run-opened s (refused-opened s d) ls ∙ final-run lent s ls d
-
-pub behind-twice : {T : Type 0} (a b : Lists.List ℕ) (o : Served T) → behind a (behind b o) ≡ behind (a ++ b) o
-behind-twice a b o = ap (λ x. record { session = o .session; refusal = o .refusal; bytes = x }) (sym (append-assoc a b (o .bytes)))
 
 -- lines in two groups
 run-from-append : (l : Lists.List ℕ) (ls ms : Lists.List (Lists.List ℕ)) (s : Session Arrays) → let o = runFrom s (l ∷ ls) in

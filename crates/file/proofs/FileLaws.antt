@@ -18,9 +18,10 @@ use Rattle.arrays.specs.Arrays.{Arrays}
 use Rattle.arrays.specs.Form.{lent}
 use Rattle.schedule.specs.Sessions.{Session, Served}
 use Rattle.schedule.specs.Files.{pieces, behind, fileRun, fileReport}
+use Rattle.schedule.proofs.Cuts.{behind-twice}
 use Rattle.file.specs.Contracts.{RunsFile, ReportsFile}
 use Rattle.file.specs.Feeds.{runSession, awaits, ready, ahead, Feeds}
-use Rattle.file.proofs.FeedLaws.{run-started, behind-twice, feeds-within, feeds-shown, feeds-more, feeds-on, feeds-rest, feeds-done}
+use Rattle.file.proofs.FeedLaws.{run-started, feeds-within, feeds-shown, feeds-more, feeds-on, feeds-rest, feeds-done}
 use Rattle.file.specs.declared.Run.{Run}
 use Rattle.file.specs.declared.Fed.{Fed}
 use Rattle.file.specs.declared.Ending.{Ending}

@@ -5,8 +5,9 @@ use native.Mathlib.Omega.{arith}
 use mathlib.Core.Path.{_≡_, refl, sym, ap, _∙_}
 use mathlib.Core.List.{List, [], _∷_, _++_, append-assoc, append-nil}
 use lib.ListN.{length, getD, take, drop, set, length-append, length-take, drop-of-length-le}
-use lib.Seq.{length-take-le, take-suc, drop-cons, drop-drop, take-at, drop-at, set-at}
+use lib.Seq.{length-take-le, take-suc, drop-cons, set-at}
 use borrow.Rule.Slice.PartMut.{midOf, putMid}
+use Rattle.basics.proofs.Filled.{put-behind}
 use Rattle.columns.specs.Columns.{column}
 use Rattle.columns.proofs.ColumnLaws.{length-column}
 use Rattle.number_lines.specs.Lines.{numberLine, numberLines}
@@ -35,13 +36,6 @@ pub numbers-append : (l m : List ℕ) → numberLines (l ++ m) ≡ numberLines l
 unfolding numberLines
 numbers-append [] m = refl
 numbers-append (v ∷ l) m = ap (λ t. numberLine v ++ t) (numbers-append l m) ∙ sym (append-assoc (numberLine v) (numberLines l) (numberLines m))
-
--- x goes behind the bytes at the front of a buffer
-put-behind : (bytes x out : List ℕ) → putMid (length bytes) (length x) (bytes ++ drop (length bytes) out) x ≡ (bytes ++ x) ++ drop (length (bytes ++ x)) out
-put-behind bytes x out =
-    let rest = drop (length bytes) out in
-    rw (take-at bytes rest (length bytes) refl, drop-at bytes rest (length bytes) refl, drop-drop (length x) (length bytes) out, length-append bytes x)
-    (sym (append-assoc bytes x (drop (length bytes + length x) out)))
 
 -- the line of the next number goes behind those of the first i
 pub numbers-more : (ns out₀ : List ℕ) (i k : ℕ) {out x : List ℕ} → i < length ns → k ≡ 12

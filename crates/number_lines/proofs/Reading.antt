@@ -1,15 +1,15 @@
 -- Numbers read back from lines of 12 bytes each.
 use Prim.Native.Nat.{ℕ, zero, suc, _+_, _-_, _*_, _≤_, _<_, _^_}
-use native.Mathlib.Numerals.{add-one}
 use native.Mathlib.Omega.{arith}
 use mathlib.Core.Path.{_≡_, refl, sym, ap, ap₂, subst, _∙_}
 use mathlib.Core.Logic.{_↔_}
 use mathlib.Core.Bool.{Bool, true, false, cond}
 use mathlib.Core.List.{List, [], _∷_, _++_, append-assoc, append-nil}
 use lib.ListN.{length, getD, take, drop, set, length-drop, take-append-drop, length-set, List·getD-eq-default}
-use lib.Seq.{length-take-le, take-all, take-at, drop-at, getD-at, getD-take, take-take, take-add, take-suc, take-suc-set, drop-set-lt, drop-drop}
+use lib.Seq.{length-take-le, take-all, take-at, drop-at, getD-at, getD-take, take-take, take-add, take-suc, drop-set-lt, drop-drop}
 use lib.Dec.{eqb, ltb}
 use borrow.Author.Tests.{eqb-true, eq-eqb, ne-eqb, ltb-true, ltb-false}
+use Rattle.basics.proofs.Filled.{taken-more}
 use Rattle.columns.specs.Columns.{column}
 use Rattle.columns.specs.Reading.{columnRead}
 use Rattle.columns.specs.declared.Column.{Column}
@@ -127,7 +127,7 @@ module _ {bs list₀ list : List ℕ} {count at : ℕ} (f : ReadSoFar bs list₀
   }
     where
       more : take (count + 1) (set list count v) ≡ take count list ++ (v ∷ [])
-      more = ap (λ k. take k (set list count v)) (add-one count) ∙ take-suc-set list count v (omega (arith, f .size))
+      more = taken-more list count v (omega (arith, f .size))
 
       fewer : length list₀ - count ≡ suc (length list₀ - (count + 1))
       fewer = omega arith

@@ -1,23 +1,23 @@
--- A file that is read in parts, each but the last of whole lines, comes to what it comes to in one piece.
+-- Lines, and bytes, in two groups come to what they come to in one piece.
 use Prim.Native.Nat.{ℕ, zero, suc, _+_, _-_, _*_, _≤_, _<_}
 use native.Mathlib.Nat.{zero-add}
 use native.Mathlib.Omega.{arith}
 use mathlib.Core.Path.{_≡_, refl, sym, ap, _∙_}
 use mathlib.Core.Bool.{Bool, true, false, cond, true≢false}
 use mathlib.Core.List as Lists
-use mathlib.Core.List.{[], _∷_, _++_, append-assoc, append-nil}
+use mathlib.Core.List.{[], _∷_, _++_, append-assoc}
 use lib.ListN.{length, take, drop, length-append, length-drop}
-use lib.Seq.{take-append-le, drop-append-le, drop-drop, take-at, drop-at, take-all}
+use lib.Seq.{take-append-le, drop-append-le, drop-drop}
 use borrow.Author.Tests.{eq-eqb}
 use Rattle.transition.specs.Forms.{Form}
 use Rattle.moves.specs.Moves.{refusalNumber}
-use Rattle.schedule.specs.Sessions.{Session, isFinal, Served, standing, headerOf, serveOf}
-use Rattle.schedule.specs.Files.{cut, pieces, printed, headerPrinted, behind, runLines, fileRun}
+use Rattle.schedule.specs.Sessions.{Session, isFinal, Served, standing, serveOf}
+use Rattle.schedule.specs.Files.{cut, pieces, printed, behind, runLines}
 use Rattle.schedule.proofs.Runs.{final-run, run-on}
 
 -- LINES IN TWO GROUPS: the second goes on with the session that the first leaves
 
-behind-twice : {T : Type 0} (a b : Lists.List ℕ) (o : Served T) → behind a (behind b o) ≡ behind (a ++ b) o
+pub behind-twice : {T : Type 0} (a b : Lists.List ℕ) (o : Served T) → behind a (behind b o) ≡ behind (a ++ b) o
 behind-twice a b o = ap (λ x. record { session = o .session; refusal = o .refusal; bytes = x }) (sym (append-assoc a b (o .bytes)))
 
 module _ (F : Form) where
@@ -81,41 +81,6 @@ abbrev pub Whole : Lists.List (Lists.List ℕ) → Type 0
 Whole [] = Unit {0}
 Whole (p ∷ []) = Unit {0}
 Whole (p ∷ (q ∷ ps)) = ((k : ℕ) × (length p ≡ 18 * k)) × Whole (q ∷ ps)
-
-module _ (F : Form) where
-  -- the run of the parts, each served by the session that the one before it left
-  abbrev pub runParts : Session (F .Table) → Lists.List (Lists.List ℕ) → Served (F .Table)
-  runParts s [] = standing s
-  runParts s (p ∷ ps) = let o = runLines F s (cut (pieces p) p) in behind (o .bytes) (runParts (o .session) ps)
-
-  parts-run : (ps : Lists.List (Lists.List ℕ)) (s : Session (F .Table)) → Whole ps → runLines F s (cut (pieces (joined ps)) (joined ps)) ≡ runParts s ps
-  unfolding runLines cut
-  parts-run [] s w = refl
-  parts-run (p ∷ []) s w =
-      let ls = cut (pieces p) p in
-      ap (λ b. runLines F s (cut (pieces b) b)) (append-nil p) ∙ ap (runLines F s) (sym (append-nil ls)) ∙ run-append F ls [] s
-  parts-run (p ∷ (q ∷ ps)) s w =
-      let b = joined (q ∷ ps) in
-      let o = runLines F s (cut (pieces p) p) in
-      ap (runLines F s) (lines-append (w .0 .0) p b (w .0 .1))
-      ∙ run-append F (cut (pieces p) p) (cut (pieces b) b) s
-      ∙ ap (behind (o .bytes)) (parts-run (q ∷ ps) (o .session) (w .1))
-
-  -- THE RUN OF A FILE in parts behind its first 18 bytes
-  pub parts-report : (h : Lists.List ℕ) (ps : Lists.List (Lists.List ℕ)) → length h ≡ 18 → Whole ps
-      → fileRun F (h ++ joined ps) ≡ behind (headerPrinted (headerOf F h)) (runParts (headerOf F h) ps)
-  unfolding fileRun
-  parts-report h ps e w =
-      rw (take-at h (joined ps) 18 e, drop-at h (joined ps) 18 e) (ap (behind (headerPrinted (headerOf F h))) (parts-run ps (headerOf F h) w))
-
-  -- and of one that ends within them
-  pub short-report : (h : Lists.List ℕ) → length h ≤ 18 → fileRun F h ≡ behind (headerPrinted (headerOf F h)) (standing (headerOf F h))
-  unfolding fileRun runLines cut
-  short-report h l = rw (take-all 18 h l, none (drop 18 h) (rw length-drop (omega arith))) refl
-    where
-      none : (b : Lists.List ℕ) → length b ≡ 0 → b ≡ []
-      none [] e = refl
-      none (x ∷ b) e = absurd (omega arith)
 
 -- READING ON: what is left of the lines that a file can have, as long as there is more to read
 abbrev pub linesLeft : Bool → ℕ → ℕ

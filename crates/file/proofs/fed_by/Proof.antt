@@ -1,15 +1,11 @@
-use mathlib.Core.Path.{_≡_, refl, ap, _∙_}
-use mathlib.Core.Bool.{Bool, true, false, not, _&&_}
+use mathlib.Core.Path.{ap, _∙_}
+use mathlib.Core.Bool.{not, _&&_, Bool·not-not}
 use Prim.Native.Nat.{_+_}
 use lib.Dec.{eqb, ltb}
 use Rattle.moves.specs.Moves.{refusalNumber}
 use borrow.Author.Needs.{needs}
 use Rattle.file.proofs.fed_by.Statement.{statement}
 use Rattle.file.proofs.fed_by.Tie as tie
-
-twice : (b : Bool) → not (not b) ≡ b
-twice true = refl
-twice false = refl
 
 returns : tie.Need-returns
 returns c =
@@ -19,7 +15,7 @@ returns c =
       read = s .at + s .r .read;
       written = s .r .written;
       more = q && ltb (s .at + s .r .read) (s .end);
-    }) (ap not (c .before .refuses .ensures) ∙ twice (eqb (refusalNumber (s .r .refusal)) 0))
+    }) (ap not (c .before .refuses .ensures) ∙ Bool·not-not (eqb (refusalNumber (s .r .refusal)) 0))
 
 pub fed-by-spec : {M : Type 1} → statement M
 fed-by-spec = tie.close (tie.spec (λ c. search needs) (λ c κs. search needs) (λ c. search needs) returns)
