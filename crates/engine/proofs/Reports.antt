@@ -7,7 +7,7 @@ use mathlib.Core.Path.{_≡_, sym, ap, ap₂, _∙_}
 use mathlib.Core.List as Lists
 use mathlib.Core.List.{[], _∷_, _++_, map, map-map, map-id, map-append, append-assoc, append-nil}
 use lib.ListN.{length, set, take, drop, length-map}
-use lib.Seq.{take-at, drop-drop}
+use lib.Seq.{take-at, drop-at, drop-drop}
 use borrow.Rule.Slice.PartMut.{putMid}
 use Rattle.basics.specs.Tests.{tabulate}
 use Rattle.basics.proofs.Facts.{map-drop, length-tabulate, map-tabulate}
