@@ -3,7 +3,7 @@ use Prim.Native.Nat.{ℕ, suc, _+_, _-_, _*_, _≤_, _<_}
 use native.Mathlib.Numerals.{add-one}
 use native.Mathlib.Omega.{arith}
 use native.Mathlib.Decide.{ℕ-discrete}
-use mathlib.Core.Path.{_≡_, refl, sym, ap, ap₂, _∙_}
+use mathlib.Core.Path.{_≡_, refl, sym, ap, ap₂, subst, _∙_}
 use mathlib.Core.Logic.{by-cases}
 use mathlib.Core.Bool.{Bool, true, false, _&&_, and-assoc, and-true, and-false}
 use mathlib.Core.List as Lists
@@ -317,9 +317,9 @@ used-up l k h = by-cases (ℕ-discrete k (length l))
     (λ e. eq-eqb k (length l) e ∙ sym (eq-eqb (length (drop k l)) 0 (omega (arith, length-drop k l))))
     (λ d. ne-eqb k (length l) d ∙ sym (ne-eqb (length (drop k l)) 0 (λ e. d (omega (arith, length-drop k l)))))
 
-pub finished : (c : Progress) → Finishes c ((c .right && eqb (c .used) (c .count)) && eqb (c .shown) (c .written))
+pub finished : (c : Progress) {a b : Bool} → a ≡ eqb (c .used) (c .count) → b ≡ eqb (c .shown) (c .written) → Finishes c ((c .right && a) && b)
 unfolding right atFront
-finished c = record { told = told }
+finished c p q = subst (Finishes c) (sym (λ i. (c .right && p i) && q i)) (record { told = told })
   where
     told : (t : Table) (order file list buffer : Lists.List ℕ) → Checking c t order file list buffer → Drained c file
         → ((c .right && eqb (c .used) (c .count)) && eqb (c .shown) (c .written)) ≡ aheadLog c t file list buffer []

@@ -31,7 +31,7 @@ use Rattle.schedule.specs.declared.Header.{Header}
 use Rattle.schedule.specs.declared.Header.the-variants as Headers
 use Rattle.schedule.specs.declared.Header.the-variants.{Stations}
 use Rattle.arrays.specs.Arrays.{Rows, Planes}
-use Rattle.unbounded.specs.Tables.{Table, stateᵘ, Runnableᵘ}
+use Rattle.unbounded.specs.Tables.{Table, table, stateᵘ, Runnableᵘ}
 use Rattle.logs.specs.Files.{ChecksLog, RightFile}
 use Rattle.logs.specs.Contracts.{aheadLog, Checking, Drained, FeedsReport, Finishes, StartsCheck, Begins, BeginsFile}
 use Rattle.logs.specs.declared.Begun.{Begun}
@@ -106,13 +106,14 @@ module _ (bs : Lists.List ℕ) {numbers list list′ : Lists.List ℕ} {whole : 
         (back .0, subst (λ ns. RightLog bs ns report) (sym (back .2)) (R .log))),
   )
 
-  pub begins-file : (v j k : Rows) (s : Planes) (order buffer : Lists.List ℕ) (b : Begun) → Begins bs (take count list′) whole v j k s order list′ buffer b
-      → BeginsFile bs numbers v j k s order list′ buffer b
-  begins-file v j k s order buffer (Refused r) h = h
-  begins-file v j k s order buffer (Running c) h = record {
+  pub begins-file : {given : ℕ} → given ≡ count → (v j k : Rows) (s : Planes) (order buffer : Lists.List ℕ) (b : Begun)
+      → Begins bs (take given list′) whole v j k s order list′ buffer b → BeginsFile bs numbers v j k s order list′ buffer b
+  begins-file e v j k s order buffer (Refused r) h = h
+  begins-file e v j k s order buffer (Running c) h = record {
     accepted = h .accepted;
     exactly = λ report.
-        let a = h .exactly report in
+        let a = subst (λ i. (aheadLog c (table (c .stations) v j k s) bs list′ buffer report ≡ true) ↔ ((whole ≡ true) × RightLog bs (take i list′) report)) e
+        (h .exactly report) in
         let b = right-file (h .accepted) report in
         ((λ y. b .0 (a .0 y)), λ R. a .1 (b .1 R));
     checking = h .checking;

@@ -137,25 +137,26 @@ module _ {bs list₀ list : List ℕ} {count at : ℕ} (f : ReadSoFar bs list₀
           ∙ ap (λ t. v ∷ linesRead (length list₀ - (count + 1)) t) (drop-drop 12 at bs)
 
   -- the end: no more is to be read
-  read-end : linesRead (length list₀ - count) (drop at bs) ≡ [] → NumbersRead bs list₀ (eqb at (length bs)) count list
-  read-end e = record {
-    counted = sym (ap length found ∙ long);
-    room = f .room;
-    left = sym (take-append-drop count list) ∙ ap₂ _++_ (sym found) (f .left ∙ ap (λ k. drop k list₀) (sym (ap length found ∙ long)));
-    whole = ap (λ k. eqb k (length bs)) (f .place);
-  }
-    where
-      found : linesRead (length list₀) bs ≡ take count list
-      found = f .read ∙ ap (λ t. take count list ++ t) e ∙ append-nil (take count list)
+  module _ {all : Bool} {k : ℕ} (p : all ≡ eqb at (length bs)) (q : k ≡ count) where
+    read-end : linesRead (length list₀ - count) (drop at bs) ≡ [] → NumbersRead bs list₀ all k list
+    read-end e = record {
+      counted = q ∙ sym (ap length found ∙ long);
+      room = omega (arith, q, f .room);
+      left = sym (take-append-drop count list) ∙ ap₂ _++_ (sym found) (f .left ∙ ap (λ k. drop k list₀) (sym (ap length found ∙ long)));
+      whole = p ∙ ap (λ k. eqb k (length bs)) (f .place ∙ ap (λ k. k * 12) (sym q));
+    }
+      where
+        found : linesRead (length list₀) bs ≡ take count list
+        found = f .read ∙ ap (λ t. take count list ++ t) e ∙ append-nil (take count list)
 
-      long : length (take count list) ≡ count
-      long = length-take-le count list (omega (arith, f .size, f .room))
+        long : length (take count list) ≡ count
+        long = length-take-le count list (omega (arith, f .size, f .room))
 
-  pub read-full : length list₀ ≤ count → NumbersRead bs list₀ (eqb at (length bs)) count list
-  read-full h = read-end (let none : length list₀ - count ≡ 0 = omega arith in ap (λ k. linesRead k (drop at bs)) none ∙ lines-none (drop at bs))
+    pub read-full : length list₀ ≤ count → NumbersRead bs list₀ all k list
+    read-full h = read-end (let none : length list₀ - count ≡ 0 = omega arith in ap (λ k. linesRead k (drop at bs)) none ∙ lines-none (drop at bs))
 
-  pub read-bad : numberRead (drop at bs) ≡ Bad → NumbersRead bs list₀ (eqb at (length bs)) count list
-  read-bad e = read-end (lines-bad (length list₀ - count) (drop at bs) e)
+    pub read-bad : numberRead (drop at bs) ≡ Bad → NumbersRead bs list₀ all k list
+    read-bad e = read-end (lines-bad (length list₀ - count) (drop at bs) e)
 
 -- WHAT READING SAYS OF THE BYTES
 

@@ -1,7 +1,7 @@
 -- `y` is what is known of the place.
 use native.Mathlib.Omega.{arith}
-use Prim.Native.Nat.{_≤_, _<_}
-use mathlib.Core.Path.{_≡_, refl, sym, ap, ap₂, subst, _∙_}
+use Prim.Native.Nat.{ℕ, _≤_, _<_}
+use mathlib.Core.Path.{_≡_, refl, sym, ap, subst, _∙_}
 use mathlib.Core.Bool.{false}
 use mathlib.Core.List.{[]}
 use Rattle.simulation.specs.Calls.{judgeIn}
@@ -48,14 +48,24 @@ Acts c =
     moveOf i (a .q .job) (c .judge .result) ≡ judgeIn false (a .n) (d .due-entries .result) (outFor (cell (a .control .now) 1 i 0))
     (phaseFor (cell (a .control .now) 0 i 0)) (callOf (a .q) (roomOf (a .room)))
 
-acts : (c : tie.After-judge) → Acts c
-acts c =
+-- how many entries the move is judged by, as its need says
+abbrev counted : {K : Type 0} {k : tie.After-due-entries → ℕ} → (((d : tie.After-due-entries) → K → k d ≤ 32) → Type 0) → tie.After-due-entries → ℕ
+counted {k = k} _ = k
+
+abbrev Asked : tie.After-due-entries → Type 0
+Asked d = counted (λ (n : tie.Need-judge-requires). ℕ) d ≡ d .due-entries .result
+
+asked : (d : tie.After-due-entries) → Asked d
+asked d = refl
+
+acts : ((d : tie.After-due-entries) → Asked d) → (c : tie.After-judge) → Acts c
+acts h c =
     let d = c .before in
     let y = d .before .before .before .before .before .before in
     let a = y .before .args in
     ap (λ i. moveOf i (a .q .job) (c .judge .result)) (y .place-of .ensures) ∙ c .judge .ensures (a .q .line)
-    ∙ ap₂ (λ o p. judgeIn false (a .n) (d .due-entries .result) o p (callOf (a .q) (roomOf (a .room)))) (d .before .before .is-out .ensures)
-    (d .before .before .before .before .phase-of .ensures)
+    ∙ (λ i. judgeIn false (a .n) (h d i) (d .before .before .is-out .ensures i) (d .before .before .before .before .phase-of .ensures i)
+    (callOf (a .q) (roomOf (a .room))))
 
 -- by the move: so a wrong move and another wrong field are errors of two names
 task : ((c : tie.After-judge) → Acts c) → tie.Need-returns
@@ -68,7 +78,7 @@ task h c = record {
 }
 
 returns : tie.Need-returns
-returns = task acts
+returns = task (acts asked)
 
 pub judge-spec : {M : Type 1} → statement M
 judge-spec = tie.close (tie.spec (λ c κs. search needs) (λ c. search needs) index-2-number (λ c κs. search needs) (λ c. search needs)

@@ -3,7 +3,12 @@ use Prim.Native.Nat.{_≤_}
 use native.Mathlib.Omega.{arith}
 use mathlib.Core.Path.{_≡_, refl}
 use mathlib.Core.Bool.{true}
+use mathlib.Core.List.{[]}
+use lib.ListN.{getD}
 use Rattle.basics.proofs.Loops.{was-true, was-false}
+use Rattle.simulation.specs.Calls.{reportLines}
+use Rattle.transition.specs.Forms.{over}
+use Rattle.arrays.specs.Arrays.{entriesIn}
 use Rattle.logs.proofs.Checks.{run-unfit, run-fits}
 use borrow.Author.Needs.{needs}
 use Rattle.logs.proofs.run_line.Statement.{statement}
@@ -27,14 +32,26 @@ write-result-requires c κs =
     let f = turned i .take-turn .ensures .0 .served (fits i) in
     (f .few, (f .named, omega (arith, f .few, turned i .before .before .before .before .before .before .before .before .pre .1 .1)))
 
-returns-2 : tie.Need-returns-2
-returns-2 c =
+-- the bytes written are those of this line
+abbrev Written : tie.After-write-result → Type 0
+Written w =
+    let y = turned (w .before .before .before .before) in
+    let s = y .before .before .before .before .before .before .before .before in
+    let h = y .take-turn .result .handed in
+    w .write-result .last .1 .1 .1 .0
+    ≡ over (reportLines (s .args .request .line) 1 (entriesIn (h .entries) (getD (y .take-turn .last .1 .1 .1 .1 .1 .1 .1 .1 .0) (h .place) []))) (s .args .lines .now)
+
+written : (w : tie.After-write-result) → Written w
+written w = w .write-result .ensures .1
+
+counted : ((w : tie.After-write-result) → Written w) → tie.Need-returns-2
+counted h c =
     let w = c .before .before in
     let y = turned (w .before .before .before .before) in (
-      run-fits (y .take-turn .ensures .0) (fits (w .before .before .before .before)) _ _ _ (w .write-result .ensures .0) (w .write-result .ensures .1),
+      run-fits (y .take-turn .ensures .0) (fits (w .before .before .before .before)) _ _ _ (w .write-result .ensures .0) (h w),
       y .take-turn .ensures .1,
     )
 
 pub run-line-spec : {M : Type 1} → statement M
 run-line-spec = tie.close (tie.spec (λ c κs. search needs) returns (λ c. omega (arith, low (c .before))) (λ c. omega (arith, low (c .before))) write-result-requires
-    (λ c. search needs) returns-2)
+    (λ c. search needs) (counted written))

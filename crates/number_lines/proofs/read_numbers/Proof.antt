@@ -1,11 +1,14 @@
 -- The invariant is `ReadSoFar`: what is left to read is what the bytes from `at` on hold.
-use Prim.Native.Nat.{_+_, _-_, _*_, _≤_, _<_}
+use Prim.Native.Nat.{ℕ, _+_, _-_, _*_, _≤_, _<_}
 use native.Mathlib.Omega.{arith}
-use mathlib.Core.Path.{_≡_, sym, ap, _∙_}
+use mathlib.Core.Path.{_≡_, refl, sym, ap, _∙_}
 use mathlib.Core.Logic.{⊎-elim}
+use mathlib.Core.Bool.{Bool}
+use mathlib.Core.List.{List}
 use lib.ListN.{length, drop, length-drop}
 use lib.Seq.{take-all}
-use Rattle.number_lines.specs.Lines.{numberRead}
+use lib.Dec.{eqb}
+use Rattle.number_lines.specs.Lines.{numberRead, NumbersRead}
 use Rattle.number_lines.proofs.Reading.{ReadSoFar, read-start, read-within, read-more, read-full, read-bad}
 use borrow.Author.Needs.{needs}
 use Rattle.number_lines.proofs.read_numbers.Statement.{statement}
@@ -47,11 +50,25 @@ add-at c =
 loop-again : tie.Need-loop-again Inv-loop μ-loop
 loop-again c = let x = found c in read-more (x .before .before .before .loop .inv) _ (room (x .before .before) .1) (sym (here x) ∙ c .before .v .given .1)
 
+-- what is handed back, as the need says
+abbrev told : {bs l l′ : tie.Left-loop Inv-loop μ-loop → List ℕ} {all : tie.Left-loop Inv-loop μ-loop → Bool} {k : tie.Left-loop Inv-loop μ-loop → ℕ}
+    → (((c : tie.Left-loop Inv-loop μ-loop) → NumbersRead (bs c) (l c) (all c) (k c) (l′ c)) → Type 0) → tie.Left-loop Inv-loop μ-loop → Bool × ℕ
+told {all = all} {k = k} _ c = (all c, k c)
+
+abbrev read : tie.Left-loop Inv-loop μ-loop → Bool × ℕ
+read = told (λ (n : tie.Need-returns Inv-loop μ-loop). ℕ)
+
+whole-told : (c : tie.Left-loop Inv-loop μ-loop) → read c .0 ≡ eqb (c .before .loop .at) (length (c .before .before .before .before .args .bytes .now))
+whole-told c = refl
+
+count-told : (c : tie.Left-loop Inv-loop μ-loop) → read c .1 ≡ c .before .loop .count
+count-told c = refl
+
 returns : tie.Need-returns Inv-loop μ-loop
 returns c =
     let l = c .before .loop in
-    ⊎-elim (λ t. read-full (l .inv) (omega (arith, t .left, l .inv .size)))
-    (λ t. read-bad (l .inv) (sym (here (record {
+    ⊎-elim (λ t. read-full (l .inv) (whole-told c) (count-told c) (omega (arith, t .left, l .inv .size)))
+    (λ t. read-bad (l .inv) (whole-told c) (count-told c) (sym (here (record {
       before = record { before = record { before = c .before; loop-test = t .0 }; read-number-arg = t .1 };
       read-number = t .2;
     })) ∙ t .4 .given .1))

@@ -1,12 +1,15 @@
 -- The header is read, then the lines after it, and only then they are run; `x` is what is known when the lines have been judged.
 use mathlib.Core.Path.{_≡_, sym, _∙_}
 use mathlib.Core.Logic.{_≢_}
+use lib.ListN.{length}
 use Rattle.moves.specs.Moves.{refusalNumber}
 use Rattle.moves.proofs.MoveLaws.{refuses-yes, refuses-no}
 use Rattle.schedule.specs.Lines.{headerRead}
+use Rattle.schedule.specs.Numbers.{Surveys}
 use Rattle.schedule.proofs.SessionLaws.{header-stations}
 use Rattle.schedule.proofs.Runs.{header-within}
 use Rattle.schedule.specs.declared.Header.the-variants.{Stations}
+use Rattle.numbering.specs.Files.{refusedBy}
 use Rattle.numbering.proofs.Files.{header-refuses, lines-refuse, lines-room, lines-number}
 use borrow.Author.Needs.{needs}
 use Rattle.numbering.proofs.numbers.Statement.{statement}
@@ -27,13 +30,21 @@ from-requires c κs =
     let l = c .before .before .before .before in
     header-within (l .before .before .before .args .file .now) _ (l .line-at .ensures)
 
+-- lines are counted from 1 on, and judged by the list that is lent
+surveyed : (x : tie.After-refusal-of) → Surveys 1 (x .before .before .from .result .now) (x .before .survey-lines .result)
+surveyed x = x .before .survey-lines .ensures
+
+judged : (x : tie.After-refusal-of) → let s = x .before .survey-lines .result in
+    x .refusal-of .result ≡ refusedBy (s .refusal) (s .steps) (s .snaps) (length (start (x .before .before) .args .list .now))
+judged x = x .refusal-of .ensures
+
 returns : tie.Need-returns
 returns c =
     let x = c .before .before in
     let y = x .before .before in
     let d : refusalNumber (x .refusal-of .result) ≢ 0 = refuses-yes (x .refusal-of .result) (c .before .refuses .ensures) (c .if1 .taken) in
     lines-refuse (start y .args .file .now) (start y .args .list .now) (header y .line-at .ensures) (accepted y) (y .from .ensures)
-    (x .before .survey-lines .ensures) (x .refusal-of .ensures) d
+    (surveyed x) (judged x) d
 
 -- what is known of lines that are not refused
 going : (x : tie.Else1) → refusalNumber (x .before .before .refusal-of .result) ≡ 0
@@ -46,7 +57,7 @@ number-lines-requires c κs =
     let y = x .before .before in (
       header-stations _ _ (accepted y),
       lines-room (start y .args .file .now) (start y .args .list .now) (header y .line-at .ensures) (accepted y)
-          (y .from .ensures) (x .before .survey-lines .ensures) (x .refusal-of .ensures) z,
+          (y .from .ensures) (surveyed x) (judged x) z,
     )
 
 returns-2 : tie.Need-returns-2
@@ -62,7 +73,7 @@ returns-3 c =
     let y = x .before .before in
     let done = c .before .before .number-lines .ensures in
     lines-number (start y .args .file .now) (start y .args .list .now) (header y .line-at .ensures) (accepted y) (y .from .ensures)
-    (x .before .survey-lines .ensures) (x .refusal-of .ensures) z (done .0) (done .1)
+    (surveyed x) (judged x) z (done .0) (done .1)
 
 pub numbers-spec : {M : Type 1} → statement M
 numbers-spec = tie.close (tie.spec (λ c κs. search needs) (λ c κs. search needs) (λ c. search needs) (λ c. search needs) from-requires

@@ -17,6 +17,9 @@ tested (negsuc k) e = absurd (true≢false (sym e))
 returns : tie.Need-returns
 returns c = tested (toZ w32 (ofZ w32 (c .before .open-read .result))) (c .if2 .taken)
 
+returns-2 : tie.Need-returns-2
+returns-2 c = search needs
+
 pub open-argument-spec : {M : Type 1} → statement M
 open-argument-spec = tie.close (tie.spec (λ c κs. search needs) (λ c. search needs) (λ c κs. search needs) (λ c κs. search needs) (λ c. search needs)
-    (λ c. search needs) (λ c κs. search needs) returns (λ c κs. search needs) (λ c. search needs))
+    (λ c. search needs) (λ c κs. search needs) returns (λ c κs. search needs) returns-2)

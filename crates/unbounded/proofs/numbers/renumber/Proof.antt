@@ -1,5 +1,6 @@
 use Prim.Native.Nat.{ℕ}
 use mathlib.Core.Path.{refl}
+use mathlib.Core.Logic.{_≢_}
 use mathlib.Core.List.{List, [], _∷_}
 use borrow.Author.Tests.{eq-eqb, ne-eqb}
 use Rattle.moves.specs.declared.Move.the-variants.{SnapLabel, Update}
@@ -9,11 +10,17 @@ use borrow.Author.Needs.{needs}
 use Rattle.unbounded.proofs.numbers.renumber.Statement.{statement}
 use Rattle.unbounded.proofs.numbers.renumber.Tie as tie
 
-returns : tie.Need-returns
-returns c =
+abbrev Other : tie.Then1 → Type 0
+Other c = let a = c .before .before .before .before .before .args in a .place ≢ a .z
+
+other : (c : tie.Then1) → Other c
+other c = c .if1 .taken
+
+pending : ((c : tie.Then1) → Other c) → tie.Need-returns
+pending h c =
     let told = c .before in
     let start = told .before .before .before .before in
-    rw (told .enum-told .given .1, ne-eqb (start .args .place) (start .args .z) (c .if1 .taken))
+    rw (told .enum-told .given .1, ne-eqb (start .args .place) (start .args .z) (h c))
     (planes-put _ (told .before .before .sized .ensures) _ (start .pre) _)
 
 returns-2 : tie.Need-returns-2
@@ -37,4 +44,4 @@ returns-4 c =
 pub renumber-spec : {M : Type 1} → statement M
 renumber-spec = tie.close (tie.spec (λ c κs. search needs) (λ c. search needs) (λ c. search needs) (λ c. search needs) (λ c. search needs)
     (λ c. search needs) (λ c. search needs) (λ c. search needs) (λ c. search needs) (λ c. search needs) (λ c. search needs) (λ c. search needs)
-    returns returns-2 returns-3 returns-4)
+    (pending other) returns-2 returns-3 returns-4)
