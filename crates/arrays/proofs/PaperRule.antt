@@ -8,6 +8,7 @@ use lib.ListN.{replicate}
 use Rattle.basics.specs.Tests.{every, count, firstFrom, lastOf, newest, tabulate}
 use Rattle.label.specs.Labels.{below, next, agrees, firstDifference, labelBelow, labelBefore, nextLabel, others, level, newLabel}
 use Rattle.label.specs.Rows.{row, rowFits, noRing}
+use Rattle.simulation.specs.Calls.{original}
 use Rattle.simulation.specs.Machine.{digits, pendingAfter}
 use Rattle.simulation.specs.PaperRule.{everyChoice, totallyOrdered, tot, paperPending}
 use Rattle.arrays.specs.Arrays.{Arrays, arrays, resultRows, stateOf}
@@ -24,8 +25,8 @@ unreached = arrays 3 (plane 3 4 1 ∷ plane 3 4 5 ∷ []) (replicate 2 (replicat
 
 -- by the paper's rule the first station's snap makes no new label, and 3.1 stays pending; by 01's it makes 4.2
 pub rules-part : (wellFormed unreached ≡ true)
-    × (row 2 (paperPending 3 (digits 3) (stateOf unreached .labels) 0) ≡ 3 ∷ 1 ∷ [])
-    × (row 2 (pendingAfter 3 (digits 3) (stateOf unreached .labels) 0) ≡ 4 ∷ 2 ∷ [])
+    × (row 2 (paperPending 3 (digits original 3) (stateOf unreached .labels) 0) ≡ 3 ∷ 1 ∷ [])
+    × (row 2 (pendingAfter 3 (digits original 3) (stateOf unreached .labels) 0) ≡ 4 ∷ 2 ∷ [])
 unfolding unreached plane wellFormed stationFits placeFresh resultFits resultFresh paperPending tot everyChoice totallyOrdered pendingAfter row
     rowFits noRing below next agrees firstDifference labelBelow labelBefore nextLabel others level newLabel every count firstFrom lastOf newest tabulate
 rules-part = (refl, refl, refl)

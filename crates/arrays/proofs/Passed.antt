@@ -11,6 +11,7 @@ use Rattle.basics.proofs.Facts.{and-both, within-true, every-at}
 use Rattle.label.specs.Rows.{digit, rowFits, noRing}
 use Rattle.label.proofs.RowLaws.{fits-digit, ringless}
 use Rattle.label.proofs.Total.{Total, total, newest-inside, newest-last, newest-only, Sorted, ordered-sorted}
+use Rattle.simulation.specs.Calls.{original}
 use Rattle.simulation.specs.Machine.{digits, stands}
 use Rattle.arrays.specs.Arrays.{Arrays, cell, labelRow, rowsAt, stateOf}
 use Rattle.arrays.specs.WellFormed.{resultFits, resultFresh, controlFits, controlFresh, stationFits, placeFresh, wellFormed}
@@ -98,21 +99,21 @@ module _ (a : Arrays) (e : wellFormed a ≡ true) where
   pub label-digits : (x : Bool) (i p : ℕ) → i < a .count → p < a .count - 1 → (1 ≤ digit (labelRow a x i) p) × (digit (labelRow a x i) p ≤ 5)
   label-digits x i p li lp = fits-digit 31 (a .count - 1) (labelRow a x i) (passed a e .each i li .label x) p lp
 
-  pub stands-total : Total (a .count) (stands (digits (a .count)) (stateOf a .labels))
+  pub stands-total : Total (a .count) (stands (digits original (a .count)) (stateOf a .labels))
   stands-total = total (ringless (a .count - 1) (λ i. digit (labelRow a false i)) (passed a e .free)
       (λ i p li lp. label-digits false i p (omega (arith, passed a e .low)) lp))
       (a .count) (omega (arith, passed a e .low))
 
-  pub newest-station : newest (a .count) (stands (digits (a .count)) (stateOf a .labels)) < a .count
-  newest-station = newest-inside (a .count) (stands (digits (a .count)) (stateOf a .labels)) stands-total (omega (arith, passed a e .low))
+  pub newest-station : newest (a .count) (stands (digits original (a .count)) (stateOf a .labels)) < a .count
+  newest-station = newest-inside (a .count) (stands (digits original (a .count)) (stateOf a .labels)) stands-total (omega (arith, passed a e .low))
 
   -- the newest: all others stand before it, and it alone stands before none
-  pub newest-after-all : let n = a .count in let b = stands (digits n) (stateOf a .labels) in (j : ℕ) → j < n → j ≢ newest n b → b j (newest n b) ≡ true
-  newest-after-all = newest-last (a .count) (stands (digits (a .count)) (stateOf a .labels)) stands-total (omega (arith, passed a e .low))
+  pub newest-after-all : let n = a .count in let b = stands (digits original n) (stateOf a .labels) in (j : ℕ) → j < n → j ≢ newest n b → b j (newest n b) ≡ true
+  newest-after-all = newest-last (a .count) (stands (digits original (a .count)) (stateOf a .labels)) stands-total (omega (arith, passed a e .low))
 
-  pub newest-alone : let n = a .count in let b = stands (digits n) (stateOf a .labels) in (i : ℕ) → i < n → ((j : ℕ) → j < n → b i j ≡ false) → i ≡ newest n b
-  newest-alone = newest-only (a .count) (stands (digits (a .count)) (stateOf a .labels)) stands-total
+  pub newest-alone : let n = a .count in let b = stands (digits original n) (stateOf a .labels) in (i : ℕ) → i < n → ((j : ℕ) → j < n → b i j ≡ false) → i ≡ newest n b
+  newest-alone = newest-only (a .count) (stands (digits original (a .count)) (stateOf a .labels)) stands-total
 
   -- the scan order: each station before all later ones
-  pub scan-sorted : let b = stands (digits (a .count)) (stateOf a .labels) in Sorted b (ordered (a .count) b)
-  scan-sorted = let n = a .count in ordered-sorted n (stands (digits n) (stateOf a .labels)) stands-total n (omega arith)
+  pub scan-sorted : let b = stands (digits original (a .count)) (stateOf a .labels) in Sorted b (ordered (a .count) b)
+  scan-sorted = let n = a .count in ordered-sorted n (stands (digits original n) (stateOf a .labels)) stands-total n (omega arith)

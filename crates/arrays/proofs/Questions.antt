@@ -7,6 +7,7 @@ use lib.ListN.{drop}
 use Rattle.basics.specs.Tests.{newest, ordered, passing}
 use Rattle.label.specs.Labels.{agrees}
 use Rattle.label.proofs.Holders.{holders-last}
+use Rattle.simulation.specs.Calls.{original}
 use Rattle.simulation.specs.Machine.{digits, stands}
 use Rattle.transition.specs.Questions.{topHolders, Tells}
 use Rattle.transition.proofs.Questions.{Told, told}
@@ -19,7 +20,7 @@ pub lent-told : (a : Arrays) {refusal stations : ℕ} → Tells lent a refusal s
 lent-told a = told lent a (λ e. (omega (arith, passed a e .low), stands-total a e))
 
 -- on a well-formed table those that hold the top label are the last in the order of all stations: whoever keeps that order finds them at its end
-pub top-last : (a : Arrays) → wellFormed a ≡ true → let n = a .count in let l = stateOf a .labels in let order = ordered n (stands (digits n) l) in
-    passing (λ i. agrees (n - 1) (l false i) (l false (newest n (stands (digits n) l)))) order ≡ drop (n - topHolders n l) order
+pub top-last : (a : Arrays) → wellFormed a ≡ true → let n = a .count in let l = stateOf a .labels in let order = ordered n (stands (digits original n) l) in
+    passing (λ i. agrees (n - 1) (l false i) (l false (newest n (stands (digits original n) l)))) order ≡ drop (n - topHolders original n l) order
 unfolding topHolders
 top-last a e = holders-last (a .count) (a .count - 1) (stateOf a .labels false) (stands-total a e) (omega (arith, passed a e .low))

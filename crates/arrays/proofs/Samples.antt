@@ -6,14 +6,14 @@ use mathlib.Core.Bool.{true, false, true≢false}
 use mathlib.Core.List as Lists
 use mathlib.Core.List.{[], _∷_, _++_, map, List·Memᴰ, List·Memᴰ·head, List·Memᴰ·tail}
 use lib.ListN.{length}
-use Rattle.basics.specs.Tests.{within, every, count, firstFrom, lastOf, newest, inserted, ordered, passing, tabulate, All}
-use Rattle.basics.proofs.Facts.{tf, within-true, all-weaken}
+use Rattle.basics.specs.Tests.{every, count, firstFrom, lastOf, newest, inserted, ordered, passing, tabulate, All}
+use Rattle.basics.proofs.Facts.{tf, all-weaken}
 use Rattle.columns.specs.Columns.{lineHead, lineTail, reportLine}
 use Rattle.label.specs.Labels as Labels
 use Rattle.label.specs.Labels.{below, next, agrees, firstDifference, labelBelow, labelBefore, nextLabel, others, level, newLabel, holders}
 use Rattle.label.specs.Rows.{digit, row}
-use Rattle.simulation.specs.Calls.{Call, unless, judgeIn, reportLines, panelRecords}
-use Rattle.simulation.specs.Machine.{original, digits, pendingAfter, relabelled, scanOf, carryOut, State, fresh, step, snapsOf, run, snaps, numberBefore}
+use Rattle.simulation.specs.Calls.{original, sized, Call, unless, judgeIn, reportLines, panelRecords}
+use Rattle.simulation.specs.Machine.{digits, freshLabel, pendingAfter, relabelled, scanOf, carryOut, State, fresh, step, snapsOf, run, snaps, numberBefore}
 use Rattle.simulation.specs.Numbered.{met, labelSnaps, Fit, newestSnap, newestSnaps}
 use Rattle.simulation.specs.Numbering.{bump, highest, slotOf, renumber, renumbered, numbersOf}
 use Rattle.transition.specs.Forms.{Form, TableAnswer, freshTable, answered, stepOf, after}
@@ -24,7 +24,8 @@ use Rattle.transition.specs.Samples.{callWith, call, takesJob, labelled, shown,
 use Rattle.transition.specs.Samples.{overtaken, scanBytes, scanEnded, codes, codesWith, ascii, twoOfThree, samples, habitSamples, serviceSamples, topSamples}
 use Rattle.transition.specs.Samples.{numberSamples, logSamples, refusalSamples, reportSamples, SamplesHold}
 use Rattle.simulation.proofs.Follow as Follow
-use Rattle.simulation.proofs.Simulation.{numbering}
+use Rattle.simulation.proofs.Simulation.{original-proper, numbering}
+use Rattle.transition.proofs.Written.{Sized, sized-of, sized-some}
 use Rattle.transition.proofs.Reached.{Reached, reached-fresh}
 use Rattle.transition.proofs.Theorem.{Lawful, reached-held, reached-written, reached-next, same-after, ReachedTable, table-fresh, table-after}
 use Rattle.transition.proofs.Questions.{reached-tells}
@@ -38,21 +39,22 @@ carried : ℕ → Arrays → Lists.List Call → Arrays
 unfolding row arraysOf unless judgeIn pendingAfter relabelled scanOf carryOut step below next agrees firstDifference labelBelow labelBefore nextLabel others
     level newLabel every count firstFrom newest inserted ordered passing tabulate callWith call labelled
 carried n a [] = a
-carried n a (c ∷ cs) = carried n (arraysOf n (step original n (digits n) (stateOf a) c .state)) cs
+carried n a (c ∷ cs) = carried n (arraysOf n (step original n (digits original n) (stateOf a) c .state)) cs
 
-module _ (n : ℕ) (low : 2 ≤ n) (high : n ≤ 32) where
-  carried-same : (cs : Lists.List Call) (s : State Labels.Label) → Reached n s → after lent (arraysOf n s) cs ≡ carried n (arraysOf n s) cs
+module _ (n : ℕ) (z : Sized original n) where
+  carried-same : (cs : Lists.List Call) (s : State Labels.Label) → Reached original n s → after lent (arraysOf n s) cs ≡ carried n (arraysOf n s) cs
   unfolding after carried
   carried-same [] s r = refl
-  carried-same (c ∷ cs) s r = ap (λ a. after lent (a .table) cs) (reached-written lent lent-lawful n low high r c)
-      ∙ carried-same cs (step original n (digits n) s c .state) (reached-next lent lent-lawful n low high r c)
-      ∙ ap (λ u. carried n (arraysOf n (step original n (digits n) u c .state)) cs) (sym (reached-held lent lent-lawful n low high r))
+  carried-same (c ∷ cs) s r = ap (λ a. after lent (a .table) cs) (reached-written lent lent-lawful n z r c)
+      ∙ carried-same cs (step original n (digits original n) s c .state) (reached-next lent lent-lawful n z r c)
+      ∙ ap (λ u. carried n (arraysOf n (step original n (digits original n) u c .state)) cs) (sym (reached-held lent lent-lawful n z r))
 
-  -- what holds of the state that the calls lead to, on these arrays, holds of the one in every lawful form
-  leads : (F : Form) → Lawful F → (P : State Labels.Label → Type 0) (cs : Lists.List Call) → P (stateOf (carried n (freshTable lent n) cs))
-      → P (F .state (after F (freshTable F n) cs))
-  leads F L P cs =
-      subst P (sym (same-after F lent L lent-lawful n low high cs ∙ ap stateOf (carried-same cs (fresh (λ p. 1)) (reached-fresh n (omega arith)))))
+  -- what holds of the state that the calls lead to, on these arrays, holds of the one in every lawful form of the board
+  leads : (F : Form) → Lawful F → F .board ≡ original → (P : State Labels.Label → Type 0) (cs : Lists.List Call)
+      → P (stateOf (carried n (freshTable lent n) cs)) → P (F .state (after F (freshTable F n) cs))
+  leads F L same P cs =
+      subst P (sym (same-after F lent L lent-lawful same n (subst (λ B. Sized B n) (sym same) z) cs
+      ∙ ap stateOf (carried-same cs (fresh (freshLabel original)) (reached-fresh original n (sized-some z) original-proper))))
 
 -- what is computed of a row
 abbrev left : ℕ → Lists.List Call → State Labels.Label
@@ -61,17 +63,17 @@ left n cs = stateOf (carried n (freshTable lent n) cs)
 abbrev Computed : Sample → Type 0
 Computed (digitsBelow d e) = below d e ≡ true
 Computed (labelsBelow a b) = labelBelow (length a) (digit a) (digit b) ≡ true
-Computed (reaches n cs l o) = (within 2 32 n ≡ true) × (shown n (left n cs) ≡ l) × (order n (left n cs) ≡ o)
-Computed (scanShows n cs k l) = (within 2 32 n ≡ true) × (shownBy k (left n cs) ≡ l)
-Computed (topHeld n cs k) = (within 2 32 n ≡ true) × (topHolders n (left n cs .labels) ≡ k)
-Computed (numbersDo n cs ns) = (within 2 32 n ≡ true) × Follow.Numbers original n (digits n) (λ p. 1) cs ns
+Computed (reaches n cs l o) = (sized original n ≡ true) × (shown n (left n cs) ≡ l) × (order n (left n cs) ≡ o)
+Computed (scanShows n cs k l) = (sized original n ≡ true) × (shownBy k (left n cs) ≡ l)
+Computed (topHeld n cs k) = (sized original n ≡ true) × (topHolders original n (left n cs .labels) ≡ k)
+Computed (numbersDo n cs ns) = (sized original n ≡ true) × Follow.Numbers original n (digits original n) (freshLabel original) cs ns
 Computed (numbersFound n cs ns) = numbersOf original n cs ≡ ns
 Computed (logRight n cs ns l) = right original n (fresh 0) ns (scanBytes l) cs ≡ true
 Computed (logWrong n cs ns l) = right original n (fresh 0) ns (scanBytes l) cs ≡ false
-Computed (answers n cs xs ks) = (within 2 32 n ≡ true) × (map (λ c. step original n (digits n) (left n cs) c .refusal) xs ≡ ks)
+Computed (answers n cs xs ks) = (sized original n ≡ true) × (map (λ c. step original n (digits original n) (left n cs) c .refusal) xs ≡ ks)
 Computed (replies n cs c k r) =
-    let a = step original n (digits n) (left n cs) c in
-    (within 2 32 n ≡ true) × (a .refusal ≡ k) × (a .report ≡ r)
+    let a = step original n (digits original n) (left n cs) c in
+    (sized original n ≡ true) × (a .refusal ≡ k) × (a .report ≡ r)
 
 -- row by row
 infixr 40 _and_
@@ -97,7 +99,7 @@ unfolding topHolders holders carried one two three together callWith
 shared = (refl, refl) and (refl, refl) and (refl, refl) and (refl, refl) and (refl, refl) and tt
 
 -- another list for 1 and 2, which have equal labels: a number for each
-apart : Follow.Numbers original 3 (digits 3) (λ p. 1) (together ++ one (call 3 2)) (two 1 2)
+apart : Follow.Numbers original 3 (digits original 3) (freshLabel original) (together ++ one (call 3 2)) (two 1 2)
 unfolding run snaps labelSnaps met newestSnap newestSnaps numberBefore snapsOf unless judgeIn pendingAfter relabelled scanOf carryOut step below next agrees
     firstDifference labelBelow labelBefore nextLabel others level newLabel every count firstFrom newest inserted ordered passing tabulate call callWith one two
     together
@@ -122,7 +124,7 @@ numbered : All Computed numberSamples
 unfolding renumbered renumber highest slotOf bump snapsOf unless judgeIn pendingAfter relabelled scanOf carryOut step below next agrees firstDifference
     labelBelow labelBefore nextLabel others level newLabel every count firstFrom newest inserted ordered passing tabulate call callWith labelled one two three
     together overtaken
-numbered = refl and refl and refl and (refl, numbering 3 (omega arith) _ .0) and (refl, apart) and tt
+numbered = refl and refl and refl and (refl, numbering original-proper 3 (omega arith) _ .0) and (refl, apart) and tt
 
 logs : All Computed logSamples
 unfolding right fitsNext atFront numberBefore snapsOf unless judgeIn pendingAfter relabelled scanOf carryOut step every firstFrom newest inserted ordered
@@ -142,42 +144,46 @@ reports =
     (refl, refl, refl) and (refl, refl, refl) and (refl, refl, refl) and (refl, refl, refl) and (refl, refl, refl) and (refl, refl, refl)
     and (refl, refl, refl) and (refl, refl, refl) and tt
 
-module _ (F : Form) (L : Lawful F) where
+module _ (F : Form) (L : Lawful F) (same : F .board ≡ original) where
+  size : (n : ℕ) → sized original n ≡ true → Sized original n
+  size n = sized-of (omega arith)
+
+  here : (n : ℕ) → sized original n ≡ true → Sized (F .board) n
+  here n h = subst (λ B. Sized B n) (sym same) (size n h)
+
   -- a call on the table that some calls leave is the machine's step, written down
-  module _ (n : ℕ) (low : 2 ≤ n) (high : n ≤ 32) (cs : Lists.List Call) (c : Call) where
+  module _ (n : ℕ) (h : sized original n ≡ true) (cs : Lists.List Call) (c : Call) where
     abbrev table : F .Table
     table = after F (freshTable F n) cs
 
-    stepped : stepOf F table c ≡ answered F n (step original n (digits n) (F .state table) c)
-    stepped = ap (λ t. stepOf F t c) (r .holds) ∙ reached-written F L n low high (r .reached) c
-        ∙ ap (λ s. answered F n (step original n (digits n) s c)) (sym (ap (F .state) (r .holds) ∙ reached-held F L n low high (r .reached)))
+    stepped : stepOf F table c ≡ answered F n (step original n (digits original n) (F .state table) c)
+    stepped = ap (λ t. stepOf F t c) (r .holds) ∙ reached-written F L n (here n h) (r .reached) c
+        ∙ ap (λ B. answered F n (step B n (digits B n) (r .state) c)) same
+        ∙ ap (λ s. answered F n (step original n (digits original n) s c)) (sym (ap (F .state) (r .holds) ∙ reached-held F L n (here n h) (r .reached)))
       where
         r : ReachedTable F n table
-        r = table-after F L n low high cs (freshTable F n) (table-fresh F L n low high)
+        r = table-after F L n (here n h) cs (freshTable F n) (table-fresh F L n (here n h))
 
   told : (x : Sample) → Computed x → SampleHolds F x
   told (digitsBelow d e) h = h
   told (labelsBelow a b) h = h
-  told (reaches n cs l o) h =
-      let b = within-true 2 32 n (h .0) in
-      leads n (b .0) (b .1) F L (λ s. (shown n s ≡ l) × (order n s ≡ o)) cs (h .1, h .2)
-  told (scanShows n cs k l) h = let b = within-true 2 32 n (h .0) in leads n (b .0) (b .1) F L (λ s. shownBy k s ≡ l) cs (h .1)
+  told (reaches n cs l o) h = leads n (size n (h .0)) F L same (λ s. (shown n s ≡ l) × (order n s ≡ o)) cs (h .1, h .2)
+  told (scanShows n cs k l) h = leads n (size n (h .0)) F L same (λ s. shownBy k s ≡ l) cs (h .1)
   told (topHeld n cs k) h =
-      let b = within-true 2 32 n (h .0) in
-      subst (Tells F (after F (freshTable F n) cs) 0) (leads n (b .0) (b .1) F L (λ s. topHolders n (s .labels) ≡ k) cs (h .1))
-      (reached-tells F L n (b .0) (b .1) _ (table-after F L n (b .0) (b .1) cs (freshTable F n) (table-fresh F L n (b .0) (b .1))))
-  told (numbersDo n cs ns) h = let b = within-true 2 32 n (h .0) in numbers-do F L n (b .0) (b .1) (h .1)
+      subst (Tells F (after F (freshTable F n) cs) 0)
+      (leads n (size n (h .0)) F L same (λ s. topHolders (F .board) n (s .labels) ≡ k) cs (ap (λ B. topHolders B n (left n cs .labels)) same ∙ h .1))
+      (reached-tells F L n (here n (h .0)) _ (table-after F L n (here n (h .0)) cs (freshTable F n) (table-fresh F L n (here n (h .0)))))
+  told (numbersDo n cs ns) h =
+      numbers-do F L n (here n (h .0)) (subst (λ B. Follow.Numbers B n (digits B n) (freshLabel B) cs ns) (sym same) (h .1))
   told (numbersFound n cs ns) h = h
   told (logRight n cs ns l) h = right-exactly original n cs ns (scanBytes l) .0 h
   told (logWrong n cs ns l) h = λ r. tf (right-exactly original n cs ns (scanBytes l) .1 r) h
   told (answers n cs xs ks) h =
-      let b = within-true 2 32 n (h .0) in
-      ap (λ f. map f xs) (fun-ext (λ c. ap (λ (a : TableAnswer (F .Table)). a .refusal) (stepped n (b .0) (b .1) cs c)))
-      ∙ leads n (b .0) (b .1) F L (λ s. map (λ c. step original n (digits n) s c .refusal) xs ≡ ks) cs (h .1)
+      ap (λ f. map f xs) (fun-ext (λ c. ap (λ (a : TableAnswer (F .Table)). a .refusal) (stepped n (h .0) cs c)))
+      ∙ leads n (size n (h .0)) F L same (λ s. map (λ c. step original n (digits original n) s c .refusal) xs ≡ ks) cs (h .1)
   told (replies n cs c k r) h =
-      let b = within-true 2 32 n (h .0) in
-      subst (λ (a : TableAnswer (F .Table)). (a .refusal ≡ k) × (a .report ≡ r)) (sym (stepped n (b .0) (b .1) cs c))
-      (leads n (b .0) (b .1) F L (λ s. let a = step original n (digits n) s c in (a .refusal ≡ k) × (a .report ≡ r)) cs (h .1, h .2))
+      subst (λ (a : TableAnswer (F .Table)). (a .refusal ≡ k) × (a .report ≡ r)) (sym (stepped n (h .0) cs c))
+      (leads n (size n (h .0)) F L same (λ s. let a = step original n (digits original n) s c in (a .refusal ≡ k) × (a .report ≡ r)) cs (h .1, h .2))
 
   pub samples-hold : SamplesHold F
   samples-hold =

@@ -12,15 +12,17 @@ use lib.ListN.{length, getD, List·getD-eq-default}
 use lib.Dec.{eqb}
 use borrow.Author.Tests.{eqb-true, eq-eqb, le-leb}
 use Rattle.basics.specs.Tests.{every, tabulate}
-use Rattle.basics.proofs.Facts.{both, within-of, every-all, every-at, last, length-tabulate, getD-tabulate, getD-all, tabulate-is, two-lists}
+use Rattle.basics.proofs.Facts.{tf, both, within-of, every-all, every-at, last, length-tabulate, getD-tabulate, getD-all, tabulate-is, two-lists}
 use Rattle.label.specs.Labels as Labels
 use Rattle.label.specs.Rows.{digit, row, rowFits, noRing}
 use Rattle.label.proofs.RowLaws.{digit-row, row-digit, label-fits, fits-behind}
-use Rattle.simulation.specs.Calls.{Call, Phase, Idle, Snap, Update, End, Label, Scan, Process, Rest}
-use Rattle.simulation.specs.Machine.{original, digits, State, step}
+use Rattle.simulation.specs.Calls.{original, hasPhase, Call, Phase, Idle, Snap, Update, End, Label, Scan, Process, Rest}
+use Rattle.simulation.specs.Machine.{digits, freshRest, State, step}
+use Rattle.simulation.proofs.Simulation.{original-proper}
 use Rattle.transition.specs.Forms.{TableAnswer, stepOf}
-use Rattle.transition.proofs.Written.{Kept, Unused, WritableRest, Writable, writable-step}
-use Rattle.transition.proofs.Reached.{Idles, Reached, choice-ring-free}
+use Rattle.transition.proofs.Written.{original-sized, WritableRest, Writable, writable-step}
+use Rattle.transition.proofs.Reached.{Idles}
+use Rattle.transition.proofs.Fits.{Unspoiled, reached-unspoiled}
 use Rattle.transition.proofs.Theorem.{Lawful, step-written}
 use Rattle.arrays.specs.Arrays.{Rows, Arrays, arrays, cell, plane, planes, phaseNumber, phaseFor, outNumber, outFor, resultRows, shownIn, resultOf}
 use Rattle.arrays.specs.Arrays.{Planes, rowsAt, labelRow, restIn, restOf, stateOf, jobsOf, controlOf, resultsOf, labelsOf, arraysOf, Holds}
@@ -32,9 +34,10 @@ use Rattle.arrays.proofs.Results.{result-back, Blank, rows-back, entrie
 
 -- PHASES
 
-pub phase-back : (p : Phase) → Kept p → phaseFor (phaseNumber p) ≡ p
+pub phase-back : (p : Phase) → hasPhase original p ≡ true → phaseFor (phaseNumber p) ≡ p
 phase-back Idle k = refl
 phase-back (Snap Label) k = refl
+phase-back (Snap Scan) k = absurd (tf k refl)
 phase-back Update k = refl
 phase-back (End Label) k = refl
 phase-back (End Scan) k = refl
@@ -53,10 +56,10 @@ number-back b h = eqb-true _ b (every-at 5 (λ k. eqb (phaseNumber (phaseFor k))
     all = unfold every in refl
 
 -- every number stands for a phase that a table keeps
-pub number-kept : (b : ℕ) → Kept (phaseFor b)
-number-kept b = either (eqb b 0) Idle _ tt (either (eqb b 1) (Snap Label) _ tt (either (eqb b 2) Update _ tt (either (eqb b 3) (End Label) (End Scan) tt tt)))
+pub number-kept : (b : ℕ) → hasPhase original (phaseFor b) ≡ true
+number-kept b = either (eqb b 0) Idle _ refl (either (eqb b 1) (Snap Label) _ refl (either (eqb b 2) Update _ refl (either (eqb b 3) (End Label) (End Scan) refl refl)))
   where
-    either : (t : Bool) (p q : Phase) → Kept p → Kept q → Kept (cond t p q)
+    either : (t : Bool) (p q : Phase) → hasPhase original p ≡ true → hasPhase original q ≡ true → hasPhase original (cond t p q) ≡ true
     either true p q h k = h
     either false p q h k = k
 
@@ -77,19 +80,19 @@ out-number b h = eqb-true _ b (every-at 2 (λ k. eqb (outNumber (outFor k)) k) a
     all = unfold every in refl
 
 -- WHAT IS NOT LABELS and can be written down is what its arrays hold
-module _ (n : ℕ) (high : n ≤ 32) (o : Rest) (w : WritableRest n o) where
+module _ (n : ℕ) (high : n ≤ 32) (o : Rest) (w : WritableRest original n o) where
   -- what stands in the arrays at every place, past the last too
   job-at : (x : Bool) (i : ℕ) → cell (planes (jobsOf o)) (plane x) i 0 ≡ jobsOf o x i
-  job-at false i = getD-all 32 i (jobsOf o false) 0 (λ l. sym (ap (λ (p : Process). p .job) (w .past i (omega arith) .process)))
-  job-at true i = getD-all 32 i (jobsOf o true) 0 (λ l. sym (ap (λ (p : Process). p .pendingJob) (w .past i (omega arith) .process)))
+  job-at false i = getD-all 32 i (jobsOf o false) 0 (λ l. sym (ap (λ (p : Process). p .job) (w .past i (omega arith))))
+  job-at true i = getD-all 32 i (jobsOf o true) 0 (λ l. sym (ap (λ (p : Process). p .pendingJob) (w .past i (omega arith))))
 
   phase-at : (i : ℕ) → cell (planes (controlOf o)) 0 i 0 ≡ phaseNumber (o .process i .phase)
   phase-at i = getD-all 32 i (λ j. phaseNumber (o .process j .phase)) 0
-      (λ l. sym (ap (λ (p : Process). phaseNumber (p .phase)) (w .past i (omega arith) .process)))
+      (λ l. sym (ap (λ (p : Process). phaseNumber (p .phase)) (w .past i (omega arith))))
 
   out-at : (i : ℕ) → cell (planes (controlOf o)) 1 i 0 ≡ outNumber (o .process i .out)
   out-at i = getD-all 32 i (λ j. outNumber (o .process j .out)) 0
-      (λ l. sym (ap (λ (p : Process). outNumber (p .out)) (w .past i (omega arith) .process)))
+      (λ l. sym (ap (λ (p : Process). outNumber (p .out)) (w .past i (omega arith))))
 
   rows-at : (i : ℕ) → i < 32 → getD (resultsOf o) i [] ≡ resultRows (o .result i)
   rows-at i l = getD-tabulate 32 0 i (λ j. resultRows (o .result j)) [] l ∙ ap (λ j. resultRows (o .result j)) (zero-add i)
@@ -98,7 +101,7 @@ module _ (n : ℕ) (high : n ≤ 32) (o : Rest) (w : WritableRest n o) where
   result-at i = by-cases (decLt i 32)
       (λ l. ap (resultOf n) (rows-at i l) ∙ result-back n (o .result i) high (w .listed i))
       (λ l. ap (resultOf n) (List·getD-eq-default (resultsOf o) [] (rw length-tabulate (omega arith)))
-      ∙ none-held n [] (λ p _. refl) ∙ sym (w .past i (omega arith) .result))
+      ∙ none-held n [] (λ p _. refl) ∙ sym (w .unused i (omega arith)))
 
   rest-back : restIn n (planes (jobsOf o)) (planes (controlOf o)) (resultsOf o) ≡ o
   rest-back = λ y. record {
@@ -119,7 +122,7 @@ module _ (n : ℕ) (high : n ≤ 32) (o : Rest) (w : WritableRest n o) where
   rest-held h = (λ y. restIn n (h .jobs y) (h .control y) (h .results y)) ∙ rest-back
 
 -- A STATE THAT CAN BE WRITTEN DOWN is the state that its arrays hold
-module _ (n : ℕ) (high : n ≤ 32) (s : State Labels.Label) (w : Writable n s) where
+module _ (n : ℕ) (high : n ≤ 32) (s : State Labels.Label) (w : Writable original n s) where
   label-at : (x : Bool) (i : ℕ) → digit (labelRow (arraysOf n s) x i) ≡ s .labels x i
   unfolding arraysOf
   label-at x i = by-cases (decLt i 32)
@@ -138,13 +141,13 @@ module _ (n : ℕ) (high : n ≤ 32) (s : State Labels.Label) (w : Writable n s)
   unfolding arraysOf
   held-written = λ y. record { labels = λ x i. label-at x i y; rest = rest-back n high (s .rest) (w .rest) y }
 
--- and well-formed if that state is reached
-module _ (n : ℕ) (low : 2 ≤ n) (high : n ≤ 32) (s : State Labels.Label) (r : Reached n s) where
-  w : Writable n s
-  w = r .writable
+-- and well-formed if that state passes
+module _ (n : ℕ) (low : 2 ≤ n) (high : n ≤ 32) (s : State Labels.Label) (f : Unspoiled original n s) where
+  w : Writable original n s
+  w = f .writable
 
   rows-fit : (x : Bool) (i : ℕ) → i < n → rowFits 31 (n - 1) (labelRow (arraysOf n s) x i) ≡ true
-  rows-fit x i l = label-fits 31 (n - 1) _ (s .labels x i) (label-at n high s w x i) (r .ready .inv .digits x i (omega arith)) (r .ready .behind x i)
+  rows-fit x i l = label-fits 31 (n - 1) _ (s .labels x i) (label-at n high s w x i) (f .digits x i) (f .behind x i)
 
   rows-fresh : (x : Bool) (i : ℕ) → n ≤ i → rowFits 31 0 (labelRow (arraysOf n s) x i) ≡ true
   rows-fresh x i l = label-fits 31 0 _ (λ p. 1) (label-at n high s w x i ∙ w .blank x i l) (λ p. (omega arith, omega arith)) (λ p _. refl)
@@ -156,32 +159,37 @@ module _ (n : ℕ) (low : 2 ≤ n) (high : n ≤ 32) (s : State Labels.Label) (r
       idle true f = rw (f refl) refl
       idle false f = refl
 
-  pub reached-passes : wellFormed (arraysOf n s) ≡ true
+  pub unspoiled-passes : wellFormed (arraysOf n s) ≡ true
   unfolding wellFormed stationFits placeFresh arraysOf
-  reached-passes = both (both (both (within-of 2 32 n low high)
+  unspoiled-passes = both (both (both (within-of 2 32 n low high)
       (every-all n _ (λ i l. both (both (both (rows-fit false i l) (rows-fit true i l))
-      (rw (rows-at n high o v i (omega arith)) (sound-fits n (o .result i) high (v .listed i) (r .sound i))))
-      (rw (phase-at n high o v i, out-at n high o v i) (control-fits (o .process i) (r .idles i))))))
+      (rw (rows-at n high o v i (omega arith)) (sound-fits n (o .result i) high (v .listed i) (f .sound i))))
+      (rw (phase-at n high o v i, out-at n high o v i) (control-fits (o .process i) (f .idles i))))))
       (every-all (32 - n) _ (λ i l. fresh (n + i) (omega arith) (omega arith))))
-      (ap (λ (u : State Labels.Label). noRing (n - 1) (u .labels false)) (held-written n high s w) ∙ choice-ring-free n (omega arith) r (λ i. false))
+      (ap (λ (u : State Labels.Label). noRing (n - 1) (u .labels false)) (held-written n high s w) ∙ f .free)
     where
       o : Rest
       o = s .rest
 
-      v : WritableRest n o
+      v : WritableRest original n o
       v = w .rest
 
       fresh : (i : ℕ) → n ≤ i → i < 32 → placeFresh (arraysOf n s) i ≡ true
-      fresh i h l = let u = v .past i h .process in both (both (both (both (both (rows-fresh false i h) (rows-fresh true i h))
+      fresh i h l = let u = v .past i h in both (both (both (both (both (rows-fresh false i h) (rows-fresh true i h))
           (eq-eqb (cell (arraysOf n s .jobs) 0 i 0) 0 (job-at n high o v false i ∙ ap (λ (p : Process). p .job) u)))
           (eq-eqb (cell (arraysOf n s .jobs) 1 i 0) 0 (job-at n high o v true i ∙ ap (λ (p : Process). p .pendingJob) u)))
-          (rw (rows-at n high o v i l, v .past i h .result) empty-fresh))
+          (rw (rows-at n high o v i l, v .unused i (omega arith)) empty-fresh))
           (both (eq-eqb (cell (arraysOf n s .control) 0 i 0) 0 (phase-at n high o v i ∙ ap (λ (p : Process). phaseNumber (p .phase)) u))
           (eq-eqb (cell (arraysOf n s .control) 1 i 0) 0 (out-at n high o v i ∙ ap (λ (p : Process). outNumber (p .out)) u)))
 
 pub lent-lawful : Lawful lent
 unfolding arraysOf
-lent-lawful = record { board = refl; counted = λ n s. refl; held = held-written; passes = reached-passes }
+lent-lawful = record {
+  proper = original-proper;
+  counted = λ n s. refl;
+  held = λ n z s r. held-written n (z .high) s (r .writable);
+  passes = λ n z s r. unspoiled-passes n (z .low) (z .high) s (reached-unspoiled original-proper n z s r);
+}
 
 -- WELL-FORMED ARRAYS are those of the state that they hold
 module _ (a : Arrays) (g : Shaped a) (e : wellFormed a ≡ true) where
@@ -229,7 +237,7 @@ module _ (a : Arrays) (g : Shaped a) (e : wellFormed a ≡ true) where
   written-held = λ y. arrays (a .count) (labels-back y) (jobs-back y) (control-back y) (results-back y)
 
   -- and that state can be written down
-  pub held-writable : Writable (a .count) (stateOf a)
+  pub held-writable : Writable original (a .count) (stateOf a)
   held-writable = record {
     behind = λ x i p h. by-cases (decLt i 32)
         (λ l. List·getD-eq-default (labelRow a x i) 1 (omega (arith, label-long x i l)))
@@ -240,7 +248,8 @@ module _ (a : Arrays) (g : Shaped a) (e : wellFormed a ≡ true) where
     rest = record {
       listed = λ i. entries-listed (a .count) (rowsAt a i);
       phase = λ i. number-kept (cell (a .control) 0 i 0);
-      past = λ i h. by-cases (decLt i 32) (λ l. unused i h l) (λ l. missing i (omega arith));
+      past = λ i h. by-cases (decLt i 32) (λ l. unused i h l .0) (λ l. missing i (omega arith) .0);
+      unused = λ i h. by-cases (decLt i 32) (λ l. unused i (omega arith) l .1) (λ l. missing i (omega arith) .1);
     };
   }
     where
@@ -252,27 +261,27 @@ module _ (a : Arrays) (g : Shaped a) (e : wellFormed a ≡ true) where
       label-none false i l = List·getD-eq-default (getD (a .labels) 0 []) [] (omega (arith, g .labels .each 0 (omega arith)))
       label-none true i l = List·getD-eq-default (getD (a .labels) 1 []) [] (omega (arith, g .labels .each 1 (omega arith)))
 
-      unused : (i : ℕ) → a .count ≤ i → i < 32 → Unused (restOf a) i
-      unused i h l = let f = passed a e .rest i h l in record {
-        process = λ y. record { job = f .job y; pendingJob = f .pendingJob y; phase = phaseFor (f .phase y); out = outFor (f .out y) };
-        result = none-held (a .count) (rowsAt a i) (λ p u. fresh-cells (rowsAt a i) (f .result) p (omega (arith, high)) .0);
-      }
+      unused : (i : ℕ) → a .count ≤ i → i < 32 → (restOf a .process i ≡ freshRest .process i) × (restOf a .result i ≡ freshRest .result i)
+      unused i h l = let f = passed a e .rest i h l in (
+        (λ y. record { job = f .job y; pendingJob = f .pendingJob y; phase = phaseFor (f .phase y); out = outFor (f .out y) }),
+        none-held (a .count) (rowsAt a i) (λ p u. fresh-cells (rowsAt a i) (f .result) p (omega (arith, high)) .0),
+      )
 
       none : (xs : Rows) (f i : ℕ) → length (getD xs f []) ≡ 32 → 32 ≤ i → cell xs f i 0 ≡ 0
       none xs f i h l = List·getD-eq-default (getD xs f []) 0 (omega arith)
 
-      missing : (i : ℕ) → 32 ≤ i → Unused (restOf a) i
-      missing i l = record {
-        process = λ y. record {
+      missing : (i : ℕ) → 32 ≤ i → (restOf a .process i ≡ freshRest .process i) × (restOf a .result i ≡ freshRest .result i)
+      missing i l = (
+        (λ y. record {
           job = none (a .jobs) 0 i (g .jobs .each 0 (omega arith)) l y;
           pendingJob = none (a .jobs) 1 i (g .jobs .each 1 (omega arith)) l y;
           phase = phaseFor (none (a .control) 0 i (g .control .each 0 (omega arith)) l y);
           out = outFor (none (a .control) 1 i (g .control .each 1 (omega arith)) l y);
-        };
-        result = ap (resultOf (a .count)) (List·getD-eq-default (a .results) [] (omega (arith, g .results .long))) ∙ none-held (a .count) [] (λ p _. refl);
-      }
+        }),
+        ap (resultOf (a .count)) (List·getD-eq-default (a .results) [] (omega (arith, g .results .long))) ∙ none-held (a .count) [] (λ p _. refl),
+      )
 
   -- so a step leaves arrays that hold the state which the machine leaves, from any well-formed table, reached or not
-  pub step-held : (c : Call) → let n = a .count in stateOf (stepOf lent a c .table) ≡ step original n (digits n) (stateOf a) c .state
+  pub step-held : (c : Call) → let n = a .count in stateOf (stepOf lent a c .table) ≡ step original n (digits original n) (stateOf a) c .state
   step-held c = ap (λ (x : TableAnswer Arrays). stateOf (x .table)) (step-written lent a c e)
-      ∙ held-written (a .count) high _ (writable-step (a .count) high (stateOf a) held-writable c (newest-station a e))
+      ∙ held-written (a .count) high _ (writable-step original (a .count) (original-sized (a .count) (passed a e .low) high) (stateOf a) held-writable c (newest-station a e))

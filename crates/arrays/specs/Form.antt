@@ -1,5 +1,5 @@
 -- The arrays as a form in which a table keeps a state.
-use Rattle.simulation.specs.Machine.{original}
+use Rattle.simulation.specs.Calls.{original}
 use Rattle.transition.specs.Forms.{Form}
 use Rattle.arrays.specs.Arrays.{Arrays, stateOf, arraysOf}
 use Rattle.arrays.specs.WellFormed.{wellFormed}

@@ -12,13 +12,13 @@ use lib.Seq.{take-at}
 use borrow.Author.Tests.{ne-eqb}
 use Rattle.basics.specs.Tests.{newest, ordered, tabulate}
 use Rattle.basics.proofs.Facts.{by-here, tabulate-same, getD-tabulate, set-tabulate, ordered-length}
-use native.Mathlib.Nat.{zero-add}
+use native.Mathlib.Nat.{div-one, zero-add}
 use Rattle.label.specs.Labels as Labels
 use Rattle.label.specs.Labels.{newLabel}
 use Rattle.label.specs.Rows.{row}
 use Rattle.rows.specs.Held.{pendingIn}
 use Rattle.simulation.specs.Calls as Calls
-use Rattle.simulation.specs.Calls.{Label, Scan, Idle, Update, End, Process, Rest}
+use Rattle.simulation.specs.Calls.{stationOf, Label, Scan, Idle, Update, End, Process, Rest, original}
 use Rattle.simulation.specs.Machine.{Labelling, digits, stands, pendingAfter, LabelStep, stay, snap, update, labelStep, relabelled, inPhase, begun, updated}
 use Rattle.simulation.specs.Machine.{setOut, changed, stored, scanOf, Outcome, carryOut}
 use Rattle.simulation.proofs.Labellings.{here-yes}
@@ -73,7 +73,7 @@ module _ {n : ℕ} {l : Planes} {m : Move} {k z : ℕ} (s : PreparedLabels n l m
   rows = getD l 0 []
 
   abbrev labelsFor : LabelStep → Planes
-  labelsFor w = labelsOf (relabelled n (digits n) labels w)
+  labelsFor w = labelsOf (relabelled n (digits original n) labels w)
 
   low : k < 32
   low = omega (arith, s .inside, s .orderly .high)
@@ -82,14 +82,14 @@ module _ {n : ℕ} {l : Planes} {m : Move} {k z : ℕ} (s : PreparedLabels n l m
   pending-own = sym (ap (λ (p : Planes). cell p 1 k []) (s .exact) ∙ getD-tabulate 32 0 k (λ i. row 31 (labels true i)) [] low
       ∙ ap (λ i. row 31 (labels true i)) (zero-add k))
 
-  pending-row : pendingIn n rows k (cell l 1 k []) ≡ row 31 (pendingAfter n (digits n) labels k)
+  pending-row : pendingIn n rows k (cell l 1 k []) ≡ row 31 (pendingAfter n (digits original n) labels k)
   unfolding pendingIn pendingAfter
   pending-row = by-here (λ b. cond b (cell l 1 k []) (row 31 new) ≡ row 31 (cond b (labels true k) new)) top k
       (λ _. sym pending-own)
       (λ _. refl)
     where
       top : ℕ
-      top = newest n (stands (digits n) labels)
+      top = newest n (stands (digits original n) labels)
 
       new : Labels.Label
       new = newLabel (n - 1) 1 (labels false) top k
@@ -101,13 +101,13 @@ module _ {n : ℕ} {l : Planes} {m : Move} {k z : ℕ} (s : PreparedLabels n l m
   pub labels-snap : {p : Lists.List ℕ} → p ≡ pendingIn n rows k (cell l 1 k []) → put l 1 k p ≡ labelsFor (snap k)
   unfolding relabelled
   labels-snap q = ap₂ (λ x p. put x 1 k p) (s .exact) (q ∙ pending-row)
-      ∙ put-pending (λ y i. row 31 (labels y i)) (λ y i. row 31 (relabelled n (digits n) labels (snap k) y i)) k _ low
+      ∙ put-pending (λ y i. row 31 (labels y i)) (λ y i. row 31 (relabelled n (digits original n) labels (snap k) y i)) k _ low
       (rw (here-yes k) refl) (λ i d. rw (ne-eqb i k d) refl) (λ i. refl)
 
   pub labels-update : put l 0 k (cell l 1 k []) ≡ labelsFor (update k)
   unfolding relabelled
   labels-update = ap₂ (λ x p. put x 0 k p) (s .exact) (sym pending-own)
-      ∙ put-current (λ y i. row 31 (labels y i)) (λ y i. row 31 (relabelled n (digits n) labels (update k) y i)) k _ low
+      ∙ put-current (λ y i. row 31 (labels y i)) (λ y i. row 31 (relabelled n (digits original n) labels (update k) y i)) k _ low
       (rw (here-yes k) refl) (λ i d. rw (ne-eqb i k d) refl) (λ i. refl)
 
 -- THE REST
@@ -178,15 +178,16 @@ module _ {n : ℕ} {jobs control : Rows} {results : Planes} {x : Task} {order : 
   abbrev scan : Lists.List Calls.Entry
   scan = scanOf (o .process) (take n order)
 
-  results-scanned : {q : Rows} → q ≡ scanRows n order here → set results k q ≡ resultsOf (stored (changed o k (inPhase (End Scan))) k scan)
+  results-scanned : {q : Rows} → q ≡ scanRows n order here → set results k q ≡ resultsOf (stored (changed o k (inPhase (End Scan))) (stationOf original k) scan)
   results-scanned e = ap₂ (λ r q. set r k q) (s .holds .results) (e ∙ ap resultRows (scan-alike here (o .process) (λ i. refl) (λ i. refl) (take n order)))
       ∙ set-tabulate 32 k _ (λ i. resultRows (o .result i)) _ place-low (rw (here-yes k) refl) (λ i _ d. rw (ne-eqb i k d) refl)
+      ∙ ap (λ g. resultsOf (stored (changed o k (inPhase (End Scan))) g scan)) (sym (div-one k))
 
   -- THE MOVES
 
   -- a task is carried out if its move is
   abbrev After : Move → Outcome
-  After m = carryOut (take n order) o (moveOf k (x .job) m)
+  After m = carryOut original (take n order) o (moveOf k (x .job) m)
 
   carried : {m : Move} {j c : Rows} {r : Planes} {h h′ : Handed} → x .action ≡ m → h ≡ h′ → Holds (After m .rest) j c r
       → (refusalNumber (h′ .refusal) ≡ After m .refusal) × (h′ .place ≡ k) × (h′ .entries ≡ handsOut (x .shown) m) → After m .handed ≡ entriesIn (h′ .entries) (getD r k [])
@@ -257,16 +258,17 @@ module _ {n : ℕ} {jobs control : Rows} {results : Planes} {x : Task} {order : 
   pub ends-scan : {h : Handed} → x .action ≡ EndScan → h ≡ record { refusal = Accepted; place = k; entries = x .shown }
       → CarriesRest (restAfter n jobs control results x order) x jobs (put control 0 k 0) results h
   unfolding carryOut
-  ends-scan e d = carried e d (rephased Idle) (refl, refl, refl) (ap (λ j. entriesIn j (getD results k [])) (sym (s .isShown e))) (s .named e)
+  ends-scan e d = carried e d (rephased Idle) (refl, refl, refl)
+      (ap (o .result) (div-one k) ∙ ap (λ j. entriesIn j (getD results k [])) (sym (s .isShown e))) (s .named e)
 
 -- BOTH, on a well-formed table
 
 -- a move that is no snap for a scan asks for no order
 order-unused : (order order′ : Lists.List ℕ) (o : Rest) (k job : ℕ) (m : Move) → (m ≡ SnapScan → order ≡ order′)
-    → carryOut order o (moveOf k job m) ≡ carryOut order′ o (moveOf k job m)
+    → carryOut original order o (moveOf k job m) ≡ carryOut original order′ o (moveOf k job m)
 unfolding carryOut
-order-unused order order′ o k job = by-move (λ m. (m ≡ SnapScan → order ≡ order′) → carryOut order o (moveOf k job m) ≡ carryOut order′ o (moveOf k job m))
-    (λ x f. refl) (λ f. refl) (λ f. refl) (λ f. ap (λ l. carryOut l o (moveOf k job SnapScan)) (f refl)) (λ f. refl) (λ f. refl) (λ f. refl) (λ f. refl)
+order-unused order order′ o k job = by-move (λ m. (m ≡ SnapScan → order ≡ order′) → carryOut original order o (moveOf k job m) ≡ carryOut original order′ o (moveOf k job m))
+    (λ x f. refl) (λ f. refl) (λ f. refl) (λ f. ap (λ l. carryOut original l o (moveOf k job SnapScan)) (f refl)) (λ f. refl) (λ f. refl) (λ f. refl) (λ f. refl)
     (λ f. refl)
 
 module _ {a : Arrays} {x : Task} {order : Lists.List ℕ} (s : Prepared a x order) (g : Shaped a) where
@@ -292,16 +294,16 @@ module _ {a : Arrays} {x : Task} {order : Lists.List ℕ} (s : Prepared a x orde
   }
 
   -- the order that a scan is given is that of the labels
-  same-order : x .action ≡ SnapScan → take count order ≡ ordered count (stands (digits count) (labelsIn (a .labels)))
-  same-order e = let b = stands (digits count) (labelsIn (a .labels)) in
+  same-order : x .action ≡ SnapScan → take count order ≡ ordered count (stands (digits original count) (labelsIn (a .labels)))
+  same-order e = let b = stands (digits original count) (labelsIn (a .labels)) in
       ap (take count) (s .isOrder e) ∙ take-at (ordered count b) (replicate (32 - count) 0) count (ordered-length b count)
 
   pub carries : {l : Planes} {j c : Rows} {r : Planes} {h : Handed}
-      → ((job : ℕ) → l ≡ labelsOf (relabelled count (digits count) (labelsIn (a .labels)) (labelStep (moveOf (x .place) job (x .action)))))
+      → ((job : ℕ) → l ≡ labelsOf (relabelled count (digits original count) (labelsIn (a .labels)) (labelStep (moveOf (x .place) job (x .action)))))
       → CarriesRest (restAfter count (a .jobs) (a .control) (a .results) x order) x j c r h → Carries a x (arrays count l j c r) h
   unfolding arraysOf
   carries {l} {j} {c} {r} {h} labelled f =
-      let t = order-unused (take count order) (ordered count (stands (digits count) (labelsIn (a .labels)))) (restOf a) (x .place) (x .job) (x .action) same-order in
+      let t = order-unused (take count order) (ordered count (stands (digits original count) (labelsIn (a .labels)))) (restOf a) (x .place) (x .job) (x .action) same-order in
       let held = subst (λ (y : Outcome). Holds (y .rest) j c r) t (f .holds) in (
         record {
           table = λ y. arrays count (labelled (x .job) y) (held .jobs y) (held .control y) (held .results y);

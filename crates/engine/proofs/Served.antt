@@ -1,5 +1,6 @@
 -- A task that has been judged and carried out is the step call that was made; and what it asks for, a well-formed table has.
 use Prim.Native.Nat.{ℕ, _-_, _*_, _≤_, _<_}
+use native.Mathlib.Nat.{div-one}
 use native.Mathlib.Omega.{arith}
 use mathlib.Core.Path.{_≡_, refl, sym, ap, subst, _∙_}
 use mathlib.Core.Bool.{Bool, true, false, not, cond}
@@ -14,9 +15,9 @@ use Rattle.label.specs.Labels.{holders}
 use Rattle.rows.specs.Held.{held, standsIn, Orderly}
 use Rattle.rows.proofs.OrderLaws.{listed-below, order-front}
 use Rattle.simulation.specs.Calls as Calls
-use Rattle.simulation.specs.Calls.{Room, Call, place, Entry, holds, judgeIn, judge, PanelRecord, reportLines, panelRecords, Report, size, written}
+use Rattle.simulation.specs.Calls.{Room, Call, place, standing, Entry, holds, judgeIn, judge, PanelRecord, reportLines, panelRecords, Report, size, written, original}
 use Rattle.simulation.specs.Machine.{digits, labelsAfter, answer, step}
-use Rattle.simulation.proofs.Judged.{Verdict, turned, begins, scans, updates, snaps, ends, service, judge-unknown-station, scan-ends, verdict}
+use Rattle.simulation.proofs.Judged.{single-alone, Verdict, turned, begins, beginsScan, scans, updates, snaps, ends, service, judge-unknown-station, scan-ends, verdict}
 use Rattle.simulation.proofs.Reports.{records-length}
 use Rattle.transition.specs.Forms.{Form, TableAnswer, over, onto, answered, stepOf}
 use Rattle.transition.specs.Questions.{topHolders, Tells}
@@ -32,7 +33,7 @@ use Rattle.arrays.specs.Sizes.{Shaped}
 use Rattle.arrays.proofs.Passed.{passed, label-digits}
 use Rattle.arrays.proofs.States.{number-back, written-held}
 use Rattle.engine.specs.Scans.{orderOf}
-use Rattle.engine.specs.Contracts.{actionOf, Prepared, PreparedRest, handsOut, due, outcomeOf, Named, Carries, Judges, Hands}
+use Rattle.engine.specs.Contracts.{actionOf, Prepared, PreparedRest, handsOut, due, outcomeOf, Named, Carries, Judges, Hands, standingFor}
 use Rattle.engine.specs.Contracts.{rowOf, recordOf}
 use Rattle.engine.proofs.Reports.{result-length, records-read}
 use Rattle.moves.specs.declared.Move.{Move}
@@ -47,11 +48,12 @@ pub orderly : (a : Arrays) → wellFormed a ≡ true → Orderly (a .count) (get
 orderly a e = let p = passed a e in record { low = p .low; high = p .high; valid = λ i l q h. label-digits a e false i q l h; free = p .free }
 
 -- a call is judged by the entries that are due as by all that its process has: where none are due, none are asked for
-due-same : (n k : ℕ) (out : Bool) (b : ℕ) (c : Call) → b ≤ 4 → judgeIn false n (due b k) out (phaseFor b) c ≡ judgeIn false n k out (phaseFor b) c
+due-same : (n k : ℕ) (out : Bool) (b : ℕ) (c : Call) → b ≤ 4
+    → judgeIn original n (standingFor (phaseFor b) out (due b k)) c ≡ judgeIn original n (standingFor (phaseFor b) out k) c
 unfolding judgeIn
-due-same n k out b c h = ap (λ x. judgeIn false n (due x k) out (phaseFor b) c) (sym (number-back b h)) ∙ go (phaseFor b)
+due-same n k out b c h = ap (λ x. judgeIn original n (standingFor (phaseFor b) out (due x k)) c) (sym (number-back b h)) ∙ go (phaseFor b)
   where
-    go : (ph : Calls.Phase) → judgeIn false n (due (phaseNumber ph) k) out ph c ≡ judgeIn false n k out ph c
+    go : (ph : Calls.Phase) → judgeIn original n (standingFor ph out (due (phaseNumber ph) k)) c ≡ judgeIn original n (standingFor ph out k) c
     go Calls.Idle = refl
     go (Calls.Snap o) = refl
     go Calls.Update = refl
@@ -75,10 +77,11 @@ Roomy k room (Calls.Move.ends i Calls.Label) = Unit {0}
 Roomy k room (Calls.Move.ends i Calls.Scan) = holds room k ≡ true
 Roomy k room (Calls.Move.setsOut i b) = Unit {0}
 
-roomy : {n k : ℕ} {c : Call} {out : Bool} {ph : Calls.Phase} {w : Calls.Move} → Verdict n k c out ph w → Roomy k (c .room) w
+roomy : {n : ℕ} {t : Calls.Standing} {c : Call} {w : Calls.Move} → Verdict original n t c w → Roomy (t .shown) (c .room) w
 roomy (turned x f) = tt
-roomy (begins own q) = tt
-roomy (scans own q) = tt
+roomy (begins own f) = tt
+roomy (beginsScan own f e) = tt
+roomy (scans own f e) = tt
 roomy (updates own q) = tt
 roomy (snaps own o q t) = tt
 roomy (ends own Calls.Label q f) = tt
@@ -129,10 +132,10 @@ module _ (n : ℕ) (low : 2 ≤ n) (jobs control : Rows) (results : Planes) (kno
 
   shown-all : x .action ≡ EndScan → x .shown ≡ shownHere
   shown-all e = j .shown ∙ ap (λ b. due b shownHere) (sym (number-back number phase-low)
-      ∙ ap phaseNumber (scan-ends (verdict n (x .shown) call out ph) (sym (j .action) ∙ ap (moveOf (x .place) (q .job)) e)))
+      ∙ ap phaseNumber (scan-ends (verdict original n (standingFor ph out (x .shown)) call) (sym (j .action) ∙ ap (moveOf (x .place) (q .job)) e)))
 
   job-fits : x .action ≡ BeginLabel → x .job ≤ 4294967295
-  job-fits e = subst (λ k. k ≤ 4294967295) (sym (j .job)) (begun-job n (x .shown) out ph call (x .place) (x .action) (j .action) e)
+  job-fits e = subst (λ k. k ≤ 4294967295) (sym (j .job)) (begun-job n (standingFor ph out (x .shown)) call (x .place) (x .action) (j .action) e)
 
   -- what carrying out asks for of what is not labels
   pub rest-ready : (order : Lists.List ℕ) → Holds (restIn n jobs control results) jobs control results → n ≤ 32
@@ -148,27 +151,34 @@ module _ (n : ℕ) (low : 2 ≤ n) (jobs control : Rows) (results : Planes) (kno
   }
 
   -- the move is the one that the machine judges
-  pub rest-judged : actionOf x ≡ judge false n (restIn n jobs control results) call
+  pub rest-judged : actionOf x ≡ judge original n (restIn n jobs control results) call
   rest-judged = ap (λ v. moveOf (x .place) v (x .action)) (j .job) ∙ j .action ∙ go (within 1 n (q .station)) refl
     where
       o : Calls.Rest
       o = restIn n jobs control results
 
       at : ℕ → Calls.Move
-      at i = judgeIn false n (length (o .result i)) (o .process i .out) (o .process i .phase) call
+      at i = judgeIn original n (standingFor (o .process i .phase) (o .process i .out) (length (o .result i))) call
 
-      go : (b : Bool) → within 1 n (q .station) ≡ b → judgeIn false n (x .shown) out ph call ≡ judge false n o call
-      go true e = ap (λ k. judgeIn false n k out ph call) (j .shown) ∙ due-same n shownHere out number call phase-low
-          ∙ ap (λ k. judgeIn false n k out ph call) (sym (length-tabulate shownHere 0 _)) ∙ ap at (j .place ∙ rw e refl)
-      go false e =
-          let s = judge-unknown-station n call e in
-          let p = o .process (place call) in
-          s .1 (x .shown) out ph ∙ sym (s .1 _ (p .out) (p .phase))
+      -- its station is itself, and has no other
+      own : (i : ℕ) → standingFor (o .process i .phase) (o .process i .out) (length (o .result i)) ≡ standing original n o i
+      own i y = record {
+        phase = o .process i .phase;
+        out = o .process i .out;
+        shown = length (o .result (sym (div-one i) y));
+        alone = sym (single-alone original n o i refl) y;
+      }
+
+      go : (b : Bool) → within 1 n (q .station) ≡ b → judgeIn original n (standingFor ph out (x .shown)) call ≡ judge original n o call
+      go true e = ap (λ k. judgeIn original n (standingFor ph out k) call) (j .shown) ∙ due-same n shownHere out number call phase-low
+          ∙ ap (λ k. judgeIn original n (standingFor ph out k) call) (sym (length-tabulate shownHere 0 _)) ∙ ap at (j .place ∙ rw e refl)
+          ∙ ap (λ t. judgeIn original n t call) (own (place call))
+      go false e = let s = judge-unknown-station original n call e in s .1 _ ∙ sym (s .1 _)
 
   -- there is room for what it hands out
   pub has-room : holds room (handsOut (x .shown) (x .action)) ≡ true
   has-room = room-shown (x .shown) (x .place) (q .job) room (x .action)
-      (subst (Roomy (x .shown) room) (sym (j .action)) (roomy (verdict n (x .shown) call out ph)))
+      (subst (Roomy (x .shown) room) (sym (j .action)) (roomy (verdict original n (standingFor ph out (x .shown)) call)))
 
 -- on a well-formed table
 module _ (a : Arrays) (ok : wellFormed a ≡ true) (q : Request) (room : Room) (top : ℕ) (x : Task)
@@ -197,7 +207,7 @@ module _ (a : Arrays) (ok : wellFormed a ≡ true) (q : Request) (room : Room) (
         ∙ ap (λ i. shownIn (a .count) (cell (a .results) i 0 [])) (sym k);
   }
 
-  pub judged : actionOf x ≡ judge false (a .count) (restOf a) c
+  pub judged : actionOf x ≡ judge original (a .count) (restOf a) c
   judged = rest-judged (a .count) (passed a ok .low) (a .jobs) (a .control) (a .results) known q room top x j
 
   -- so carrying it out is the step call
@@ -205,8 +215,8 @@ module _ (a : Arrays) (ok : wellFormed a ≡ true) (q : Request) (room : Room) (
   unfolding step
   served {a′} {r} f =
       let p = f .0 in
-      let s : answered lent (a .count) (answer c (labelsAfter n (digits n) (stateOf a) (actionOf x)) (outcomeOf a (actionOf x))) ≡ stepOf lent a c
-      = (λ y. answered lent n (answer c (labelsAfter n (digits n) (stateOf a) (judged y)) (outcomeOf a (judged y)))) ∙ sym (step-written lent a c ok) in
+      let s : answered lent (a .count) (answer c (labelsAfter n (digits original n) (stateOf a) (actionOf x)) (outcomeOf a (actionOf x))) ≡ stepOf lent a c
+      = (λ y. answered lent n (answer c (labelsAfter n (digits original n) (stateOf a) (judged y)) (outcomeOf a (judged y)))) ∙ sym (step-written lent a c ok) in
       record {
         table = p .table ∙ ap (λ (u : TableAnswer Arrays). u .table) s;
         number = p .number ∙ ap (λ (u : TableAnswer Arrays). u .refusal) s;

@@ -1,7 +1,7 @@
 -- What the contracts of the engine say.
 use Prim.Native.Nat.{ℕ, _≤_, _<_}
 use mathlib.Core.Path.{_≡_}
-use mathlib.Core.Bool.{true, false, cond}
+use mathlib.Core.Bool.{Bool, true, cond}
 use mathlib.Core.List as Lists
 use mathlib.Core.List.{[], _∷_}
 use lib.ListN.{length, getD, take}
@@ -10,7 +10,7 @@ use Rattle.basics.specs.Tests.{newest}
 use Rattle.label.specs.Labels as Labels
 use Rattle.rows.specs.Held.{standsIn, Orderly}
 use Rattle.simulation.specs.Calls as Calls
-use Rattle.simulation.specs.Calls.{Room, Call, holds, judgeIn, PanelRecord, written}
+use Rattle.simulation.specs.Calls.{Room, Call, holds, judgeIn, PanelRecord, written, original}
 use Rattle.simulation.specs.Machine as Machine
 use Rattle.simulation.specs.Machine.{digits, State, labelsAfter, outcome, carryOut}
 use Rattle.transition.specs.Forms.{stepOf}
@@ -81,10 +81,10 @@ due number k = cond (eqb number 4) k 0
 
 -- what the machine makes of the state that the arrays hold: the state after a move, and the outcome for what is not labels
 abbrev pub outcomeOf : Arrays → Calls.Move → Machine.Outcome
-outcomeOf a w = outcome (a .count) (digits (a .count)) (stateOf a) w
+outcomeOf a w = outcome original (a .count) (digits original (a .count)) (stateOf a) w
 
 abbrev pub stateAfter : Arrays → Calls.Move → State Labels.Label
-stateAfter a w = record { labels = labelsAfter (a .count) (digits (a .count)) (stateOf a) w; rest = outcomeOf a w .rest }
+stateAfter a w = record { labels = labelsAfter (a .count) (digits original (a .count)) (stateOf a) w; rest = outcomeOf a w .rest }
 
 -- the move w of the process at place k, carried out on the arrays a: the arrays left, the refusal, and the entries of the result there, all of it
 pub record Performs (a : Arrays) (k : ℕ) (w : Calls.Move) (a′ : Arrays) (r : Handed) : Type 0 where
@@ -96,7 +96,7 @@ pub record Performs (a : Arrays) (k : ℕ) (w : Calls.Move) (a′ : Arrays) (r :
 -- a task carried out on what is not labels, where the n processes stand in this order: what the arrays hold then, the refusal, and the entries of the result
 -- at its place
 abbrev pub restAfter : ℕ → Rows → Rows → Planes → Task → Lists.List ℕ → Machine.Outcome
-restAfter n jobs control results x order = carryOut (take n order) (restIn n jobs control results) (actionOf x)
+restAfter n jobs control results x order = carryOut original (take n order) (restIn n jobs control results) (actionOf x)
 
 pub record CarriesRest (o : Machine.Outcome) (x : Task) (jobs control : Rows) (results : Planes) (r : Handed) : Type 0 where
   pub holds : Holds (o .rest) jobs control results
@@ -111,12 +111,16 @@ abbrev pub Carries : Arrays → Task → Arrays → Handed → Type 0
 Carries a x a′ r =
     Performs a (x .place) (actionOf x) a′ r × (r .entries ≡ handsOut (x .shown) (x .action)) × Named (r .entries) (getD (a′ .results) (x .place) [])
 
+-- what a call is judged by, where a station has one process
+abbrev pub standingFor : Calls.Phase → Bool → ℕ → Calls.Standing
+standingFor ph out shown = record { phase = ph; out = out; shown = shown; alone = true }
+
 -- the call that q makes, judged on a table of n stations with these control bytes and results, room for its report and newest station: the task x
 pub record Judges (n : ℕ) (control : Rows) (results : Planes) (q : Request) (room : Room) (top : ℕ) (x : Task) : Type 0 where
   pub place : x .place ≡ placeOf n (q .station)
   pub shown : x .shown ≡ due (cell control 0 (x .place) 0) (shownIn n (cell results (x .place) 0 []))
   pub action : moveOf (x .place) (q .job) (x .action)
-      ≡ judgeIn false n (x .shown) (outFor (cell control 1 (x .place) 0)) (phaseFor (cell control 0 (x .place) 0)) (callOf q room)
+      ≡ judgeIn original n (standingFor (phaseFor (cell control 0 (x .place) 0)) (outFor (cell control 1 (x .place) 0)) (x .shown)) (callOf q room)
   pub job : x .job ≡ q .job
   pub newest : x .newest ≡ top
 

@@ -7,7 +7,7 @@ ghost use Prim.Native.Nat.{ℕ, _*_, _≤_, _<_};
 ghost use lib.ListN.{length, getD, replicate};
 ghost use Rattle.basics.specs.Tests.{newest};
 ghost use Rattle.rows.specs.Held.{standsIn, Orderly};
-ghost use Rattle.simulation.specs.Calls.{Buffer, Panel, reportLines, panelRecords, Bytes, Records};
+ghost use Rattle.simulation.specs.Calls.{Buffer, Panel, reportLines, panelRecords, Bytes, Records, original};
 ghost use Rattle.simulation.specs.Machine.{digits, labelStep, relabelled};
 ghost use Rattle.transition.specs.Forms.{over};
 ghost use Rattle.transition.specs.Questions.{Tells};
@@ -151,7 +151,7 @@ fn accepted(place: usize, entries: usize) -> Handed
 // What a move of the station at a place makes of the labels of n stations; z is the newest of them, where the move asks for it.
 fn relabel(m: Move, place: usize, z: usize, n: usize, labels: &mut Labels)
     requires { ⌜ PreparedLabels n (now labels) m place z ⌝ }
-    ensures { λ _. ⌜ ((job : ℕ) → now (labels .exit) ≡ labelsOf (relabelled n (digits n) (labelsIn (now (labels .entry))) (labelStep (moveOf place job m)))) ⌝ }
+    ensures { λ _. ⌜ ((job : ℕ) → now (labels .exit) ≡ labelsOf (relabelled n (digits original n) (labelsIn (now (labels .entry))) (labelStep (moveOf place job m)))) ⌝ }
 {
     match m {
         Move::SnapLabel => {

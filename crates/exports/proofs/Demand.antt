@@ -7,6 +7,7 @@ use mathlib.Core.List as Lists
 use Rattle.basics.specs.Tests.{within}
 use Rattle.basics.proofs.Facts.{within-true}
 use Rattle.transition.specs.Sequences.{Made, Sequence, SequenceDemand}
+use Rattle.transition.proofs.Written.{original-sized}
 use Rattle.transition.proofs.Sequences.{sequence-demand}
 use Rattle.arrays.specs.Arrays.{Arrays}
 use Rattle.arrays.specs.Form.{lent}
@@ -18,7 +19,7 @@ pub exported-demand : (n : ℕ) (a a′ : Arrays) → Starts n a a′ 0 → (xs 
 exported-demand n a a′ f xs q =
     let e = made (within 2 32 n) refl in
     let b = within-true 2 32 n e in
-    sequence-demand lent lent-lawful n (b .0) (b .1) xs (subst (λ (y : Arrays). Sequence lent y xs) (f .table ∙ rw e refl) q)
+    sequence-demand lent lent-lawful n (original-sized n (b .0) (b .1)) xs (subst (λ (y : Arrays). Sequence lent y xs) (f .table ∙ rw e refl) q)
   where
     made : (v : Bool) → within 2 32 n ≡ v → within 2 32 n ≡ true
     made true e = e

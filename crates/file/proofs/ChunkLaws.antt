@@ -19,6 +19,7 @@ use Rattle.moves.specs.declared.Refusal.the-variants.{Accepted}
 use Rattle.arrays.specs.Arrays.{Arrays}
 use Rattle.arrays.specs.WellFormed.{wellFormed}
 use Rattle.arrays.specs.Form.{lent}
+use Rattle.schedule.specs.Tables.{tables}
 use Rattle.schedule.specs.Lines.{nextLine}
 use Rattle.schedule.specs.Sessions.{Session, session, Served}
 use Rattle.schedule.specs.Files.{cut, printed, behind, runLines}
@@ -32,7 +33,7 @@ use Rattle.file.specs.Contracts.{Prints, readLines, Reports}
 -- a line that leaves the buffer as long as it was printed no more than that
 pub prints-short : {a a′ : Arrays} {c : Call} {n : ℕ} {buffer buffer′ : Lists.List ℕ} → Prints a c buffer a′ n buffer′ → length buffer′ ≡ length buffer
     → n ≤ length buffer
-prints-short {a} {a′} {c} {n} {buffer} {buffer′} f h = omega (arith, f .count, over-short (shownOf lent a c) buffer buffer′ (f .report) h)
+prints-short {a} {a′} {c} {n} {buffer} {buffer′} f h = omega (arith, f .count, over-short (shownOf (tables lent) a c) buffer buffer′ (f .report) h)
 
 -- PLACES
 
@@ -66,7 +67,7 @@ module _ (chunk : Lists.List ℕ) {at : ℕ} (h : at < length chunk) {l : Lists.
 
 -- after k lines none is refused for good, and there is room for another
 abbrev Goes : Session Arrays → Lists.List ℕ → ℕ → ℕ → Type 0
-Goes s chunk room k = (runLines lent s (cut k chunk) .refusal ≡ 0) × (length (runLines lent s (cut k chunk) .bytes) + 928 ≤ room)
+Goes s chunk room k = (runLines (tables lent) s (cut k chunk) .refusal ≡ 0) × (length (runLines (tables lent) s (cut k chunk) .bytes) + 928 ≤ room)
 
 pub record Sofar (s : Session Arrays) (chunk out₀ : Lists.List ℕ) (a : Arrays) (lines written at : ℕ) (out : Lists.List ℕ) : Type 0 where
   pub whole : Starts chunk at
@@ -77,7 +78,7 @@ pub record Sofar (s : Session Arrays) (chunk out₀ : Lists.List ℕ) (a : Array
   pub bytes : Lists.List ℕ
   pub long : written ≡ length bytes
   pub area : out ≡ over bytes out₀
-  pub runs : runLines lent s (cut (readLines at) chunk) ≡ record { session = session lines Accepted a; refusal = 0; bytes = bytes }
+  pub runs : runLines (tables lent) s (cut (readLines at) chunk) ≡ record { session = session lines Accepted a; refusal = 0; bytes = bytes }
   pub goes : (k : ℕ) → k < readLines at → Goes s chunk (length out₀) k
 
 pub sofar-start : (lines : ℕ) (a : Arrays) (chunk out : Lists.List ℕ) → Sofar (session lines Accepted a) chunk out a lines 0 0 out
@@ -128,12 +129,12 @@ module _ {s : Session Arrays} {chunk out₀ : Lists.List ℕ} {a : Arrays} {line
       put x short = rw (f .area, e, f .long) (put-over (f .bytes) x out₀ 928 short (omega (arith, f .long, as-long, room-here)))
 
       -- one line more
-      runs-on : (o : Served Arrays) → runLines lent (session lines Accepted a) (l ∷ []) ≡ o
-          → runLines lent s (cut (readLines (at + length l)) chunk) ≡ behind (f .bytes) o
+      runs-on : (o : Served Arrays) → runLines (tables lent) (session lines Accepted a) (l ∷ []) ≡ o
+          → runLines (tables lent) s (cut (readLines (at + length l)) chunk) ≡ behind (f .bytes) o
       runs-on o q =
-          ap (runLines lent s) (line-cut chunk h p (f .whole))
-          ∙ run-append lent (cut (readLines at) chunk) (l ∷ []) s
-          ∙ ap (λ x. behind (x .bytes) (runLines lent (x .session) (l ∷ []))) (f .runs)
+          ap (runLines (tables lent) s) (line-cut chunk h p (f .whole))
+          ∙ run-append (tables lent) (cut (readLines at) chunk) (l ∷ []) s
+          ∙ ap (λ x. behind (x .bytes) (runLines (tables lent) (x .session) (l ∷ []))) (f .runs)
           ∙ ap (behind (f .bytes)) q
 
       goes-on : (j : ℕ) → j < readLines (at + length l) → Goes s chunk (length out₀) j
@@ -152,7 +153,7 @@ module _ {s : Session Arrays} {chunk out₀ : Lists.List ℕ} {a : Arrays} {line
           record {
             whole = line-starts chunk h p (f .whole);
             bytes = f .bytes ++ told;
-            runs = runs-on _ (run-refused lent (session lines Accepted a) l refl ok r q);
+            runs = runs-on _ (run-refused (tables lent) (session lines Accepted a) l refl ok r q);
             written = omega (arith, b, f .long, length-append (f .bytes) told);
             report = rw c (put told (omega (arith, low)));
             goes = goes-on;
@@ -167,7 +168,7 @@ module _ {s : Session Arrays} {chunk out₀ : Lists.List ℕ} {a : Arrays} {line
           → Sofar s chunk out₀ a′ (lines + 1) (written + n) (at + 18) (putMid written k out x)
       sofar-more {q} z {a′} {n} {x} g y =
           let full : length l ≡ 18 = omega (arith, line-length chunk h p, z .within) in
-          let b = shownOf lent a (callOf q (Buffer 928)) in
+          let b = shownOf (tables lent) a (callOf q (Buffer 928)) in
           let mid : length (midOf written k out) ≡ 928 = length-take-le k (drop written out) (rw length-drop (omega (arith, e, room-here))) ∙ e in
           let few : length b ≤ 928 = omega (arith, over-short b (midOf written k out) x (g .report) y, mid) in
           let made : Sofar s chunk out₀ a′ (lines + 1) (written + n) (at + length l) (putMid written k out x) = record {
@@ -185,6 +186,6 @@ module _ {s : Session Arrays} {chunk out₀ : Lists.List ℕ} {a : Arrays} {line
           subst (λ j. Sofar s chunk out₀ a′ (lines + 1) (written + n) (at + j) (putMid written k out x)) full made
         where
           served : nextLine lines l ≡ Step (q .station) (q .code) (q .job) → let c = callOf q (Buffer 928) in
-              runLines lent (session lines Accepted a) (l ∷ [])
-              ≡ record { session = session (lines + 1) Accepted (stepOf lent a c .table); refusal = 0; bytes = shownOf lent a c }
-          served e = run-step lent (session lines Accepted a) l refl ok (q .station) (q .code) (q .job) e ∙ rw (← z .bears) refl
+              runLines (tables lent) (session lines Accepted a) (l ∷ [])
+              ≡ record { session = session (lines + 1) Accepted (stepOf lent a c .table); refusal = 0; bytes = shownOf (tables lent) a c }
+          served e = run-step (tables lent) (session lines Accepted a) l refl ok (q .station) (q .code) (q .job) e ∙ rw (← z .bears) refl

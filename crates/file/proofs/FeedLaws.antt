@@ -17,7 +17,8 @@ use Rattle.moves.specs.Moves.{refusalNumber}
 use Rattle.moves.specs.declared.Refusal.the-variants.{Accepted}
 use Rattle.arrays.specs.Arrays.{Arrays}
 use Rattle.arrays.specs.Form.{lent}
-use Rattle.schedule.specs.Sessions.{Session, session, Served, standing, headerOf}
+use Rattle.schedule.specs.Tables.{tables}
+use Rattle.schedule.specs.Sessions.{Session, session, Served, unmoved, headerOf}
 use Rattle.schedule.specs.Files.{cut, pieces, headerPrinted, behind, runLines, fileRun, fileReport, fileRefusal}
 use Rattle.schedule.proofs.Runs.{final-run}
 use Rattle.schedule.proofs.Cuts.{behind-twice, run-append, cut-add}
@@ -38,14 +39,14 @@ lines-opened s d = go (eqb (refusalNumber (s .refusal)) 0)
     go true = ne-eqb (s .lines) 0 d
     go false = refl
 
-pub run-opened : (s : Session Arrays) → awaits s ≡ false → (ls : Lists.List (Lists.List ℕ)) → runFrom s ls ≡ runLines lent s ls
+pub run-opened : (s : Session Arrays) → awaits s ≡ false → (ls : Lists.List (Lists.List ℕ)) → runFrom s ls ≡ runLines (tables lent) s ls
 unfolding runLines
 run-opened s e [] = refl
 run-opened s e (l ∷ ls) = rw e refl
 
 -- nothing follows a final refusal
-ahead-none : (s : Session Arrays) → refusalNumber (s .refusal) ≢ 0 → (rest : Lists.List ℕ) → ahead s rest ≡ standing s
-ahead-none s d rest = let ls = cut (ready s true rest) rest in run-opened s (refused-opened s d) ls ∙ final-run lent s ls d
+ahead-none : (s : Session Arrays) → refusalNumber (s .refusal) ≢ 0 → (rest : Lists.List ℕ) → ahead s rest ≡ unmoved s
+ahead-none s d rest = let ls = cut (ready s true rest) rest in run-opened s (refused-opened s d) ls ∙ final-run (tables lent) s ls d
 
 -- lines in two groups
 run-from-append : (l : Lists.List ℕ) (ls ms : Lists.List (Lists.List ℕ)) (s : Session Arrays) → let o = runFrom s (l ∷ ls) in
@@ -53,16 +54,16 @@ run-from-append : (l : Lists.List ℕ) (ls ms : Lists.List (Lists.List ℕ)) (s 
 run-from-append l ls ms s e = go (awaits s) refl e
   where
     h : Session Arrays
-    h = headerOf lent l
+    h = headerOf (tables lent) l
 
     first : Bool → Lists.List (Lists.List ℕ) → Served Arrays
-    first b ls = cond b (behind (headerPrinted h) (runLines lent h ls)) (runLines lent s (l ∷ ls))
+    first b ls = cond b (behind (headerPrinted h) (runLines (tables lent) h ls)) (runLines (tables lent) s (l ∷ ls))
 
     go : (b : Bool) → awaits s ≡ b → awaits (first b ls .session) ≡ false
         → first b (ls ++ ms) ≡ behind (first b ls .bytes) (runFrom (first b ls .session) ms)
-    go true q e = ap (behind (headerPrinted h)) (run-append lent ls ms h) ∙ behind-twice (headerPrinted h) (runLines lent h ls .bytes) _
-        ∙ ap (behind (first true ls .bytes)) (sym (run-opened (runLines lent h ls .session) e ms))
-    go false q e = run-append lent (l ∷ ls) ms s ∙ ap (behind (first false ls .bytes)) (sym (run-opened (first false ls .session) e ms))
+    go true q e = ap (behind (headerPrinted h)) (run-append (tables lent) ls ms h) ∙ behind-twice (headerPrinted h) (runLines (tables lent) h ls .bytes) _
+        ∙ ap (behind (first true ls .bytes)) (sym (run-opened (runLines (tables lent) h ls .session) e ms))
+    go false q e = run-append (tables lent) (l ∷ ls) ms s ∙ ap (behind (first false ls .bytes)) (sym (run-opened (first false ls .session) e ms))
 
 -- the first lines, whatever follows them
 pub cut-front : (k : ℕ) (a b : Lists.List ℕ) → 18 * k ≤ length a → cut k (a ++ b) ≡ cut k a
@@ -199,7 +200,7 @@ module _ {run : Run} {a : Arrays} {last : Bool} {part : Lists.List ℕ} {r : Fed
 
   -- nothing more can be served: all of the last part was, or a line was refused for good
   pub feeds-done : (more : Lists.List ℕ) → (last ≡ true → more ≡ []) → r .more ≡ false → (last ≡ true) ⊎ (refusalNumber (r .run .refusal) ≢ 0)
-      → ahead s′ (drop (r .read) part ++ more) ≡ standing s′
+      → ahead s′ (drop (r .read) part ++ more) ≡ unmoved s′
   unfolding cut
   feeds-done more over m = ⊎-elim
       (λ e. by-cases (ℕ-discrete (refusalNumber (r .run .refusal)) 0) (ended e) (λ d. ahead-none s′ d (drop (r .read) part ++ more)))
@@ -213,7 +214,7 @@ module _ {run : Run} {a : Arrays} {last : Bool} {part : Lists.List ℕ} {r : Fed
           go true q n all = absurd (omega (arith, all))
           go false q n all = ap awaits (none-served n .0) ∙ q
 
-      ended : last ≡ true → refusalNumber (r .run .refusal) ≡ 0 → ahead s′ (drop (r .read) part ++ more) ≡ standing s′
+      ended : last ≡ true → refusalNumber (r .run .refusal) ≡ 0 → ahead s′ (drop (r .read) part ++ more) ≡ unmoved s′
       ended e z =
           let whole = feeds-all m z ∙ ap (λ b. ready s b part) e in
           let z : drop (r .read) part ++ more ≡ [] = (λ i. drop-of-length-le part {i = r .read} (long (awaits s) whole) i ++ over e i) in
@@ -272,13 +273,13 @@ fed-runs (x ∷ (y ∷ xs)) run a rest final f e =
     )
 
 -- what comes of a run before its first line is what comes of a whole file
-pub run-started : (bs : Lists.List ℕ) → ahead (session 0 Accepted (freshTable lent 2)) bs ≡ fileRun lent bs
+pub run-started : (bs : Lists.List ℕ) → ahead (session 0 Accepted (freshTable lent 2)) bs ≡ fileRun (tables lent) bs
 unfolding fileRun cut
 run-started bs = refl
 
 pub fed-file : (bs : Lists.List ℕ) (xs : Lists.List Feeding) (final : Run)
     → FedBy (record { lines = 0; count = 2; refusal = Accepted }) (freshTable lent 2) bs xs → Ends xs final
-    → (fileReport lent bs ≡ output xs) × (fileRefusal lent bs ≡ refusalNumber (final .refusal))
+    → (fileReport (tables lent) bs ≡ output xs) × (fileRefusal (tables lent) bs ≡ refusalNumber (final .refusal))
 fed-file bs xs final f e =
     let h = fed-runs xs _ _ bs final f e in
     let q = sym (run-started bs) in

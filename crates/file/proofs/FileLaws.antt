@@ -16,6 +16,7 @@ use Rattle.moves.specs.Moves.{refusalNumber}
 use Rattle.moves.specs.declared.Refusal.the-variants.{Accepted}
 use Rattle.arrays.specs.Arrays.{Arrays}
 use Rattle.arrays.specs.Form.{lent}
+use Rattle.schedule.specs.Tables.{tables}
 use Rattle.schedule.specs.Sessions.{Session, Served}
 use Rattle.schedule.specs.Files.{pieces, behind, fileRun, fileReport}
 use Rattle.schedule.proofs.Cuts.{behind-twice}
@@ -72,7 +73,7 @@ pub record Gathered (file out₀ : Lists.List ℕ) (run : Run) (a : Arrays) (lon
   pub counted : long ≡ length bytes
   pub same : length out ≡ length out₀
   pub area : long ≤ length out₀ → out ≡ over bytes out₀
-  pub runs : fileRun lent file ≡ behind bytes (ahead (runSession run a) (drop at file))
+  pub runs : fileRun (tables lent) file ≡ behind bytes (ahead (runSession run a) (drop at file))
 
 pub gathered-start : (file out : Lists.List ℕ) {run : Run} {a : Arrays} → run ≡ record { lines = 0; count = 2; refusal = Accepted } → a ≡ freshTable lent 2
     → Gathered file out run a 0 0 out
@@ -100,7 +101,7 @@ module _ {file out₀ : Lists.List ℕ} {run : Run} {a : Arrays} {long at : ℕ}
   pub part-few : run .lines ≤ 1000001 → length buffer′ ≡ 4096 → long + length (take (r .written) buffer′) ≤ 1000000000
   part-few h e = omega (arith, e, f .few, length-take (r .written) buffer′)
 
-  on : fileRun lent file ≡ behind (f .bytes ++ g .bytes) (ahead (runSession (r .run) a′) (drop (r .read) (drop at file) ++ []))
+  on : fileRun (tables lent) file ≡ behind (f .bytes ++ g .bytes) (ahead (runSession (r .run) a′) (drop (r .read) (drop at file) ++ []))
   on = f .runs ∙ ap (λ x. behind (f .bytes) (ahead (runSession run a) x)) (sym (append-nil (drop at file)))
       ∙ ap (behind (f .bytes)) (feeds-rest g [] (λ _. refl)) ∙ behind-twice (f .bytes) (g .bytes) _
 
@@ -118,7 +119,7 @@ module _ {file out₀ : Lists.List ℕ} {run : Run} {a : Arrays} {long at : ℕ}
     pub gathered-end : r .more ≡ false → RunsFile file (record { refusal = r .run .refusal; length = w }) out₀ out′
     gathered-end m =
         let e = on ∙ ap (behind (f .bytes ++ g .bytes)) (feeds-done g [] (λ _. refl) m (inl refl)) in
-        let b : f .bytes ++ g .bytes ≡ fileReport lent file = sym (append-nil (f .bytes ++ g .bytes)) ∙ sym (ap (λ (x : Served Arrays). x .bytes) e) in
+        let b : f .bytes ++ g .bytes ≡ fileReport (tables lent) file = sym (append-nil (f .bytes ++ g .bytes)) ∙ sym (ap (λ (x : Served Arrays). x .bytes) e) in
         record {
           refusal = sym (ap (λ (x : Served Arrays). x .refusal) e);
           long = total ∙ ap length b;
@@ -172,12 +173,12 @@ module _ {bs : Lists.List ℕ} {r : Ending} {buffer buffer′ : Lists.List ℕ} 
     report = rw fit (f .report h);
   }
     where
-      fit : leb (length (fileReport lent bs)) (length buffer) ≡ true
-      fit = le-leb (length (fileReport lent bs)) (length buffer) (omega (arith, f .long))
+      fit : leb (length (fileReport (tables lent) bs)) (length buffer) ≡ true
+      fit = le-leb (length (fileReport (tables lent) bs)) (length buffer) (omega (arith, f .long))
 
   -- it does not fit, whatever it was written to
   pub file-short : (out : Lists.List ℕ) → length out < r .length → ReportsFile bs out 7 (refusalNumber (r .refusal)) 0 (r .length) out
   file-short out h = record { number = rw none refl; final = f .refusal; count = rw none refl; long = f .long; report = rw none refl }
     where
-      none : leb (length (fileReport lent bs)) (length out) ≡ false
-      none = lt-leb (length (fileReport lent bs)) (length out) (omega (arith, f .long))
+      none : leb (length (fileReport (tables lent) bs)) (length out) ≡ false
+      none = lt-leb (length (fileReport (tables lent) bs)) (length out) (omega (arith, f .long))

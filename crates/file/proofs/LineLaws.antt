@@ -15,10 +15,11 @@ use Rattle.label.specs.Labels as Labels
 use Rattle.label.specs.Labels.{labelBefore}
 use Rattle.rows.specs.Held.{standsIn, Orderly, OrderedBefore}
 use Rattle.rows.proofs.OrderLaws.{order-front, orderly-total, last-newest}
-use Rattle.simulation.specs.Calls.{Buffer, Call, reportLines, bytesOf, written}
-use Rattle.simulation.specs.Machine.{original, digits, Labelling, labelStep, relabelled, State, step}
+use Rattle.simulation.specs.Calls.{Buffer, Call, reportLines, bytesOf, written, original}
+use Rattle.simulation.specs.Machine.{digits, Labelling, labelStep, relabelled, State, step}
 use Rattle.simulation.proofs.Touched.{touched, labels-kept}
 use Rattle.transition.specs.Forms.{Form, TableAnswer, over, freshTable, stepOf, after}
+use Rattle.transition.proofs.Written.{Sized, original-sized}
 use Rattle.transition.proofs.Theorem.{step-kept, reached-held, reached-written, reached-next}
 use Rattle.transition.proofs.Theorem.{ReachedTable, table-fresh, table-count, table-passes, table-step, table-after}
 use Rattle.moves.specs.Moves.{refusalNumber, moveOf, callOf}
@@ -56,33 +57,36 @@ orderBy n l = ordered n (λ i j. labelBefore (n - 1) (l i) i (l j) j) ++ replica
 untouched : (k job i : ℕ) → i ≢ k → (m : Move) → touched (moveOf k job m) i ≡ false
 untouched k job i d = let e = ne-eqb i k d in by-move (λ m. touched (moveOf k job m) i ≡ false) (λ x. refl) e e e e e e e e
 
-labels-same : (n k job : ℕ) (l : Labelling Labels.Label) (m : Move) → m ≢ Update → relabelled n (digits n) l (labelStep (moveOf k job m)) false ≡ l false
+labels-same : (n k job : ℕ) (l : Labelling Labels.Label) (m : Move) → m ≢ Update → relabelled n (digits original n) l (labelStep (moveOf k job m)) false ≡ l false
 unfolding relabelled
-labels-same n k job l = by-move (λ m. m ≢ Update → relabelled n (digits n) l (labelStep (moveOf k job m)) false ≡ l false)
+labels-same n k job l = by-move (λ m. m ≢ Update → relabelled n (digits original n) l (labelStep (moveOf k job m)) false ≡ l false)
     (λ x d. refl) (λ d. refl) (λ d. refl) (λ d. refl) (λ d. absurd (d refl)) (λ d. refl) (λ d. refl) (λ d. refl) (λ d. refl)
 
 module _ {a : Arrays} {order : Lists.List ℕ} (f : Runnable a order) where
   abbrev n : ℕ
   n = a .count
 
+  size : Sized original n
+  size = original-sized n (f .low) (f .high)
+
   pub run-reached : ReachedTable lent n a
   run-reached = subst (ReachedTable lent n) (sym (f .reached))
-      (table-after lent lent-lawful n (f .low) (f .high) (f .calls) (freshTable lent n) (table-fresh lent lent-lawful n (f .low) (f .high)))
+      (table-after lent lent-lawful n size (f .calls) (freshTable lent n) (table-fresh lent lent-lawful n size))
 
   pub run-passes : wellFormed a ≡ true
-  run-passes = table-passes lent lent-lawful n (f .low) (f .high) a run-reached
+  run-passes = table-passes lent lent-lawful n size a run-reached
 
   -- the table holds a reached state, and a step call leaves the one that the machine does
   held : stateOf a ≡ run-reached .state
-  held = ap stateOf (run-reached .holds) ∙ reached-held lent lent-lawful n (f .low) (f .high) (run-reached .reached)
+  held = ap stateOf (run-reached .holds) ∙ reached-held lent lent-lawful n size (run-reached .reached)
 
-  pub next-state : (c : Call) → stateOf (stepOf lent a c .table) ≡ step original n (digits n) (stateOf a) c .state
+  pub next-state : (c : Call) → stateOf (stepOf lent a c .table) ≡ step original n (digits original n) (stateOf a) c .state
   next-state c =
       let r = run-reached in
       ap (λ t. stateOf (stepOf lent t c .table)) (r .holds)
-      ∙ ap (λ (u : TableAnswer Arrays). stateOf (u .table)) (reached-written lent lent-lawful n (f .low) (f .high) (r .reached) c)
-      ∙ reached-held lent lent-lawful n (f .low) (f .high) (reached-next lent lent-lawful n (f .low) (f .high) (r .reached) c)
-      ∙ ap (λ (s : State Labels.Label). step original n (digits n) s c .state) (sym held)
+      ∙ ap (λ (u : TableAnswer Arrays). stateOf (u .table)) (reached-written lent lent-lawful n size (r .reached) c)
+      ∙ reached-held lent lent-lawful n size (reached-next lent lent-lawful n size (r .reached) c)
+      ∙ ap (λ (s : State Labels.Label). step original n (digits original n) s c .state) (sym held)
 
   pub run-orderly : Orderly n (getD (a .labels) 0 [])
   run-orderly = orderly a run-passes
@@ -106,26 +110,26 @@ module _ {a : Arrays} {order : Lists.List ℕ} (f : Runnable a order) where
       hands = served a run-passes q (Buffer 928) _ x j g
 
       line-reached : ReachedTable lent n a′
-      line-reached = subst (ReachedTable lent n) (sym (hands .table)) (table-step lent lent-lawful n (f .low) (f .high) a run-reached c)
+      line-reached = subst (ReachedTable lent n) (sym (hands .table)) (table-step lent lent-lawful n size a run-reached c)
 
       same-count : a′ .count ≡ n
-      same-count = table-count lent lent-lawful n (f .low) (f .high) a′ line-reached
+      same-count = table-count lent lent-lawful n size a′ line-reached
 
       -- the labels left are those that the machine leaves
-      line-labels : stateOf a′ .labels false ≡ relabelled n (digits n) (stateOf a .labels) (labelStep (actionOf x)) false
+      line-labels : stateOf a′ .labels false ≡ relabelled n (digits original n) (stateOf a .labels) (labelStep (actionOf x)) false
       unfolding step
       line-labels = ap (λ (s : State Labels.Label). s .labels false) (ap stateOf (hands .table) ∙ next-state c)
-          ∙ ap (λ w. relabelled n (digits n) (stateOf a .labels) (labelStep w) false) (sym (judged a run-passes q (Buffer 928) _ x j))
+          ∙ ap (λ w. relabelled n (digits original n) (stateOf a .labels) (labelStep w) false) (sym (judged a run-passes q (Buffer 928) _ x j))
 
       pub line-orderly : Orderly (a′ .count) (getD (a′ .labels) 0 [])
-      line-orderly = orderly a′ (table-passes lent lent-lawful n (f .low) (f .high) a′ line-reached)
+      line-orderly = orderly a′ (table-passes lent lent-lawful n size a′ line-reached)
 
       pub line-before : OrderedBefore (a′ .count) (getD (a′ .labels) 0 []) (x .place) order
       line-before = rw same-count (record {
         old = getD (a .labels) 0 [];
         orderly = run-orderly;
         others = λ i _ d. sym (ap (λ l. l i) line-labels
-            ∙ labels-kept n (digits n) (stateOf a .labels) (actionOf x) i (untouched (x .place) (x .job) i d (x .action)) false);
+            ∙ labels-kept n (digits original n) (stateOf a .labels) (actionOf x) i (untouched (x .place) (x .job) i d (x .action)) false);
         listed = f .isOrder;
       })
 
@@ -205,7 +209,7 @@ module _ (n : ℕ) (low : 2 ≤ n) (high : n ≤ 32) {a : Arrays} (e : a ≡ fre
   fresh-count = ap (λ (t : Arrays). t .count) e ∙ lent-lawful .counted n _
 
   pub fresh-orderly : Orderly (a .count) (getD (a .labels) 0 [])
-  fresh-orderly = orderly a (ap wellFormed e ∙ table-passes lent lent-lawful n low high (freshTable lent n) (table-fresh lent lent-lawful n low high))
+  fresh-orderly = orderly a (ap wellFormed e ∙ table-passes lent lent-lawful n (original-sized n low high) (freshTable lent n) (table-fresh lent lent-lawful n (original-sized n low high)))
 
   pub fresh-runnable : {order : Lists.List ℕ} → order ≡ orderOf (a .count) (getD (a .labels) 0 []) → Runnable a order
   unfolding after

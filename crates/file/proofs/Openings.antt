@@ -13,6 +13,7 @@ use lib.Seq.{take-all}
 use lib.Dec.{eqb, ltb}
 use borrow.Author.Tests.{eq-eqb, ne-eqb, lt-ltb, le-ltb, eqb-true, ltb-true, ltb-false, not-true}
 use Rattle.basics.proofs.Facts.{and-both}
+use Rattle.simulation.specs.Calls.{original}
 use Rattle.transition.specs.Forms.{over, freshTable}
 use Rattle.moves.specs.Moves.{refusalNumber}
 use Rattle.moves.proofs.MoveLaws.{accepted}
@@ -20,6 +21,7 @@ use Rattle.moves.specs.declared.Refusal.{Refusal}
 use Rattle.moves.specs.declared.Refusal.the-variants.{Accepted}
 use Rattle.arrays.specs.Arrays.{Arrays}
 use Rattle.arrays.specs.Form.{lent}
+use Rattle.schedule.specs.Tables.{tables}
 use Rattle.schedule.specs.Lines.{headerRead}
 use Rattle.schedule.specs.Sessions.{Session, session, Served}
 use Rattle.schedule.specs.Files.{cut, printed, runLines}
@@ -28,7 +30,7 @@ use Rattle.schedule.proofs.Runs.{printed-refusal}
 use Rattle.schedule.specs.declared.Header.the-variants as Headers
 use Rattle.schedule.specs.declared.Header.the-variants.{Stations}
 use Rattle.file.specs.Contracts.{Runnable, readLines, Reports}
-use Rattle.file.specs.Feeds.{runSession, awaits, runFrom, ready, Standing, Feeds, fedOf, Opened}
+use Rattle.file.specs.Feeds.{runSession, awaits, runFrom, ready, Underway, Feeds, fedOf, Opened}
 use Rattle.file.proofs.FeedLaws.{refused-opened, lines-opened, run-opened, cut-front}
 use Rattle.file.specs.declared.Run.{Run}
 use Rattle.file.specs.declared.Fed.{Fed}
@@ -65,7 +67,7 @@ opened-steps run a part going some few = record {
   counted = omega arith;
   few = (some, few);
   runs = λ k. ap (λ i. runFrom (runSession run a) (cut i part)) (zero-add k) ∙ run-opened (runSession run a) opened (cut k part)
-      ∙ ap (λ x. runLines lent (session (run .lines) x a) (cut k part)) (accepted (run .refusal) going);
+      ∙ ap (λ x. runLines (tables lent) (session (run .lines) x a) (cut k part)) (accepted (run .refusal) going);
 }
   where
     opened : awaits (runSession run a) ≡ false
@@ -83,7 +85,7 @@ module _ (run : Run) (a : Arrays) (last : Bool) (part : Lists.List ℕ) (going :
       go true t = rw waiting (omega arith)
       go false t = omega (arith, ltb-false (length part) 18 (sym (and-true (ltb (length part) 18)) ∙ t))
 
-  pub opened-header : {l : Lists.List ℕ} {n : ℕ} {a₁ : Arrays} → l ≡ take 18 part → headerRead l ≡ Stations n → a₁ ≡ freshTable lent n
+  pub opened-header : {l : Lists.List ℕ} {n : ℕ} {a₁ : Arrays} → l ≡ take 18 part → headerRead original l ≡ Stations n → a₁ ≡ freshTable lent n
       → Opened run a part 1 18 a₁
   unfolding cut
   opened-header {l} {n} {a₁} q h fresh = record {
@@ -91,13 +93,13 @@ module _ (run : Run) (a : Arrays) (last : Bool) (part : Lists.List ℕ) (going :
     header = 1;
     waits = inr (refl, waiting);
     place = refl;
-    within = omega (arith, header-length l n h, ap length q ∙ length-take 18 part);
+    within = omega (arith, header-length original l n h, ap length q ∙ length-take 18 part);
     counted = omega (arith, first);
     few = (omega arith, omega arith);
     runs = opens;
   }
     where
-      opens : (j : ℕ) → runFrom (runSession run a) (cut (1 + j) part) ≡ runLines lent (session 1 Accepted a₁) (cut j (drop 18 part))
+      opens : (j : ℕ) → runFrom (runSession run a) (cut (1 + j) part) ≡ runLines (tables lent) (session 1 Accepted a₁) (cut j (drop 18 part))
       opens j =
           let one : 1 + j ≡ suc j = omega arith in
           ap (λ i. runFrom (runSession run a) (cut i part)) one ∙ rw (waiting, ← q, h, fresh) refl
@@ -128,14 +130,14 @@ module _ (run : Run) (a : Arrays) (last : Bool) (part buffer : Lists.List ℕ) w
   -- a header that is refused
   module _ (wait : awaits (runSession run a) ≡ true) (some : 0 < ready (runSession run a) last part) (room : 928 ≤ length buffer)
       (fresh : awaits (runSession run a) ≡ true → a ≡ freshTable lent 2) where
-    pub feeds-refused : {x : Refusal} {l : Lists.List ℕ} {w : ℕ} {buffer′ : Lists.List ℕ} → headerRead (take 18 part) ≡ Headers.Refused x → l ≡ take 18 part
+    pub feeds-refused : {x : Refusal} {l : Lists.List ℕ} {w : ℕ} {buffer′ : Lists.List ℕ} → headerRead original (take 18 part) ≡ Headers.Refused x → l ≡ take 18 part
         → let told = printed 1 (refusalNumber x) [] in w ≡ length told → buffer′ ≡ over told buffer
         → Feeds run a last part (record { run = record { lines = 0; count = run .count; refusal = x }; read = length l; written = w; more = false }) a
         buffer buffer′
     unfolding cut runLines
     feeds-refused {x} h e p q =
         let told = printed 1 (refusalNumber x) [] in
-        let d = header-refused (take 18 part) x h in
+        let d = header-refused original (take 18 part) x h in
         record {
           served = 1;
           most = some;
@@ -226,7 +228,7 @@ module _ {run : Run} {a : Arrays} {part : Lists.List ℕ} {lines at : ℕ} {a₁
       most = omega (arith, due, g .whole, long);
       read = ⊎-elim (λ q. omega (arith, g .whole, long, q, f .place, lines-within)) (λ q. omega (arith, g .whole, long, q .1, f .place, lines-within)) ends;
       bytes = g .bytes;
-      runs = f .runs k ∙ ap (runLines lent (session lines Accepted a₁)) (lines-same k (omega arith)) ∙ g .runs;
+      runs = f .runs k ∙ ap (runLines (tables lent) (session lines Accepted a₁)) (lines-same k (omega arith)) ∙ g .runs;
       written = g .written;
       report = g .report;
       goes = λ j b. by-cases (decLt j h) (first j) (λ n. later j (j - h) (omega (arith, n)) (omega (arith, b, n)));
@@ -246,7 +248,7 @@ module _ {run : Run} {a : Arrays} {part : Lists.List ℕ} {lines at : ℕ} {a₁
 
         later : (j i : ℕ) → j ≡ h + i → i < k → Fits (runFrom (runSession run a) (cut j part))
         later j i q b = subst Fits
-            (sym (ap (λ x. runFrom (runSession run a) (cut x part)) q ∙ f .runs i ∙ ap (runLines lent (session lines Accepted a₁)) (lines-same i (omega arith))))
+            (sym (ap (λ x. runFrom (runSession run a) (cut x part)) q ∙ f .runs i ∙ ap (runLines (tables lent) (session lines Accepted a₁)) (lines-same i (omega arith))))
             (g .goes i b)
 
         no-room : (eqb (refusalNumber (p .refusal)) 0 ≡ true) × (ltb (at + p .read) end ≡ true) → length buffer < p .written + 928
@@ -254,8 +256,8 @@ module _ {run : Run} {a : Arrays} {part : Lists.List ℕ} {lines at : ℕ} {a₁
             (⊎-elim (λ q. absurd (omega (arith, q, long, ltb-true (at + p .read) end (t .1)))) (λ l. l)) (g .stops)
 
     -- and the run that is left
-    pub standing-lines : (n : ℕ) {order : Lists.List ℕ} → Runnable a′ order → Standing (record { lines = p .lines; count = n; refusal = p .refusal }) a′ order
-    standing-lines n x = record {
+    pub underway-lines : (n : ℕ) {order : Lists.List ℕ} → Runnable a′ order → Underway (record { lines = p .lines; count = n; refusal = p .refusal }) a′ order
+    underway-lines n x = record {
       runnable = x;
       few = λ z. g .counted z .1 (f .few .1);
       fresh = λ w. absurd (true≢false (sym w ∙ opened));
@@ -269,8 +271,8 @@ module _ {run : Run} {a : Arrays} {part : Lists.List ℕ} {lines at : ℕ} {a₁
             (λ z. lines-opened left (λ e. f .few .0 (omega (arith, g .counted z .0, e))))
             (λ n. refused-opened left n)
 
-pub standing-refused : {run : Run} {a : Arrays} {order : Lists.List ℕ} → Standing run a order → (n : ℕ) (l : Lists.List ℕ) (x : Refusal)
-    → headerRead l ≡ Headers.Refused x → Standing (record { lines = 0; count = n; refusal = x }) a order
-standing-refused {a = a} f n l x h =
-    let d = header-refused l x h in
+pub underway-refused : {run : Run} {a : Arrays} {order : Lists.List ℕ} → Underway run a order → (n : ℕ) (l : Lists.List ℕ) (x : Refusal)
+    → headerRead original l ≡ Headers.Refused x → Underway (record { lines = 0; count = n; refusal = x }) a order
+underway-refused {a = a} f n l x h =
+    let d = header-refused original l x h in
     record { runnable = f .runnable; few = λ z. absurd (d z); fresh = λ w. absurd (true≢false (sym w ∙ refused-opened (session 0 x a) d)) }

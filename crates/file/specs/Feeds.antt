@@ -7,13 +7,15 @@ use mathlib.Core.List as Lists
 use mathlib.Core.List.{[], _∷_, _++_}
 use lib.ListN.{length, take, drop}
 use lib.Dec.{eqb, ltb}
+use Rattle.simulation.specs.Calls.{original}
 use Rattle.transition.specs.Forms.{over, freshTable}
 use Rattle.moves.specs.Moves.{refusalNumber}
 use Rattle.moves.specs.declared.Refusal.the-variants.{Accepted}
 use Rattle.arrays.specs.Arrays.{Arrays}
 use Rattle.arrays.specs.Form.{lent}
+use Rattle.schedule.specs.Tables.{tables}
 use Rattle.schedule.specs.Lines.{headerRead}
-use Rattle.schedule.specs.Sessions.{Session, session, Served, standing, headerOf}
+use Rattle.schedule.specs.Sessions.{Session, session, Served, unmoved, headerOf}
 use Rattle.schedule.specs.Files.{cut, pieces, headerPrinted, behind, runLines}
 use Rattle.schedule.specs.declared.Header.the-variants as Headers
 use Rattle.file.specs.Contracts.{Runnable}
@@ -35,8 +37,8 @@ awaits s = eqb (refusalNumber (s .refusal)) 0 && eqb (s .lines) 0
 
 -- the lines that it is given next: the first of them is the header where that is still to come
 abbrev pub runFrom : Session Arrays → Lists.List (Lists.List ℕ) → Served Arrays
-runFrom s [] = standing s
-runFrom s (l ∷ ls) = cond (awaits s) (let h = headerOf lent l in behind (headerPrinted h) (runLines lent h ls)) (runLines lent s (l ∷ ls))
+runFrom s [] = unmoved s
+runFrom s (l ∷ ls) = cond (awaits s) (let h = headerOf (tables lent) l in behind (headerPrinted h) (runLines (tables lent) h ls)) (runLines (tables lent) s (l ∷ ls))
 
 -- how many lines can be served of a part: whole ones; of the last part also what is left behind them, and the header even of no bytes
 abbrev pub readyIn : Bool → Bool → Lists.List ℕ → ℕ
@@ -54,7 +56,7 @@ ahead s rest = runFrom s (cut (ready s true rest) rest)
 
 -- a run that is served: its table is one that step calls leave of a fresh one, that of 2 stations before the header; its lines are counted up to the last
 -- that a file can have
-pub record Standing (run : Run) (a : Arrays) (order : Lists.List ℕ) : Type 0 where
+pub record Underway (run : Run) (a : Arrays) (order : Lists.List ℕ) : Type 0 where
   pub runnable : Runnable a order
   pub few : refusalNumber (run .refusal) ≡ 0 → run .lines ≤ 1000001
   pub fresh : awaits (runSession run a) ≡ true → a ≡ freshTable lent 2
@@ -127,13 +129,13 @@ pub record Opened (run : Run) (a : Arrays) (part : Lists.List ℕ) (lines at : �
   pub within : at ≤ length part
   pub counted : lines ≡ run .lines + header
   pub few : (lines ≢ 0) × (lines ≤ 1000001)
-  pub runs : (k : ℕ) → runFrom (runSession run a) (cut (header + k) part) ≡ runLines lent (session lines Accepted a′) (cut k (drop at part))
+  pub runs : (k : ℕ) → runFrom (runSession run a) (cut (header + k) part) ≡ runLines (tables lent) (session lines Accepted a′) (cut k (drop at part))
 
 -- how a part starts: with nothing that can be served, with a header that is refused, or with lines
 abbrev pub Opens : Run → Arrays → Bool → Lists.List ℕ → (ℕ → Arrays) → Lists.List ℕ → Opening → Type 0
 Opens run a last part left order Nothing =
-    (left (run .count) ≡ a) × Standing run a order × ((eqb (refusalNumber (run .refusal)) 0 && ltb 0 (ready (runSession run a) last part)) ≡ false)
+    (left (run .count) ≡ a) × Underway run a order × ((eqb (refusalNumber (run .refusal)) 0 && ltb 0 (ready (runSession run a) last part)) ≡ false)
 Opens run a last part left order (Refused x) =
-    (left (run .count) ≡ a) × Standing run a order × (awaits (runSession run a) ≡ true) × (0 < ready (runSession run a) last part)
-    × (headerRead (take 18 part) ≡ Headers.Refused x)
+    (left (run .count) ≡ a) × Underway run a order × (awaits (runSession run a) ≡ true) × (0 < ready (runSession run a) last part)
+    × (headerRead original (take 18 part) ≡ Headers.Refused x)
 Opens run a last part left order (Lines lines n at) = Opened run a part lines at (left n) × Runnable (left n) order

@@ -17,7 +17,7 @@ ghost use Rattle.engine.specs.Scans.{orderOf};
 ghost use Rattle.schedule.specs.Sessions.{session};
 ghost use Rattle.schedule.specs.Files.{printed};
 ghost use Rattle.file.specs.Contracts.{Runnable, Turns, Prints, Reports, RunsFile, ReportsFile};
-ghost use Rattle.file.specs.Feeds.{Standing, Feeds, fedOf, Opens};
+ghost use Rattle.file.specs.Feeds.{Underway, Feeds, fedOf, Opens};
 use arrays::Control;
 use arrays::Jobs;
 use arrays::Labels;
@@ -246,7 +246,7 @@ pub fn start(
 ) -> Run
     ensures { λ r. ⌜ r ≡ record { lines = 0; count = 2; refusal = Accepted } ⌝ }
     ensures { λ r. ⌜ arrays (r .count) (now (labels .exit)) (now (jobs .exit)) (now (control .exit)) (now (results .exit)) ≡ freshTable lent 2 ⌝ }
-    ensures { λ r. ⌜ Standing r (arrays (r .count) (now (labels .exit)) (now (jobs .exit)) (now (control .exit)) (now (results .exit)))
+    ensures { λ r. ⌜ Underway r (arrays (r .count) (now (labels .exit)) (now (jobs .exit)) (now (control .exit)) (now (results .exit)))
         (now (order .exit)) ⌝ }
 {
     refresh(2, order, labels, jobs, control, results);
@@ -304,7 +304,7 @@ fn open_part(
     results: &mut Results,
     part: &[u8],
 ) -> Opening
-    requires { ⌜ Standing run (arrays (run .count) (now labels) (now jobs) (now control) (now results)) (now order) ⌝ }
+    requires { ⌜ Underway run (arrays (run .count) (now labels) (now jobs) (now control) (now results)) (now order) ⌝ }
     ensures { λ r. ⌜ Opens run (arrays (run .count) (now (labels .entry)) (now (jobs .entry)) (now (control .entry)) (now (results .entry))) last
         (now (part .entry)) (λ n. arrays n (now (labels .exit)) (now (jobs .exit)) (now (control .exit)) (now (results .exit))) (now (order .exit)) r ⌝ }
 {
@@ -359,12 +359,12 @@ pub fn feed(
     part: &[u8],
     out: &mut [u8],
 ) -> Fed
-    requires { ⌜ Standing run (arrays (run .count) (now labels) (now jobs) (now control) (now results)) (now order) ⌝ }
+    requires { ⌜ Underway run (arrays (run .count) (now labels) (now jobs) (now control) (now results)) (now order) ⌝ }
     requires { ⌜ 928 ≤ length (now out) ⌝ }
     ensures { λ r. ⌜ Feeds run (arrays (run .count) (now (labels .entry)) (now (jobs .entry)) (now (control .entry)) (now (results .entry))) last
         (now (part .entry)) r (arrays (r .run .count) (now (labels .exit)) (now (jobs .exit)) (now (control .exit)) (now (results .exit)))
         (now (out .entry)) (now (out .exit)) ⌝ }
-    ensures { λ r. ⌜ Standing (r .run) (arrays (r .run .count) (now (labels .exit)) (now (jobs .exit)) (now (control .exit)) (now (results .exit)))
+    ensures { λ r. ⌜ Underway (r .run) (arrays (r .run .count) (now (labels .exit)) (now (jobs .exit)) (now (control .exit)) (now (results .exit)))
         (now (order .exit)) ⌝ }
 {
     let end = end_of(part.len(), last);

@@ -29,15 +29,16 @@ use Rattle.intake.specs.declared.Intake.{Intake}
 use Rattle.intake.specs.declared.Intake.the-variants as Intakes
 use Rattle.intake.specs.declared.Reading.{Reading}
 use Rattle.intake.specs.declared.Reading.the-variants.{Start, Lines, Refused}
+use Rattle.simulation.specs.Calls.{original}
 
 -- LINES BEHIND OTHERS
 
 -- the final refusal of a part and what follows it
 ending-on : (lines : ℕ) (part more : Lists.List ℕ) → Cut part more
     → ending lines (linesOf (part ++ more))
-    ≡ firstOf (ending lines (linesOf part)) (ending (lines + length (stepCalls lines (linesOf part))) (linesOf more))
+    ≡ firstOf (ending lines (linesOf part)) (ending (lines + length (stepCalls original lines (linesOf part))) (linesOf more))
 ending-on lines part more (inl whole) =
-    let k = lines + length (stepCalls lines (linesOf part)) in
+    let k = lines + length (stepCalls original lines (linesOf part)) in
     ap (λ b. ending lines (linesOf (part ++ b))) (sym (append-nil more)) ∙ survey-parts (part ∷ (more ∷ [])) lines (whole, tt)
     ∙ ap (firstOf (ending lines (linesOf part))) (sym (survey-parts (more ∷ []) k tt) ∙ ap (λ b. ending k (linesOf b)) (append-nil more))
 ending-on lines part more (inr none) =
@@ -45,7 +46,7 @@ ending-on lines part more (inr none) =
     ∙ ap (firstOf (ending lines (linesOf part))) (sym (survey-parts [] k tt ∙ refl) ∙ ap (λ b. ending k (linesOf b)) (sym none))
   where
     k : ℕ
-    k = lines + length (stepCalls lines (linesOf part))
+    k = lines + length (stepCalls original lines (linesOf part))
 
 module _ {lines : ℕ} (w : Within (Lines lines)) (part : Lists.List ℕ) {s : Survey} (f : Surveys lines part s) where
   -- a part with a final refusal
@@ -54,7 +55,7 @@ module _ {lines : ℕ} (w : Within (Lines lines)) (part : Lists.List ℕ) {s : S
     where
       same : (more : Lists.List ℕ) → Cut part more → aheadRead (Lines lines) (part ++ more) ≡ s .refusal
       same more h =
-          let k = lines + length (stepCalls lines (linesOf part)) in
+          let k = lines + length (stepCalls original lines (linesOf part)) in
           let e : ending lines (linesOf (part ++ more)) ≡ s .refusal =
           ending-on lines part more h ∙ ap (λ r. firstOf r (ending k (linesOf more))) (sym (f .refusal)) ∙ rw (ne-eqb _ 0 d) refl in
           rw (e, ne-eqb _ 0 d) refl
@@ -88,15 +89,15 @@ module _ {lines : ℕ} (w : Within (Lines lines)) (part : Lists.List ℕ) {s : S
             e = ending-on lines part more h ∙ rw (eq-eqb _ 0 none) (ap (λ j. ending (lines + j) (linesOf more)) (sym (f .steps)))
 
             go : (b : Bool) → eqb (refusalNumber (ending k (linesOf more))) 0 ≡ b
-                → surveyed (ending k (linesOf more)) (lines - 1 + length (stepCalls lines (linesOf (part ++ more)))) Accepted
-                ≡ surveyed (ending k (linesOf more)) (k - 1 + length (stepCalls k (linesOf more))) Accepted
+                → surveyed (ending k (linesOf more)) (lines - 1 + length (stepCalls original lines (linesOf (part ++ more)))) Accepted
+                ≡ surveyed (ending k (linesOf more)) (k - 1 + length (stepCalls original k (linesOf more))) Accepted
             go false q = rw q refl
             go true q =
                 let z′ = eqb-true _ 0 q in
                 let all = all-lines (part ++ more) lines (w .1) (ap refusalNumber e ∙ z′) in
                 let rest = all-lines more k part-counted z′ in
                 ap (λ j. surveyed (ending k (linesOf more)) j Accepted)
-                (let c : lines - 1 + length (stepCalls lines (linesOf (part ++ more))) ≡ k - 1 + length (stepCalls k (linesOf more))
+                (let c : lines - 1 + length (stepCalls original lines (linesOf (part ++ more))) ≡ k - 1 + length (stepCalls original k (linesOf more))
                 = omega (arith, all .0, rest .0, counted, pieces-on more h, w .0) in c)
 
 -- THE FIRST PART, unless it is empty
@@ -114,14 +115,14 @@ module _ (part : Lists.List ℕ) (some : 0 < length part) {l : Lists.List ℕ} (
   cut-behind more (inl (k, e)) = inl (k - 1, omega (arith, length-drop 18 part))
   cut-behind more (inr e) = inr e
 
-  pub first-refused : {r : Refusal} → headerRead l ≡ Headers.Refused r → ReadsPart Start part (Refused r)
+  pub first-refused : {r : Refusal} → headerRead original l ≡ Headers.Refused r → ReadsPart Start part (Refused r)
   unfolding readingRefusal
   first-refused {r} e = record { same = same; within = tt; fewer = omega arith }
     where
       same : (more : Lists.List ℕ) → Cut part more → aheadRead Start (part ++ more) ≡ r
-      same more h = surveyed-header (part ++ more) (sym (first more h)) e (length (fileCalls (part ++ more))) Accepted .0
+      same more h = surveyed-header (part ++ more) (sym (first more h)) e (length (fileCalls original (part ++ more))) Accepted .0
 
-  pub first-read : {n : ℕ} → headerRead l ≡ Stations n → {rest : Lists.List ℕ} → rest ≡ drop (length l) part → {reading : Reading}
+  pub first-read : {n : ℕ} → headerRead original l ≡ Stations n → {rest : Lists.List ℕ} → rest ≡ drop (length l) part → {reading : Reading}
       → ReadsPart (Lines 1) rest reading → ReadsPart Start part reading
   unfolding readingRefusal
   first-read {n} e {rest} q {reading} f = record { same = same; within = f .within; fewer = omega (arith, f .fewer, lines) }
@@ -135,9 +136,9 @@ module _ (part : Lists.List ℕ) (some : 0 < length part) {l : Lists.List ℕ} (
       same : (more : Lists.List ℕ) → Cut part more → aheadRead Start (part ++ more) ≡ aheadRead reading more
       same more h =
           let joined = ap (λ b. b ++ more) left ∙ sym (behind more h) in
-          let whole = ap headerRead (first more h) ∙ e in
+          let whole = ap (headerRead original) (first more h) ∙ e in
           let bs = drop 18 (part ++ more) in
-          rw whole (ap (λ j. surveyed (ending 1 (linesOf bs)) j Accepted) (sym (zero-add (length (stepCalls 1 (linesOf bs)))))
+          rw whole (ap (λ j. surveyed (ending 1 (linesOf bs)) j Accepted) (sym (zero-add (length (stepCalls original 1 (linesOf bs)))))
           ∙ ap (aheadRead (Lines 1)) (sym joined) ∙ f .same more (rw (← left) at (cut-behind more h)))
 
 -- an empty part, and one behind a final refusal

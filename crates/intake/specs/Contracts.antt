@@ -17,12 +17,13 @@ use Rattle.intake.specs.declared.Reading.the-variants.{Start, Lines}
 use Rattle.intake.specs.declared.Reading.the-variants as Readings
 use Rattle.intake.specs.declared.Intake.{Intake}
 use Rattle.intake.specs.declared.Intake.the-variants.{Failed, Refused, Whole}
+use Rattle.simulation.specs.Calls.{original}
 
 -- WHAT READING TELLS of a file that is read so far, if these bytes are all that is still to come of it; from the start on, that is what Card 7 tells of a file.
 -- Behind `lines` lines, the header among them, it is their final refusal, or 16.
 abbrev pub aheadRead : Reading → Lists.List ℕ → Refusal
 aheadRead Start bs = readingRefusal bs
-aheadRead (Lines lines) bs = surveyed (ending lines (linesOf bs)) (lines - 1 + length (stepCalls lines (linesOf bs))) Accepted
+aheadRead (Lines lines) bs = surveyed (ending lines (linesOf bs)) (lines - 1 + length (stepCalls original lines (linesOf bs))) Accepted
 aheadRead (Readings.Refused r) bs = r
 
 -- nothing that follows changes it

@@ -1,6 +1,2 @@
-pub mod Lent
-pub mod Local
-pub mod Numbers
-pub mod Report
-pub mod Owned
+pub mod Types
 pub mod Named

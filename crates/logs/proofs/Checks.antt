@@ -13,8 +13,8 @@ use lib.Seq.{drop-drop, take-at, take-take, length-take-le, drop-append-le}
 use lib.Dec.{eqb}
 use borrow.Author.Tests.{eq-eqb, ne-eqb, eqb-true, eqb-false}
 use Rattle.basics.proofs.Facts.{tf}
-use Rattle.simulation.specs.Calls.{Call, Buffer, judge, reportLines}
-use Rattle.simulation.specs.Machine.{original, labelStep, snapsOf}
+use Rattle.simulation.specs.Calls.{Call, Buffer, judge, reportLines, original}
+use Rattle.simulation.specs.Machine.{labelStep, snapsOf}
 use Rattle.transition.specs.Forms.{over}
 use Rattle.transition.specs.Logs.{fitsNext, atFront, right}
 use Rattle.transition.proofs.Logs.{front-from, front-end, front-short}
@@ -260,7 +260,7 @@ module _ {c₀ : Progress} {t₀ : Table} {file list buffer₀ part : Lists.List
       call = callOf q (Buffer 928)
 
       abbrev fits : Bool
-      fits = fitsNext (t .count) (beside (t .numbers)) (labelStep (judge false (t .count) (restᵘ t) call)) (numbersLeft c list)
+      fits = fitsNext (t .count) (beside (t .numbers)) (labelStep (judge original (t .count) (restᵘ t) call)) (numbersLeft c list)
 
       abbrev bytes : Lists.List ℕ
       bytes = writes t call (numbersLeft c list)

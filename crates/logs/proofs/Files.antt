@@ -9,7 +9,8 @@ use mathlib.Core.List.{[], _∷_, append-nil}
 use lib.ListN.{length, take, drop}
 use lib.Seq.{take-all}
 use Rattle.basics.proofs.Facts.{and-both, both}
-use Rattle.simulation.specs.Machine.{original, fresh}
+use Rattle.simulation.specs.Calls.{original}
+use Rattle.simulation.specs.Machine.{fresh}
 use Rattle.transition.specs.Logs.{atFront, Right, right}
 use Rattle.transition.proofs.Logs.{right-exactly}
 use Rattle.number_lines.specs.Lines.{NumbersRead}
@@ -46,13 +47,13 @@ told-by (Stations n) = n
 -- THE START
 
 -- a header that refuses the file
-pub header-refuses : (bs : Lists.List ℕ) {l : Lists.List ℕ} → l ≡ take 18 bs → {r : Refusal} → headerRead l ≡ Headers.Refused r
+pub header-refuses : (bs : Lists.List ℕ) {l : Lists.List ℕ} → l ≡ take 18 bs → {r : Refusal} → headerRead original l ≡ Headers.Refused r
     → (r ≡ readingRefusal bs) × (refusalNumber r ≢ 0)
 unfolding readingRefusal
-header-refuses bs p e = let h = surveyed-header bs p e (length (fileCalls bs)) Accepted in (sym (h .0), h .1)
+header-refuses bs p e = let h = surveyed-header bs p e (length (fileCalls original bs)) Accepted in (sym (h .0), h .1)
 
 -- behind an accepted one
-module _ (bs : Lists.List ℕ) {l : Lists.List ℕ} (p : l ≡ take 18 bs) {n : ℕ} (e : headerRead l ≡ Stations n) {rest : Lists.List ℕ}
+module _ (bs : Lists.List ℕ) {l : Lists.List ℕ} (p : l ≡ take 18 bs) {n : ℕ} (e : headerRead original l ≡ Stations n) {rest : Lists.List ℕ}
     (q : rest ≡ drop (length l) bs) {s : Survey} (f : Surveys 1 rest s) {r : Refusal} (g : r ≡ surveyed (s .refusal) (s .steps) Accepted) where
   pub lines-told : r ≡ readingRefusal bs
   unfolding readingRefusal
@@ -72,14 +73,14 @@ module _ (bs : Lists.List ℕ) {l : Lists.List ℕ} (p : l ≡ take 18 bs) {n : 
     lines-begun {t} {order} buffer c h o k m b = record {
       accepted = ap refusalNumber (sym lines-told) ∙ z;
       exactly = λ report.
-          let exact = right-exactly original n (fileCalls bs) ns report in
-          let same : aheadLog begun t bs list buffer report ≡ (whole && right original n (fresh 0) ns report (fileCalls bs))
+          let exact = right-exactly original n (fileCalls original bs) ns report in
+          let same : aheadLog begun t bs list buffer report ≡ (whole && right original n (fresh 0) ns report (fileCalls original bs))
           = λ i. whole && right original (c i) (h i) ns report (calls i) in (
             (λ y.
                 let a = and-both whole _ (sym same ∙ y) in
                 (a .0, record { stations = n; header = header-told bs p e q; log = exact .0 (a .1) })),
             (λ R. same ∙ both (R .0) (exact .1
-                (subst (λ j. Right original j (fileCalls bs) ns report) (ap told-by (sym (R .1 .header) ∙ header-told bs p e q)) (R .1 .log)))),
+                (subst (λ j. Right original j (fileCalls original bs) ns report) (ap told-by (sym (R .1 .header) ∙ header-told bs p e q)) (R .1 .log)))),
           );
       checking = record {
         runnable = o;
@@ -90,8 +91,8 @@ module _ (bs : Lists.List ℕ) {l : Lists.List ℕ} (p : l ≡ take 18 bs) {n : 
       };
     }
       where
-        calls : stepCalls 1 (linesOf (drop (length l) bs)) ≡ fileCalls bs
-        calls = ap (λ x. stepCalls 1 (linesOf x)) (sym q) ∙ calls-told bs p e q
+        calls : stepCalls original 1 (linesOf (drop (length l) bs)) ≡ fileCalls original bs
+        calls = ap (λ x. stepCalls original 1 (linesOf x)) (sym q) ∙ calls-told bs p e q
 
 -- NUMBERS OF A FILE, read into a list of 4,096: with the whole lines of numbers the log is right exactly if they are the bytes of a right log, which has no
 -- more numbers than that

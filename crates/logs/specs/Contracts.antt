@@ -6,8 +6,8 @@ use mathlib.Core.Bool.{Bool, true, false, _&&_}
 use mathlib.Core.List as Lists
 use mathlib.Core.List.{[], _++_}
 use lib.ListN.{length, take, drop}
-use Rattle.simulation.specs.Calls.{Call, judge, bytesOf}
-use Rattle.simulation.specs.Machine.{original, labelStep, snapsOf}
+use Rattle.simulation.specs.Calls.{Call, judge, bytesOf, original}
+use Rattle.simulation.specs.Machine.{labelStep, snapsOf}
 use Rattle.transition.specs.Logs.{fitsNext, atFront, right}
 use Rattle.moves.specs.Moves.{refusalNumber}
 use Rattle.arrays.specs.Arrays.{Rows, Planes}
@@ -30,7 +30,7 @@ writes t c ns = bytesOf (answeredᵘ t c ns .report)
 -- the call c, where the first `used` numbers are used up: whether the next number fits it. If it does, the table left holds the state that the machine comes
 -- to, it is told how many numbers are used up, and what the call writes is at the front of the buffer; if not, nothing is used up or written.
 pub record RunsCall (t : Table) (c : Call) (log : Lists.List ℕ) (used : ℕ) (t′ : Table) (buffer : Lists.List ℕ) (r : Ran) : Type 0 where
-  pub fits : r .fits ≡ fitsNext (t .count) (beside (t .numbers)) (labelStep (judge false (t .count) (restᵘ t) c)) (drop used log)
+  pub fits : r .fits ≡ fitsNext (t .count) (beside (t .numbers)) (labelStep (judge original (t .count) (restᵘ t) c)) (drop used log)
   pub state : r .fits ≡ true → stateᵘ t′ ≡ answeredᵘ t c (drop used log) .state
   pub numbers : r .fits ≡ true → (r .used ≡ used + snapsOf original (t .count) (stateᵘ t) c) × (r .used ≤ length log)
   pub bytes : r .fits ≡ true → (take (r .written) buffer ≡ writes t c (drop used log)) × (r .written ≤ 928)
@@ -45,7 +45,7 @@ abbrev pub pending : Progress → Lists.List ℕ → Lists.List ℕ
 pending c buffer = take (c .written - c .shown) (drop (c .shown) buffer)
 
 abbrev pub callsLeft : Progress → Lists.List ℕ → Lists.List Call
-callsLeft c file = stepCalls (c .lines) (linesOf (drop (c .at) file))
+callsLeft c file = stepCalls original (c .lines) (linesOf (drop (c .at) file))
 
 -- what is told of the log, if these bytes are all that is still to come of its report
 abbrev pub aheadLog : Progress → Table → Lists.List ℕ → Lists.List ℕ → Lists.List ℕ → Lists.List ℕ → Bool

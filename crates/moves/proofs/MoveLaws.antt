@@ -13,7 +13,7 @@ use denote.Enum.Declared.{tagOf}
 use Rattle.basics.specs.Tests.{within}
 use Rattle.basics.proofs.Facts.{tf, within-true}
 use Rattle.simulation.specs.Calls as Calls
-use Rattle.simulation.specs.Calls.{Call, judgeIn}
+use Rattle.simulation.specs.Calls.{original, Call, judgeIn}
 use Rattle.simulation.specs.Machine.{stay, labelStep}
 use Rattle.simulation.proofs.Judged.{begin-fits, verdict}
 use Rattle.moves.specs.Moves.{refusalNumber, moveOf, placeOf}
@@ -50,9 +50,9 @@ step-stays k job = by-move (λ m. m ≢ SnapLabel → m ≢ Update → labelStep
     (λ x p q. refl) (λ p q. refl) (λ p q. absurd (p refl)) (λ p q. refl) (λ p q. absurd (q refl)) (λ p q. refl) (λ p q. refl) (λ p q. refl) (λ p q. refl)
 
 -- a label operation that is judged to begin has a job of 32 bits
-pub begun-job : (n shown : ℕ) (out : Bool) (ph : Calls.Phase) (c : Call) (k : ℕ) (m : Move) → moveOf k (c .job) m ≡ judgeIn false n shown out ph c
+pub begun-job : (n : ℕ) (own : Calls.Standing) (c : Call) (k : ℕ) (m : Move) → moveOf k (c .job) m ≡ judgeIn original n own c
     → m ≡ BeginLabel → c .job ≤ 4294967295
-begun-job n shown out ph c k m h e = begin-fits (verdict n shown c out ph) (sym h ∙ ap (moveOf k (c .job)) e)
+begun-job n own c k m h e = begin-fits (verdict original n own c) (sym h ∙ ap (moveOf k (c .job)) e)
 
 -- the place of a station that there is, and of one that there is not
 pub place-below : (n station : ℕ) → 2 ≤ n → placeOf n station < n

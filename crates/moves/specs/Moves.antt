@@ -8,6 +8,7 @@ use Rattle.moves.specs.declared.Operation.{Operation}
 use Rattle.moves.specs.declared.Operation.the-variants.{Label, Scan}
 use Rattle.moves.specs.declared.Phase.{Phase}
 use Rattle.moves.specs.declared.Phase.the-variants.{Idle, Snap, Update, End}
+use Rattle.moves.specs.declared.Standing.{Standing}
 use Rattle.moves.specs.declared.Room.{Room}
 use Rattle.moves.specs.declared.Room.the-variants.{Buffer, Panel}
 use Rattle.moves.specs.declared.Refusal.{Refusal}
@@ -29,6 +30,10 @@ phaseOf Idle = Calls.Idle
 phaseOf Snap = Calls.Snap Calls.Label
 phaseOf Update = Calls.Update
 phaseOf (End o) = Calls.End (operationOf o)
+
+-- what a call is judged by of its station, which on this board has one process
+abbrev pub standingOf : Standing → Calls.Standing
+standingOf own = record { phase = phaseOf (own .phase); out = own .out; shown = own .shown; alone = true }
 
 -- and what is lent
 abbrev pub roomOf : Room → Calls.Room

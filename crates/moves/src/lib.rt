@@ -1,10 +1,10 @@
 // What a step call amounts to, and its refusal.
 ghost use mathlib.Core.Path.{_≡_};
-ghost use mathlib.Core.Bool.{false, not};
+ghost use mathlib.Core.Bool.{true, not};
 ghost use Prim.Native.Nat.{ℕ, _-_, _≤_};
 ghost use lib.Dec.{eqb};
-ghost use Rattle.simulation.specs.Calls.{refused, unless, jobFits, notDue, needsService, byService, holds, byPhase, judgeIn};
-ghost use Rattle.moves.specs.Moves.{phaseOf, roomOf, refusalNumber, moveOf, called, directly, placeOf};
+ghost use Rattle.simulation.specs.Calls.{refused, unless, jobFits, notDue, needsService, byService, holds, original, byPhase, judgeIn};
+ghost use Rattle.moves.specs.Moves.{phaseOf, roomOf, standingOf, refusalNumber, moveOf, called, directly, placeOf};
 
 // What a process is doing: it takes a label, or it scans (document 01: mark, list).
 pub enum Operation {
@@ -155,7 +155,7 @@ fn not_due(code: u64) -> Move
 // What a known step with a fitting job amounts to, by the phase of its station and how many stations its scan result shows.
 fn by_phase(shown: usize, code: u64, room: Room, p: Phase) -> Move
     requires { ⌜ shown ≤ 32 ⌝ }
-    ensures { λ r. ⌜ ((line station job : ℕ) → moveOf (station - 1) job r ≡ byPhase false shown (called line code station job (roomOf room)) (phaseOf p)) ⌝ }
+    ensures { λ r. ⌜ ((line station job : ℕ) → moveOf (station - 1) job r ≡ byPhase original true shown (called line code station job (roomOf room)) (phaseOf p)) ⌝ }
 {
     match p {
         Phase::Idle => {
@@ -217,7 +217,7 @@ fn needs_service(code: u64) -> bool
 fn by_service(own: Standing, code: u64, room: Room) -> Move
     requires { ⌜ own .shown ≤ 32 ⌝ }
     ensures { λ r. ⌜ ((line station job : ℕ) → moveOf (station - 1) job r ≡ byService (own .out) code
-        (byPhase false (own .shown) (called line code station job (roomOf room)) (phaseOf (own .phase)))) ⌝ }
+        (byPhase original true (own .shown) (called line code station job (roomOf room)) (phaseOf (own .phase)))) ⌝ }
 {
     let phase = own.phase;
     if own.out {
@@ -236,7 +236,7 @@ fn by_service(own: Standing, code: u64, room: Room) -> Move
 fn by_code(own: Standing, code: u64, job: u64, room: Room) -> Move
     requires { ⌜ own .shown ≤ 32 ⌝ }
     ensures { λ r. ⌜ ((line station : ℕ) → moveOf (station - 1) job r ≡ unless (jobFits code job) 11 (byService (own .out) code
-        (byPhase false (own .shown) (called line code station job (roomOf room)) (phaseOf (own .phase))))) ⌝ }
+        (byPhase original true (own .shown) (called line code station job (roomOf room)) (phaseOf (own .phase))))) ⌝ }
 {
     if code == 1 {
         if job < 1 {
@@ -257,7 +257,7 @@ fn by_code(own: Standing, code: u64, job: u64, room: Room) -> Move
 pub fn judge(n: usize, own: Standing, code: u64, station: u64, job: u64, room: Room) -> Move
     requires { ⌜ own .shown ≤ 32 ⌝ }
     ensures { λ r. ⌜ ((line : ℕ) → moveOf (placeOf n station) job r
-        ≡ judgeIn false n (own .shown) (own .out) (phaseOf (own .phase)) (called line code station job (roomOf room))) ⌝ }
+        ≡ judgeIn original n (standingOf own) (called line code station job (roomOf room))) ⌝ }
 {
     if code < 1 {
         return Move::Refused(Refusal::UnknownStep);

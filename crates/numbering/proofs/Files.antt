@@ -9,7 +9,7 @@ use mathlib.Core.List.{[]}
 use lib.ListN.{length, take, drop}
 use lib.Dec.{ltb}
 use borrow.Author.Tests.{eq-eqb, ne-eqb, ltb-false}
-use Rattle.simulation.specs.Machine.{original}
+use Rattle.simulation.specs.Calls.{original}
 use Rattle.simulation.specs.Numbering.{numbersOf}
 use Rattle.transition.specs.Forms.{over}
 use Rattle.moves.specs.Moves.{refusalNumber}
@@ -45,13 +45,13 @@ module _ (bs list : Lists.List ℕ) where
       none = rw (e, ne-eqb (refusalNumber r) 0 d) refl
 
   -- by its header
-  pub header-refuses : {l : Lists.List ℕ} → l ≡ take 18 bs → {r : Refusal} → headerRead l ≡ Headers.Refused r → NumbersFile bs list (refusalNumber r) 0 list
+  pub header-refuses : {l : Lists.List ℕ} → l ≡ take 18 bs → {r : Refusal} → headerRead original l ≡ Headers.Refused r → NumbersFile bs list (refusalNumber r) 0 list
   unfolding numberingRefusal
-  header-refuses p {r} e = let h = surveyed-header bs p e (length (fileCalls bs)) (cond (ltb (length list) (snapCalls (fileCalls bs))) ListTooShort Accepted) in
+  header-refuses p {r} e = let h = surveyed-header bs p e (length (fileCalls original bs)) (cond (ltb (length list) (snapCalls (fileCalls original bs))) ListTooShort Accepted) in
       refused-file r (h .0) (h .1)
 
   -- BEHIND AN ACCEPTED HEADER
-  module _ {l : Lists.List ℕ} (p : l ≡ take 18 bs) {n : ℕ} (e : headerRead l ≡ Stations n) {rest : Lists.List ℕ} (q : rest ≡ drop (length l) bs)
+  module _ {l : Lists.List ℕ} (p : l ≡ take 18 bs) {n : ℕ} (e : headerRead original l ≡ Stations n) {rest : Lists.List ℕ} (q : rest ≡ drop (length l) bs)
       {s : Survey} (f : Surveys 1 rest s) {r : Refusal} (g : r ≡ refusedBy (s .refusal) (s .steps) (s .snaps) (length list)) where
     told : numberingRefusal bs (length list) ≡ r
     unfolding numberingRefusal
@@ -71,10 +71,10 @@ module _ (bs list : Lists.List ℕ) where
           enough true u w = absurd (omega arith)
           enough false u w = ltb-false (length list) (s .snaps) u
 
-      pub lines-room : snapCalls (stepCalls 1 (linesOf rest)) ≤ length list
+      pub lines-room : snapCalls (stepCalls original 1 (linesOf rest)) ≤ length list
       lines-room = omega (arith, passed .1, f .snaps)
 
-      pub lines-number : {k : ℕ} {list′ : Lists.List ℕ} → let ns = numbersOf original n (stepCalls 1 (linesOf rest)) in
+      pub lines-number : {k : ℕ} {list′ : Lists.List ℕ} → let ns = numbersOf original n (stepCalls original 1 (linesOf rest)) in
           k ≡ length ns → list′ ≡ over ns list → NumbersFile bs list (refusalNumber r) k list′
       unfolding fileNumbers
       lines-number {k} {list′} u v = record {
@@ -92,10 +92,10 @@ module _ (bs list : Lists.List ℕ) where
         );
       }
         where
-          accepted-header : headerRead (take 18 bs) ≡ Stations n
+          accepted-header : headerRead original (take 18 bs) ≡ Stations n
           accepted-header = header-told bs p e q
 
-          chosen : numbersOf original n (stepCalls 1 (linesOf rest)) ≡ fileNumbers bs (length list)
+          chosen : numbersOf original n (stepCalls original 1 (linesOf rest)) ≡ fileNumbers bs (length list)
           chosen = ap (numbersOf original n) (calls-told bs p e q) ∙ rw (told, eq-eqb (refusalNumber r) 0 z, accepted-header) refl
 
 -- a list that keeps its length has room for the numbers written

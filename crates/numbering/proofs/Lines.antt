@@ -13,11 +13,13 @@ use Rattle.basics.specs.Tests.{newest}
 use Rattle.label.specs.Labels as Labels
 use Rattle.label.specs.Valid.{Valid}
 use Rattle.rows.specs.Held.{held}
-use Rattle.simulation.specs.Calls.{Call, Buffer, judge}
-use Rattle.simulation.specs.Machine.{original, Labelling, digits, LabelStep, snap, labelStep, labelSnap, relabelled, State, step, snapsOf}
+use Rattle.simulation.specs.Calls.{Call, Buffer, judge, original}
+use Rattle.simulation.specs.Machine.{Labelling, digits, LabelStep, snap, labelStep, labelSnap, relabelled, State, step, snapsOf}
 use Rattle.simulation.specs.Numbering.{slotOf, Renumbering, renumber, renumbered, numbersOf}
 use Rattle.simulation.proofs.Judged.{Inside, inside, snaps-by-3}
 use Rattle.transition.specs.Forms.{over, freshTable, stepOf}
+use Rattle.simulation.proofs.Simulation.{original-proper}
+use Rattle.transition.proofs.Written.{original-sized}
 use Rattle.transition.proofs.Reached.{reached-fresh}
 use Rattle.transition.proofs.Theorem.{reached-held}
 use Rattle.moves.specs.Moves.{moveOf, callOf, placeOf}
@@ -49,7 +51,7 @@ module _ {a : Arrays} {order : Lists.List ℕ} (f : Runnable a order) {c : Call}
   pending = getD (a′ .labels) 1 []
 
   abbrev asked : LabelStep
-  asked = labelStep (judge false n (restOf a) c)
+  asked = labelStep (judge original n (restOf a) c)
 
   same-step : labelStep (moveOf (t .handed .place) 0 (t .action)) ≡ asked
   same-step = step-any (t .handed .place) (c .job) (t .action) ∙ ap labelStep (g .action)
@@ -72,21 +74,21 @@ module _ {a : Arrays} {order : Lists.List ℕ} (f : Runnable a order) {c : Call}
 
       go : (b : Bool) → eqb (c .code) 3 ≡ b → c .code ≡ 3
       go true q = eqb-true (c .code) 3 q
-      go false q = absurd (omega (arith, snap-here, snaps-by-3 n (restOf a) c, ap one q))
+      go false q = absurd (omega (arith, snap-here, snaps-by-3 original n (restOf a) c, ap one q))
 
   -- the rows of pending labels are those after the snap
   snapped : (k : ℕ) → asked ≡ snap k → Snapped n (stateOf a .labels) pending (t .newest) k
   unfolding step
-  snapped k e = snapped-after n (stateOf a .labels) pending (t .newest) k (subst (Inside n) e (inside n (restOf a) c)) (g .newest)
+  snapped k e = snapped-after n (stateOf a .labels) pending (t .newest) k (subst (Inside n) e (inside original n (restOf a) c)) (g .newest)
       (λ i l. ap (λ (s : State Labels.Label). s .labels true i) (ap stateOf (g .hands .table) ∙ next-state f c)
-      ∙ ap (λ w. relabelled n (digits n) (stateOf a .labels) w true i) e)
+      ∙ ap (λ w. relabelled n (digits original n) (stateOf a .labels) w true i) e)
 
   room-here : (count : ℕ) (list : Lists.List ℕ) → count ≤ length list → (c .code ≡ 3 → count < length list) → count + labelSnap asked ≤ length list
   room-here count list low room = go (eqb (c .code) 3) refl
     where
       go : (b : Bool) → eqb (c .code) 3 ≡ b → count + labelSnap asked ≤ length list
-      go true q = omega (arith, room (eqb-true (c .code) 3 q), snaps-by-3 n (restOf a) c, ap one q)
-      go false q = omega (arith, snaps-by-3 n (restOf a) c, ap one q)
+      go true q = omega (arith, room (eqb-true (c .code) 3 q), snaps-by-3 original n (restOf a) c, ap one q)
+      go false q = omega (arith, snaps-by-3 original n (restOf a) c, ap one q)
 
   -- what the code makes of the numbers is what the call makes of them
   pub call-numbered : {numbers : Rows} {count : ℕ} {list : Lists.List ℕ} → count ≤ length list → (c .code ≡ 3 → count < length list)
@@ -115,7 +117,7 @@ pub record Sofar (n : ℕ) (rest list₀ : Lists.List ℕ) (a : Arrays) (numbers
   pub same : length list ≡ length list₀
   pub kept : drop count list ≡ drop count list₀
   pub found : numbersOf original n (callsFrom 1 rest 0)
-      ≡ renumbered n (digits n) (slotOf (n - 1)) original (stateOf a) (Planes.beside numbers) (take count list) (callsFrom lines rest at)
+      ≡ renumbered n (digits original n) (slotOf (n - 1)) original (stateOf a) (Planes.beside numbers) (take count list) (callsFrom lines rest at)
 
 -- at first all numbers are 0
 pub sofar-start : (n : ℕ) → 2 ≤ n → n ≤ 32 → (rest list : Lists.List ℕ) → snapCalls (callsFrom 1 rest 0) ≤ length list → {a : Arrays} → a ≡ freshTable lent n
@@ -127,8 +129,8 @@ sofar-start n low high rest list room {a} e {numbers} z = record {
   room = omega (arith, room);
   same = refl;
   kept = refl;
-  found = sym (ap₂ (λ s N. renumbered n (digits n) (slotOf (n - 1)) original s N [] (callsFrom 1 rest 0))
-      (ap stateOf e ∙ reached-held lent lent-lawful n low high (reached-fresh n (omega arith))) z);
+  found = sym (ap₂ (λ s N. renumbered n (digits original n) (slotOf (n - 1)) original s N [] (callsFrom 1 rest 0))
+      (ap stateOf e ∙ reached-held lent lent-lawful n (original-sized n low high) (reached-fresh original n (omega arith) original-proper)) z);
 }
 
 module _ {n : ℕ} {rest list₀ : Lists.List ℕ} {a : Arrays} {numbers : Rows} {count lines at : ℕ} {list : Lists.List ℕ}
@@ -143,7 +145,7 @@ module _ {n : ℕ} {rest list₀ : Lists.List ℕ} {a : Arrays} {numbers : Rows}
   )
     where
       found : numbersOf original n (callsFrom 1 rest 0) ≡ take count list
-      found = f .found ∙ ap (renumbered n (digits n) (slotOf (n - 1)) original (stateOf a) (Planes.beside numbers) (take count list)) e
+      found = f .found ∙ ap (renumbered n (digits original n) (slotOf (n - 1)) original (stateOf a) (Planes.beside numbers) (take count list)) e
 
       long : length (take count list) ≡ count
       long = length-take-le count list (omega (arith, f .room))
@@ -167,7 +169,7 @@ module _ {n : ℕ} {rest list₀ : Lists.List ℕ} {a : Arrays} {numbers : Rows}
 
     pub sofar-more : a .count ≡ n → {a′ : Arrays} {numbers′ : Rows} {count′ : ℕ} {list′ : Lists.List ℕ}
         → NumbersCall a call numbers count list a′ numbers′ count′ list′
-        → stateOf (stepOf lent a call .table) ≡ step original n (digits n) (stateOf a) call .state
+        → stateOf (stepOf lent a call .table) ≡ step original n (digits original n) (stateOf a) call .state
         → Sofar n rest list₀ a′ numbers′ count′ (lines + 1) (at + 18) list′
     unfolding renumbered snapsOf
     sofar-more same-count {a′} {numbers′} {count′} {list′} g t = record {
@@ -177,27 +179,27 @@ module _ {n : ℕ} {rest list₀ : Lists.List ℕ} {a : Arrays} {numbers : Rows}
       room = omega (arith, r .counted, f .room, counts, once, same);
       same = same ∙ f .same;
       kept = dropped ∙ sym (drop-drop ℓ count list) ∙ ap (drop ℓ) (f .kept) ∙ drop-drop ℓ count list₀ ∙ ap (λ k. drop k list₀) (sym (r .counted));
-      found = f .found ∙ ap (renumbered n (digits n) (slotOf (n - 1)) original (stateOf a) (Planes.beside numbers) (take count list)) here
-          ∙ (λ i. renumbered n (digits n) (slotOf (n - 1)) original (sym (ap stateOf (g .table) ∙ t) i) (sym (r .beside) i) (sym taken i) next);
+      found = f .found ∙ ap (renumbered n (digits original n) (slotOf (n - 1)) original (stateOf a) (Planes.beside numbers) (take count list)) here
+          ∙ (λ i. renumbered n (digits original n) (slotOf (n - 1)) original (sym (ap stateOf (g .table) ∙ t) i) (sym (r .beside) i) (sym taken i) next);
     }
       where
         w : LabelStep
-        w = labelStep (judge false n (restOf a) call)
+        w = labelStep (judge original n (restOf a) call)
 
         ℓ : ℕ
         ℓ = labelSnap w
 
         E : Renumbering
-        E = renumber n (digits n) (slotOf (n - 1)) (stateOf a .labels) (Planes.beside numbers) w
+        E = renumber n (digits original n) (slotOf (n - 1)) (stateOf a .labels) (Planes.beside numbers) w
 
         r : Renumbered E ℓ count list numbers′ count′ list′
-        r = subst (λ k. let v = labelStep (judge false k (restOf a) call) in
-            Renumbered (renumber k (digits k) (slotOf (k - 1)) (stateOf a .labels) (Planes.beside numbers) v) (labelSnap v) count list
+        r = subst (λ k. let v = labelStep (judge original k (restOf a) call) in
+            Renumbered (renumber k (digits original k) (slotOf (k - 1)) (stateOf a .labels) (Planes.beside numbers) v) (labelSnap v) count list
             numbers′ count′ list′) same-count
             (g .renumbered)
 
         once : ℓ ≤ one (eqb (q .code) 3)
-        once = snaps-by-3 n (restOf a) call
+        once = snaps-by-3 original n (restOf a) call
 
         fits : count + ℓ ≤ length list
         fits = omega (arith, f .room, counts, once)

@@ -12,6 +12,7 @@ use Rattle.basics.specs.Tests.{newest, firstFrom, All}
 use Rattle.basics.proofs.Facts.{by-here, firstFrom-same, all-at, each-all, all-append, all-replicate, all-map}
 use Rattle.label.specs.Labels.{Label, agrees, labelBelow, newLabel, otherAgrees}
 use Rattle.rows.specs.Held.{held}
+use Rattle.simulation.specs.Calls.{original}
 use Rattle.simulation.specs.Machine.{Labelling, digits, stands, LabelStep, stay, snap, update, labelSnap, pendingAfter, relabelled}
 use Rattle.simulation.specs.Numbering.{Slot, number, shift, highest, slotOf, Renumbering, besideOnly, placed, renumber}
 use Rattle.simulation.proofs.Labellings.{here-yes, here-no, by-put}
@@ -41,14 +42,14 @@ slot-same m w w′ u top k new s = ap₂ (λ i h. cond (leb i m) (Slot.shared (u
 
 -- the rows hold the pending labels after a snap by station k of n, and z was the newest before it
 pub record Snapped (n : ℕ) (l : Labelling Label) (rows : Rows) (z k : ℕ) : Type 0 where
-  pub newest : z ≡ newest n (stands (digits n) l)
+  pub newest : z ≡ newest n (stands (digits original n) l)
   pub others : (i : ℕ) → i < n → i ≢ k → held rows i ≡ l true i
   pub own : k ≢ z → held rows k ≡ newLabel (n - 1) 1 (l false) z k
 
 module _ (n : ℕ) (l : Labelling Label) (rows : Rows) (z : ℕ) where
   -- so they do if they hold what the machine makes pending
-  pub snapped-after : (k : ℕ) → k < n → z ≡ newest n (stands (digits n) l)
-      → ((i : ℕ) → i < n → held rows i ≡ relabelled n (digits n) l (snap k) true i) → Snapped n l rows z k
+  pub snapped-after : (k : ℕ) → k < n → z ≡ newest n (stands (digits original n) l)
+      → ((i : ℕ) → i < n → held rows i ≡ relabelled n (digits original n) l (snap k) true i) → Snapped n l rows z k
   unfolding relabelled pendingAfter
   snapped-after k h e after = record {
     newest = e;
@@ -57,7 +58,7 @@ module _ (n : ℕ) (l : Labelling Label) (rows : Rows) (z : ℕ) where
   }
 
   pub renumber-is : (N : Labelling ℕ) (w : LabelStep) → 1 ≤ n → ((k : ℕ) → w ≡ snap k → Snapped n l rows z k)
-      → renumber n (digits n) (slotOf (n - 1)) l N w ≡ renumberIn n rows z N w
+      → renumber n (digits original n) (slotOf (n - 1)) l N w ≡ renumberIn n rows z N w
   unfolding renumber
   renumber-is N stay h s = refl
   renumber-is N (snap k) h s =

@@ -6,7 +6,7 @@ use mathlib.Core.List.{List, _++_, map}
 use lib.ListN.{getD, take, drop, replicate}
 use lib.Dec.{eqb}
 use Rattle.rows.specs.Held.{held}
-use Rattle.simulation.specs.Calls.{Call, judge}
+use Rattle.simulation.specs.Calls.{Call, judge, original}
 use Rattle.simulation.specs.Machine.{Labelling, copy, digits, LabelStep, stay, snap, update, labelStep, labelSnap}
 use Rattle.simulation.specs.Numbering as Numbering
 use Rattle.simulation.specs.Numbering.{slotOf, Renumbering, besideOnly, placed, renumber}
@@ -47,6 +47,6 @@ pub record Counted (count : ℕ) (numbers : Rows) (list : List ℕ) : Type 0 whe
 pub record NumbersCall (a : Arrays) (c : Call) (numbers : Rows) (count : ℕ) (list : List ℕ) (a′ : Arrays) (numbers′ : Rows) (count′ : ℕ) (list′ : List ℕ)
     : Type 0 where
   pub table : a′ ≡ stepOf lent a c .table
-  pub renumbered : let n = a .count in let w = labelStep (judge false n (restOf a) c) in
-      Renumbered (renumber n (digits n) (slotOf (n - 1)) (stateOf a .labels) (beside numbers) w) (labelSnap w) count list numbers′ count′ list′
+  pub renumbered : let n = a .count in let w = labelStep (judge original n (restOf a) c) in
+      Renumbered (renumber n (digits original n) (slotOf (n - 1)) (stateOf a .labels) (beside numbers) w) (labelSnap w) count list numbers′ count′ list′
   pub counted : Counted count′ numbers′ list′

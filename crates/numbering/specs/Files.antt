@@ -7,8 +7,7 @@ use mathlib.Core.List as Lists
 use mathlib.Core.List.{[]}
 use lib.ListN.{length, take}
 use lib.Dec.{eqb, ltb}
-use Rattle.simulation.specs.Calls.{Call}
-use Rattle.simulation.specs.Machine.{original}
+use Rattle.simulation.specs.Calls.{Call, original}
 use Rattle.simulation.specs.Numbering.{numbersOf}
 use Rattle.transition.specs.Forms.{over}
 use Rattle.moves.specs.Moves.{refusalNumber}
@@ -33,11 +32,11 @@ abbrev pub refusedBy : Refusal → ℕ → ℕ → ℕ → Refusal
 refusedBy final steps snaps room = surveyed final steps (cond (ltb room snaps) ListTooShort Accepted)
 
 unfoldable pub numberingRefusal : Lists.List ℕ → ℕ → Refusal
-numberingRefusal bs room = refusedBy (finalOf bs) (length (fileCalls bs)) (snapCalls (fileCalls bs)) room
+numberingRefusal bs room = refusedBy (finalOf bs) (length (fileCalls original bs)) (snapCalls (fileCalls original bs)) room
 
 -- THE NUMBERS OF A FILE; none if it is refused
 unfoldable pub fileNumbers : Lists.List ℕ → ℕ → Lists.List ℕ
-fileNumbers bs room = cond (eqb (refusalNumber (numberingRefusal bs room)) 0) (chosenBehind (headerRead (take 18 bs)) (fileCalls bs)) []
+fileNumbers bs room = cond (eqb (refusalNumber (numberingRefusal bs room)) 0) (chosenBehind (headerRead original (take 18 bs)) (fileCalls original bs)) []
 
 -- what is handed back for a file and a lent list: the refusal number and the count of numbers; and the list that is left, with the numbers at its front. Where
 -- the file is refused, none is counted and the list is whole; else the numbers do for the file.
@@ -46,4 +45,4 @@ pub record NumbersFile (bs list : Lists.List ℕ) (refusal written : ℕ) (list�
   pub count : written ≡ length (fileNumbers bs (length list))
   pub left : list′ ≡ over (fileNumbers bs (length list)) list
   pub refused : refusal ≢ 0 → (written ≡ 0) × (list′ ≡ list)
-  pub served : refusal ≡ 0 → (n : ℕ) × (headerRead (take 18 bs) ≡ Stations n) × FileNumbers lent bs n (fileNumbers bs (length list))
+  pub served : refusal ≡ 0 → (n : ℕ) × (headerRead original (take 18 bs) ≡ Stations n) × FileNumbers lent bs n (fileNumbers bs (length list))

@@ -9,8 +9,8 @@ ghost use Rattle.label.specs.Labels.{below};
 ghost use Rattle.label.specs.Rows.{digit};
 ghost use Rattle.label.specs.Valid.{Digit, Valid};
 ghost use Rattle.rows.specs.Held.{held};
-ghost use Rattle.simulation.specs.Calls.{Buffer};
-ghost use Rattle.simulation.specs.Machine.{original, put, labelStep, labelSnap, snap};
+ghost use Rattle.simulation.specs.Calls.{Buffer, original};
+ghost use Rattle.simulation.specs.Machine.{put, labelStep, labelSnap, snap};
 ghost use Rattle.simulation.specs.Numbering.{through, bump, number, placed, numbersOf};
 ghost use Rattle.transition.specs.Forms.{over};
 ghost use Rattle.moves.specs.Moves.{refusalNumber, moveOf, callOf};
@@ -243,9 +243,9 @@ fn number_line(
 // Runs the lines after a header of n stations, up to one that ends the reading, from the fresh table; the numbers are written to the front of the list.
 fn number_lines(n: usize, rest: &[u8], list: &mut [u32]) -> usize
     requires { ⌜ (2 ≤ n) × (n ≤ 32) ⌝ }
-    requires { ⌜ snapCalls (stepCalls 1 (linesOf (now rest))) ≤ length (now list) ⌝ }
-    ensures { λ r. ⌜ r ≡ length (numbersOf original n (stepCalls 1 (linesOf (now (rest .entry))))) ⌝ }
-    ensures { λ _. ⌜ now (list .exit) ≡ over (numbersOf original n (stepCalls 1 (linesOf (now (rest .entry))))) (now (list .entry)) ⌝ }
+    requires { ⌜ snapCalls (stepCalls original 1 (linesOf (now rest))) ≤ length (now list) ⌝ }
+    ensures { λ r. ⌜ r ≡ length (numbersOf original n (stepCalls original 1 (linesOf (now (rest .entry))))) ⌝ }
+    ensures { λ _. ⌜ now (list .exit) ≡ over (numbersOf original n (stepCalls original 1 (linesOf (now (rest .entry))))) (now (list .entry)) ⌝ }
 {
     let mut labels = [[[0u8; 31]; 32]; 2];
     let mut jobs = [[0u32; 32]; 2];

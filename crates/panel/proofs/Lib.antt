@@ -1,2 +1,2 @@
-pub mod ArrayField
 pub mod PanelLaws
+pub mod Types

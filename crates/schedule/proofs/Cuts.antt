@@ -9,9 +9,9 @@ use mathlib.Core.List.{[], _∷_, _++_, append-assoc}
 use lib.ListN.{length, take, drop, length-append, length-drop}
 use lib.Seq.{take-append-le, drop-append-le, drop-drop}
 use borrow.Author.Tests.{eq-eqb}
-use Rattle.transition.specs.Forms.{Form}
 use Rattle.moves.specs.Moves.{refusalNumber}
-use Rattle.schedule.specs.Sessions.{Session, isFinal, Served, standing, serveOf}
+use Rattle.schedule.specs.Tables.{Tables}
+use Rattle.schedule.specs.Sessions.{Session, isFinal, Served, unmoved, serveOf}
 use Rattle.schedule.specs.Files.{cut, pieces, printed, behind, runLines}
 use Rattle.schedule.proofs.Runs.{final-run, run-on}
 
@@ -20,28 +20,28 @@ use Rattle.schedule.proofs.Runs.{final-run, run-on}
 pub behind-twice : {T : Type 0} (a b : Lists.List ℕ) (o : Served T) → behind a (behind b o) ≡ behind (a ++ b) o
 behind-twice a b o = ap (λ x. record { session = o .session; refusal = o .refusal; bytes = x }) (sym (append-assoc a b (o .bytes)))
 
-module _ (F : Form) where
-  run-final : (s : Session (F .Table)) (ls : Lists.List (Lists.List ℕ)) → isFinal s ≡ true → runLines F s ls ≡ standing s
-  run-final s ls e = final-run F s ls (λ z. true≢false (sym e ∙ rw (eq-eqb (refusalNumber (s .refusal)) 0 z) refl))
+module _ (T : Tables) where
+  run-final : (s : Session (T .Table)) (ls : Lists.List (Lists.List ℕ)) → isFinal s ≡ true → runLines T s ls ≡ unmoved s
+  run-final s ls e = final-run T s ls (λ z. true≢false (sym e ∙ rw (eq-eqb (refusalNumber (s .refusal)) 0 z) refl))
 
   -- the run of the lines ms behind an outcome
-  abbrev pub runOn : Served (F .Table) → Lists.List (Lists.List ℕ) → Served (F .Table)
-  runOn o ms = behind (o .bytes) (runLines F (o .session) ms)
+  abbrev pub runOn : Served (T .Table) → Lists.List (Lists.List ℕ) → Served (T .Table)
+  runOn o ms = behind (o .bytes) (runLines T (o .session) ms)
 
-  pub run-append : (ls ms : Lists.List (Lists.List ℕ)) (s : Session (F .Table)) → runLines F s (ls ++ ms) ≡ runOn (runLines F s ls) ms
+  pub run-append : (ls ms : Lists.List (Lists.List ℕ)) (s : Session (T .Table)) → runLines T s (ls ++ ms) ≡ runOn (runLines T s ls) ms
   unfolding runLines
   run-append [] ms s = refl
   run-append (l ∷ ls) ms s = go (isFinal s) refl (run-append ls ms)
     where
-      go : (b : Bool) → isFinal s ≡ b → ((s′ : Session (F .Table)) → runLines F s′ (ls ++ ms) ≡ runOn (runLines F s′ ls) ms)
-          → runLines F s (l ∷ (ls ++ ms)) ≡ runOn (runLines F s (l ∷ ls)) ms
+      go : (b : Bool) → isFinal s ≡ b → ((s′ : Session (T .Table)) → runLines T s′ (ls ++ ms) ≡ runOn (runLines T s′ ls) ms)
+          → runLines T s (l ∷ (ls ++ ms)) ≡ runOn (runLines T s (l ∷ ls)) ms
       go true e ih = run-final s (l ∷ (ls ++ ms)) e ∙ sym (rw (run-final s (l ∷ ls) e) (run-final s ms e))
       go false e ih =
-          let o = serveOf F s l in
+          let o = serveOf T s l in
           let p = printed (s .lines + 1) (o .refusal) (o .bytes) in
-          let r = runLines F (o .session) ls in
-          run-on F s l (ls ++ ms) e ∙ ap (behind p) (ih (o .session)) ∙ behind-twice p (r .bytes) (runLines F (r .session) ms)
-          ∙ sym (ap (λ x. runOn x ms) (run-on F s l ls e))
+          let r = runLines T (o .session) ls in
+          run-on T s l (ls ++ ms) e ∙ ap (behind p) (ih (o .session)) ∙ behind-twice p (r .bytes) (runLines T (r .session) ms)
+          ∙ sym (ap (λ x. runOn x ms) (run-on T s l ls e))
 
 -- BYTES IN TWO GROUPS, the first of whole lines
 

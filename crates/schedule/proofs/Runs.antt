@@ -1,5 +1,5 @@
 -- What a line adds to a run, what a whole file comes to, and what printed bytes leave in a buffer: for the code that serves a file's lines one by one.
-use Prim.Native.Nat.{ℕ, _+_, _≤_}
+use Prim.Native.Nat.{ℕ, _+_, _*_, _≤_}
 use native.Mathlib.Omega.{arith}
 use mathlib.Core.Path.{_≡_, refl, sym, ap, _∙_}
 use mathlib.Core.Logic.{_≢_}
@@ -14,54 +14,55 @@ use borrow.Rule.Slice.PartMut.{midOf, putMid}
 use Rattle.columns.specs.Columns.{reportLine}
 use Rattle.columns.proofs.ColumnLaws.{length-report-line}
 use Rattle.simulation.specs.Calls.{Call, bytesOf}
-use Rattle.transition.specs.Forms.{Form, over, freshTable, stepOf}
+use Rattle.transition.specs.Forms.{over}
 use Rattle.moves.specs.Moves.{refusalNumber}
 use Rattle.moves.specs.declared.Refusal.{Refusal}
 use Rattle.moves.specs.declared.Refusal.the-variants.{Accepted}
+use Rattle.schedule.specs.Tables.{Tables}
 use Rattle.schedule.specs.Lines.{nextLine, headerRead, lineCall}
-use Rattle.schedule.specs.Sessions.{Session, session, isFinal, standing, ended, stepLine, serveOf}
+use Rattle.schedule.specs.Sessions.{Session, session, isFinal, unmoved, ended, stepLine, serveOf}
 use Rattle.schedule.specs.Files.{stepLines, refusalLine, printed, behind, runLines, fileRun}
 use Rattle.schedule.proofs.SessionLaws.{header-refused, serve-next}
 use Rattle.schedule.specs.declared.Line.the-variants.{Step, Refused}
 use Rattle.schedule.specs.declared.Header.the-variants as Headers
 use Rattle.schedule.specs.declared.Header.the-variants.{Stations}
 
-module _ (F : Form) where
+module _ (T : Tables) where
   -- THE RUN OF LINES
 
-  module _ (s : Session (F .Table)) where
+  module _ (s : Session (T .Table)) where
     -- nothing follows a final refusal
-    pub final-run : (ls : Lists.List (Lists.List ℕ)) → refusalNumber (s .refusal) ≢ 0 → runLines F s ls ≡ standing s
+    pub final-run : (ls : Lists.List (Lists.List ℕ)) → refusalNumber (s .refusal) ≢ 0 → runLines T s ls ≡ unmoved s
     unfolding runLines
     final-run [] d = refl
     final-run (l ∷ ls) d = rw (ne-eqb _ _ d) refl
 
-    pub run-on : (l : Lists.List ℕ) (ls : Lists.List (Lists.List ℕ)) → isFinal s ≡ false → let o = serveOf F s l in
-        runLines F s (l ∷ ls) ≡ behind (printed (s .lines + 1) (o .refusal) (o .bytes)) (runLines F (o .session) ls)
+    pub run-on : (l : Lists.List ℕ) (ls : Lists.List (Lists.List ℕ)) → isFinal s ≡ false → let o = serveOf T s l in
+        runLines T s (l ∷ ls) ≡ behind (printed (s .lines + 1) (o .refusal) (o .bytes)) (runLines T (o .session) ls)
     unfolding runLines
     run-on l ls e = rw e refl
 
   -- what a step line prints
-  abbrev pub shownOf : F .Table → Call → Lists.List ℕ
-  shownOf t c = let a = stepOf F t c in printed (c .line) (a .refusal) (bytesOf (a .report))
+  abbrev pub shownOf : T .Table → Call → Lists.List ℕ
+  shownOf t c = let a = T .step t c in printed (c .line) (a .refusal) (bytesOf (a .report))
 
   -- one line, on a well-formed table
-  module _ (s : Session (F .Table)) (l : Lists.List ℕ) (going : refusalNumber (s .refusal) ≡ 0) (ok : F .wellFormed (s .table) ≡ true) where
-    run-line : let o = stepLine F s (nextLine (s .lines) l) in
-        runLines F s (l ∷ [])
+  module _ (s : Session (T .Table)) (l : Lists.List ℕ) (going : refusalNumber (s .refusal) ≡ 0) (ok : T .wellFormed (s .table) ≡ true) where
+    run-line : let o = stepLine T s (nextLine (s .lines) l) in
+        runLines T s (l ∷ [])
         ≡ record { session = o .session; refusal = refusalNumber (o .session .refusal); bytes = printed (s .lines + 1) (o .refusal) (o .bytes) }
     unfolding runLines
-    run-line = rw (eq-eqb _ _ going, serve-next F s l going ok _ refl, append-nil) refl
+    run-line = rw (eq-eqb _ _ going, serve-next T s l going ok _ refl, append-nil) refl
 
     pub run-refused : (r : Refusal) → nextLine (s .lines) l ≡ Refused r
-        → runLines F s (l ∷ [])
+        → runLines T s (l ∷ [])
         ≡ record { session = ended s r; refusal = refusalNumber r; bytes = printed (s .lines + 1) (refusalNumber r) [] }
     run-refused r e = run-line ∙ rw e refl
 
-    pub run-step : (station code job : ℕ) → nextLine (s .lines) l ≡ Step station code job → let c = lineCall (s .lines) station code job in
-        runLines F s (l ∷ [])
+    pub run-step : (station code job : ℕ) → nextLine (s .lines) l ≡ Step station code job → let c = lineCall (T .board) (s .lines) station code job in
+        runLines T s (l ∷ [])
         ≡ record {
-          session = session (s .lines + 1) (s .refusal) (stepOf F (s .table) c .table);
+          session = session (s .lines + 1) (s .refusal) (T .step (s .table) c .table);
           refusal = refusalNumber (s .refusal);
           bytes = shownOf (s .table) c;
         }
@@ -71,15 +72,15 @@ module _ (F : Form) where
 
   module _ (bs : Lists.List ℕ) where
     -- a header that is refused ends it
-    pub file-refused : (r : Refusal) → headerRead (take 18 bs) ≡ Headers.Refused r
-        → fileRun F bs ≡ record { session = session 0 r (freshTable F 2); refusal = refusalNumber r; bytes = refusalLine 1 (refusalNumber r) }
+    pub file-refused : (r : Refusal) → headerRead (T .board) (take 18 bs) ≡ Headers.Refused r
+        → fileRun T bs ≡ record { session = session 0 r (T .fresh (2 * T .board .perStation)); refusal = refusalNumber r; bytes = refusalLine 1 (refusalNumber r) }
     unfolding fileRun
     file-refused r e =
-        let d = header-refused (take 18 bs) r e in
-        rw (e, final-run (session 0 r (freshTable F 2)) (stepLines bs) d, ne-eqb _ _ d, append-nil) refl
+        let d = header-refused (T .board) (take 18 bs) r e in
+        rw (e, final-run (session 0 r (T .fresh (2 * T .board .perStation))) (stepLines bs) d, ne-eqb _ _ d, append-nil) refl
 
     -- an accepted one prints nothing, and the lines after it run from the fresh table of its count
-    pub file-served : (n : ℕ) → headerRead (take 18 bs) ≡ Stations n → fileRun F bs ≡ runLines F (session 1 Accepted (freshTable F n)) (stepLines bs)
+    pub file-served : (n : ℕ) → headerRead (T .board) (take 18 bs) ≡ Stations n → fileRun T bs ≡ runLines T (session 1 Accepted (T .fresh n)) (stepLines bs)
     unfolding fileRun
     file-served n e = rw e refl
 

@@ -1,13 +1,13 @@
 -- The reports of the sample files, on tables of every lawful form: computed on the machine's states.
-use mathlib.Core.Path.{refl, _∙_}
+use mathlib.Core.Path.{_≡_, refl, _∙_}
 use mathlib.Core.List.{_∷_, _++_}
 use Rattle.basics.specs.Tests.{every, count, firstFrom, newest, inserted, ordered, passing}
 use Rattle.basics.proofs.Facts.{all-weaken}
 use Rattle.columns.specs.Columns.{lineHead, lineTail, reportLine}
 use Rattle.columns.specs.Reading.{columnRead}
 use Rattle.label.specs.Labels.{below, next, agrees, firstDifference, labelBelow, labelBefore, nextLabel, others, level, newLabel}
-use Rattle.simulation.specs.Calls.{unless, judgeIn, reportLines}
-use Rattle.simulation.specs.Machine.{original, pendingAfter, relabelled, scanOf, carryOut, step}
+use Rattle.simulation.specs.Calls.{original, unless, judgeIn, reportLines}
+use Rattle.simulation.specs.Machine.{pendingAfter, relabelled, scanOf, carryOut, step}
 use Rattle.transition.specs.Forms.{Form, stepOf}
 use Rattle.transition.specs.Samples.{ascii}
 use Rattle.transition.proofs.Theorem.{Lawful}
@@ -25,6 +25,6 @@ unfolding every count firstFrom newest inserted ordered passing lineHead lineTai
     serveOf cut runLines fileRun texts
 computed = (refl, (refl, (refl, (refl, (refl, (refl, (refl, (refl, (refl, (refl, (refl, (refl, tt))))))))))))
 
-pub file-samples-hold : (F : Form) → Lawful F → FileSamplesHold F
-file-samples-hold F L = all-weaken {P = FilePrints (asStates original)} {Q = FilePrints F}
-    (λ x e. same-report F (asStates original) L states-lawful (texts (x .file)) ∙ e) (listing ∷ refusals ∷ incomplete ++ headers) computed
+pub file-samples-hold : (F : Form) → Lawful F → F .board ≡ original → FileSamplesHold F
+file-samples-hold F L same = all-weaken {P = FilePrints (asStates original)} {Q = FilePrints F}
+    (λ x e. same-report F (asStates original) L states-lawful same (texts (x .file)) ∙ e) (listing ∷ refusals ∷ incomplete ++ headers) computed

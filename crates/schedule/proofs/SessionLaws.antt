@@ -8,19 +8,19 @@ use mathlib.Core.List as Lists
 use lib.ListN.{length, getD, take, drop}
 use lib.Dec.{eqb, ltb}
 use borrow.Author.Tests.{eq-eqb, ne-eqb, eqb-true, ltb-false}
-use Rattle.basics.specs.Tests.{within}
-use Rattle.basics.proofs.Facts.{within-true}
 use Rattle.columns.specs.Reading.{columnRead}
 use Rattle.columns.specs.declared.Column.{Column}
 use Rattle.columns.specs.declared.Column.the-variants.{Value, Bad}
-use Rattle.simulation.specs.Calls.{Call}
-use Rattle.transition.specs.Forms.{Form, freshTable, stepOf}
-use Rattle.transition.proofs.Theorem.{Lawful, ReachedTable, table-fresh, table-passes, table-step}
+use Rattle.simulation.specs.Calls.{Board, original, sized, Call, Buffer, Bytes, bytesOf}
+use Rattle.transition.specs.Forms.{Form}
+use Rattle.transition.proofs.Written.{Sized, sized-of}
+use Rattle.transition.proofs.Theorem.{Lawful, step-bytes, ReachedTable, table-fresh, table-passes, table-step}
 use Rattle.moves.specs.Moves.{refusalNumber}
 use Rattle.moves.specs.declared.Refusal.{Refusal}
 use Rattle.moves.specs.declared.Refusal.the-variants.{Accepted, StationCount, IncompleteLine, UnknownStep, JobOutOfRange, TooManyLines}
+use Rattle.schedule.specs.Tables.{Tables, tables}
 use Rattle.schedule.specs.Lines.{stepRead, lineRead, nextLine, headerSaid, headerRead}
-use Rattle.schedule.specs.Sessions.{Session, session, isFinal, Served, standing, illFormed, openedBy, headerOf, stepLine, serveOf, Serves}
+use Rattle.schedule.specs.Sessions.{Session, session, isFinal, Served, unmoved, illFormed, openedBy, headerOf, stepLine, serveOf, Serves}
 use Rattle.schedule.specs.declared.Line.{Line}
 use Rattle.schedule.specs.declared.Line.the-variants.{Step, Refused}
 use Rattle.schedule.specs.declared.Header.{Header}
@@ -102,16 +102,16 @@ module _ (lines : ℕ) (l : Lists.List ℕ) where
 
 -- THE HEADER
 
--- a refused one has a number, an accepted one 2 to 32 stations
-abbrev Sound : Header → Type 0
-Sound (Headers.Refused r) = refusalNumber r ≢ 0
-Sound (Stations n) = (2 ≤ n) × (n ≤ 32)
+-- a refused one has a number, an accepted one as many processes as the board can have
+abbrev Sound : Board → Header → Type 0
+Sound B (Headers.Refused r) = refusalNumber r ≢ 0
+Sound B (Stations n) = sized B n ≡ true
 
-said-sound : (w : Line) → Numbered w → Sound (headerSaid w)
-said-sound (Refused r) d = d
-said-sound (Step k code job) d = go (eqb code 0) (within 2 32 k) refl (eqb job 0)
+said-sound : (B : Board) (w : Line) → Numbered w → Sound B (headerSaid B w)
+said-sound B (Refused r) d = d
+said-sound B (Step k code job) d = go (eqb code 0) (sized B k) refl (eqb job 0)
   where
-    go : (a b : Bool) → within 2 32 k ≡ b → (z : Bool) → Sound
+    go : (a b : Bool) → sized B k ≡ b → (z : Bool) → Sound B
         (cond (not a) (Headers.Refused UnknownStep)
         (cond (not b) (Headers.Refused StationCount)
         (cond (not z) (Headers.Refused JobOutOfRange)
@@ -119,35 +119,39 @@ said-sound (Step k code job) d = go (eqb code 0) (within 2 32 k) refl (eqb job 0
     go false b q z = omega arith
     go true false q z = omega arith
     go true true q false = omega arith
-    go true true q true = within-true 2 32 k q
+    go true true q true = q
 
-module _ (l : Lists.List ℕ) where
-  header-sound : Sound (headerRead l)
+module _ (B : Board) (l : Lists.List ℕ) where
+  header-sound : Sound B (headerRead B l)
   unfolding headerRead
-  header-sound = said-sound (lineRead l) (line-numbered l)
+  header-sound = said-sound B (lineRead l) (line-numbered l)
 
-  pub header-refused : (r : Refusal) → headerRead l ≡ Headers.Refused r → refusalNumber r ≢ 0
-  header-refused r e = subst Sound e header-sound
+  pub header-refused : (r : Refusal) → headerRead B l ≡ Headers.Refused r → refusalNumber r ≢ 0
+  header-refused r e = subst (Sound B) e header-sound
 
-  pub header-stations : (n : ℕ) → headerRead l ≡ Stations n → (2 ≤ n) × (n ≤ 32)
-  header-stations n e = subst Sound e header-sound
+  pub header-stations : 1 ≤ B .perStation → (n : ℕ) → headerRead B l ≡ Stations n → Sized B n
+  header-stations some n e = sized-of some (subst (Sound B) e header-sound)
 
   -- and it is a whole line
-  pub header-length : (n : ℕ) → headerRead l ≡ Stations n → length l ≡ 18
+  pub header-length : (n : ℕ) → headerRead B l ≡ Stations n → length l ≡ 18
   unfolding headerRead
   header-length n = go (lineRead l) refl
     where
-      go : (w : Line) → lineRead l ≡ w → headerSaid w ≡ Stations n → length l ≡ 18
+      go : (w : Line) → lineRead l ≡ w → headerSaid B w ≡ Stations n → length l ≡ 18
       go (Refused r) e h = let z : _≡_ {A = ℕ} 0 1 = cc in absurd (omega arith)
       go (Step st k j) e h = step-length l st k j e
 
-  -- a session that goes on behind its header has an accepted one
-  pub header-accepted : (F : Form) → isFinal (headerOf F l) ≡ false → (n : ℕ) × (headerRead l ≡ Stations n)
-  header-accepted F = go (headerRead l) header-sound
-    where
-      go : (h : Header) → Sound h → isFinal (openedBy F h) ≡ false → (n : ℕ) × (h ≡ Stations n)
-      go (Headers.Refused r) d e = absurd (true≢false (sym (rw (ne-eqb (refusalNumber r) 0 d) refl) ∙ e))
-      go (Stations n) d e = (n, refl)
+-- on the original board, 2 to 32
+pub original-stations : (l : Lists.List ℕ) (n : ℕ) → headerRead original l ≡ Stations n → (2 ≤ n) × (n ≤ 32)
+original-stations l n e = let z = header-stations original l (omega arith) n e in (z .low, z .high)
+
+-- a session that goes on behind its header has an accepted one
+pub header-accepted : (T : Tables) (l : Lists.List ℕ) → isFinal (headerOf T l) ≡ false → (n : ℕ) × (headerRead (T .board) l ≡ Stations n)
+header-accepted T l = go (headerRead (T .board) l) (header-sound (T .board) l)
+  where
+    go : (h : Header) → Sound (T .board) h → isFinal (openedBy T h) ≡ false → (n : ℕ) × (h ≡ Stations n)
+    go (Headers.Refused r) d e = absurd (true≢false (sym (rw (ne-eqb (refusalNumber r) 0 d) refl) ∙ e))
+    go (Stations n) d e = (n, refl)
 
 -- WHAT A SESSION SERVES
 
@@ -156,38 +160,55 @@ pub serves-as : {T : Type 0} {o o′ : Served T} {s : Session T} {refusal writte
     → Serves o′ s refusal written buffer buffer′ → Serves o s refusal written buffer buffer′
 serves-as e h = rw e h
 
-module _ (F : Form) (s : Session (F .Table)) (line : Lists.List ℕ) where
-  pub serve-final : refusalNumber (s .refusal) ≢ 0 → serveOf F s line ≡ standing s
+module _ (T : Tables) (s : Session (T .Table)) (line : Lists.List ℕ) where
+  pub serve-final : refusalNumber (s .refusal) ≢ 0 → serveOf T s line ≡ unmoved s
   unfolding serveOf
   serve-final f = simp (ne-eqb _ _ f)
 
   module _ (none : refusalNumber (s .refusal) ≡ 0) where
-    pub serve-ill-formed : F .wellFormed (s .table) ≡ false → serveOf F s line ≡ illFormed s
+    pub serve-ill-formed : T .wellFormed (s .table) ≡ false → serveOf T s line ≡ illFormed s
     unfolding serveOf
     serve-ill-formed w = simp (eq-eqb _ _ none, w)
 
-    pub serve-next : F .wellFormed (s .table) ≡ true → (l : Line) → nextLine (s .lines) line ≡ l → serveOf F s line ≡ stepLine F s l
+    pub serve-next : T .wellFormed (s .table) ≡ true → (l : Line) → nextLine (s .lines) line ≡ l → serveOf T s line ≡ stepLine T s l
     unfolding serveOf
     serve-next w l e = simp (eq-eqb _ _ none, w, e)
 
--- A SESSION THAT GOES ON, on a table that is reached from the fresh one of n stations
+-- A SESSION THAT GOES ON, on tables that calls lead to from the fresh one of n processes
 
-pub record Live (F : Form) (n : ℕ) (s : Session (F .Table)) : Type 0 where
+-- what holds of all these tables: a line may come to them. A step call on a buffer writes bytes.
+pub record Lead (T : Tables) (n : ℕ) : Type 1 where
+  pub Led : T .Table → Type 0
+  pub first : Led (T .fresh n)
+  pub next : (t : T .Table) → Led t → (c : Call) → Led (T .step t c .table)
+  pub passes : (t : T .Table) → Led t → T .wellFormed t ≡ true
+  pub bytes : (t : T .Table) (c : Call) (b : ℕ) → c .room ≡ Buffer b → T .step t c .report ≡ Bytes (bytesOf (T .step t c .report))
+
+-- tables of a lawful form
+pub lead : (F : Form) → Lawful F → (n : ℕ) → Sized (F .board) n → Lead (tables F) n
+lead F L n z = record {
+  Led = ReachedTable F n;
+  first = table-fresh F L n z;
+  next = table-step F L n z;
+  passes = table-passes F L n z;
+  bytes = step-bytes F;
+}
+
+pub record Live {T : Tables} {n : ℕ} (K : Lead T n) (s : Session (T .Table)) : Type 0 where
   pub going : s .refusal ≡ Accepted
-  pub reached : ReachedTable F n (s .table)
+  pub led : K .Led (s .table)
 
-module _ (F : Form) (L : Lawful F) (n : ℕ) (low : 2 ≤ n) (high : n ≤ 32) where
-  pub fresh-live : (lines : ℕ) → Live F n (session lines Accepted (freshTable F n))
-  fresh-live lines = record { going = refl; reached = table-fresh F L n low high }
+module _ {T : Tables} {n : ℕ} (K : Lead T n) where
+  pub fresh-live : (lines : ℕ) → Live K (session lines Accepted (T .fresh n))
+  fresh-live lines = record { going = refl; led = K .first }
 
-  module _ (s : Session (F .Table)) (v : Live F n s) where
+  module _ (s : Session (T .Table)) (v : Live K s) where
     pub live-final : isFinal s ≡ false
     live-final = ap (λ (r : Refusal). not (eqb (refusalNumber r) 0)) (v .going)
 
-    pub live-serve : (l : Lists.List ℕ) → serveOf F s l ≡ stepLine F s (nextLine (s .lines) l)
-    live-serve l =
-        serve-next F s l (ap refusalNumber (v .going)) (table-passes F L n low high (s .table) (v .reached)) (nextLine (s .lines) l) refl
+    pub live-serve : (l : Lists.List ℕ) → serveOf T s l ≡ stepLine T s (nextLine (s .lines) l)
+    live-serve l = serve-next T s l (ap refusalNumber (v .going)) (K .passes (s .table) (v .led)) (nextLine (s .lines) l) refl
 
     -- a step keeps the session live
-    pub next-live : (c : Call) (lines : ℕ) → Live F n (session lines (s .refusal) (stepOf F (s .table) c .table))
-    next-live c lines = record { going = v .going; reached = table-step F L n low high (s .table) (v .reached) c }
+    pub next-live : (c : Call) (lines : ℕ) → Live K (session lines (s .refusal) (T .step (s .table) c .table))
+    next-live c lines = record { going = v .going; led = K .next (s .table) (v .led) c }

@@ -13,7 +13,7 @@ use borrow.Author.Tests.{eq-eqb, ne-eqb, eqb-true, lt-ltb, ltb-false}
 use Rattle.basics.specs.Tests.{passing}
 use Rattle.basics.proofs.Facts.{tf}
 use Rattle.basics.proofs.Passing.{passing-cons}
-use Rattle.simulation.specs.Calls.{Call, Buffer}
+use Rattle.simulation.specs.Calls.{original, Call, Buffer}
 use Rattle.moves.specs.Moves.{refusalNumber, callOf}
 use Rattle.moves.proofs.MoveLaws.{accepted}
 use Rattle.moves.specs.declared.Request.{Request}
@@ -52,8 +52,8 @@ pub record Surveyed (lines : ℕ) (chunk : Lists.List ℕ) (steps snaps at : ℕ
   pub few : steps ≤ 1000001 - lines
   pub fewer : snaps ≤ steps
   pub refusal : ending lines (linesOf chunk) ≡ ending (lines + steps) (linesFrom chunk at)
-  pub counted : length (stepCalls lines (linesOf chunk)) ≡ steps + length (callsFrom (lines + steps) chunk at)
-  pub snapped : snapCalls (stepCalls lines (linesOf chunk)) ≡ snaps + snapCalls (callsFrom (lines + steps) chunk at)
+  pub counted : length (stepCalls original lines (linesOf chunk)) ≡ steps + length (callsFrom (lines + steps) chunk at)
+  pub snapped : snapCalls (stepCalls original lines (linesOf chunk)) ≡ snaps + snapCalls (callsFrom (lines + steps) chunk at)
 
 pub surveyed-start : (lines : ℕ) (chunk : Lists.List ℕ) → Surveyed lines chunk 0 0 0
 surveyed-start lines chunk =
@@ -63,8 +63,8 @@ surveyed-start lines chunk =
       few = omega arith;
       fewer = omega arith;
       refusal = ap (λ k. ending k (linesOf chunk)) (sym none);
-      counted = omega (arith, ap (λ k. length (stepCalls k (linesOf chunk))) none);
-      snapped = omega (arith, ap (λ k. snapCalls (stepCalls k (linesOf chunk))) none);
+      counted = omega (arith, ap (λ k. length (stepCalls original k (linesOf chunk))) none);
+      snapped = omega (arith, ap (λ k. snapCalls (stepCalls original k (linesOf chunk))) none);
     }
 
 module _ {lines : ℕ} {chunk : Lists.List ℕ} {steps snaps at : ℕ} (f : Surveyed lines chunk steps snaps at) where
@@ -104,14 +104,14 @@ module _ {lines : ℕ} {chunk : Lists.List ℕ} {steps snaps at : ℕ} (f : Surv
 
 -- A PART WITHOUT A FINAL REFUSAL: all its lines are steps, and none is one too many
 all-steps : (gs : Lists.List (Lists.List ℕ)) (lines : ℕ) → lines ≤ 1000001 → refusalNumber (ending lines gs) ≡ 0
-    → (length (stepCalls lines gs) ≡ length gs) × (lines + length gs ≤ 1000001)
+    → (length (stepCalls original lines gs) ≡ length gs) × (lines + length gs ≤ 1000001)
 unfolding stepCalls ending
 all-steps [] lines h z = (refl, omega arith)
 all-steps (g ∷ gs) lines h z = go (nextLine lines g) refl z (all-steps gs)
   where
     go : (w : Line) → nextLine lines g ≡ w → refusalNumber (endThen w (ending (lines + 1) gs)) ≡ 0
-        → ((lines : ℕ) → lines ≤ 1000001 → refusalNumber (ending lines gs) ≡ 0 → (length (stepCalls lines gs) ≡ length gs) × (lines + length gs ≤ 1000001))
-        → (length (callThen lines w (stepCalls (lines + 1) gs)) ≡ length (g ∷ gs)) × (lines + length (g ∷ gs) ≤ 1000001)
+        → ((lines : ℕ) → lines ≤ 1000001 → refusalNumber (ending lines gs) ≡ 0 → (length (stepCalls original lines gs) ≡ length gs) × (lines + length gs ≤ 1000001))
+        → (length (callThen original lines w (stepCalls original (lines + 1) gs)) ≡ length (g ∷ gs)) × (lines + length (g ∷ gs) ≤ 1000001)
     go (Refused r) e z ih = absurd (next-refused lines g r e z)
     go (Step station code job) e z ih =
         let u = ih (lines + 1) (omega (arith, next-within lines g station code job e)) z in
@@ -123,7 +123,7 @@ length-cut zero bs = refl
 length-cut (suc k) bs = omega (arith, length-cut k (drop 18 bs))
 
 pub all-lines : (chunk : Lists.List ℕ) (lines : ℕ) → lines ≤ 1000001 → refusalNumber (ending lines (linesOf chunk)) ≡ 0
-    → (length (stepCalls lines (linesOf chunk)) ≡ pieces chunk) × (lines + pieces chunk ≤ 1000001)
+    → (length (stepCalls original lines (linesOf chunk)) ≡ pieces chunk) × (lines + pieces chunk ≤ 1000001)
 all-lines chunk lines h z =
     let u = all-steps (linesOf chunk) lines h z in
     let long : length (linesOf chunk) ≡ pieces chunk = length-cut (pieces chunk) chunk in
@@ -137,14 +137,14 @@ survey-on {lines} {chunk} {r} f h some z =
 
 -- A LONG FILE, of a header and 4,097 lines or more: it is refused by a final refusal or by 16
 pub long-file : (bs : Lists.List ℕ) (next : Refusal) → 73764 ≤ length bs → refusalNumber (finalOf bs) ≡ 0
-    → surveyed (finalOf bs) (length (fileCalls bs)) next ≡ TooManySteps
-long-file bs next h z = rw (eq-eqb _ 0 z) (go (headerRead (take 18 bs)) refl)
+    → surveyed (finalOf bs) (length (fileCalls original bs)) next ≡ TooManySteps
+long-file bs next h z = rw (eq-eqb _ 0 z) (go (headerRead original (take 18 bs)) refl)
   where
-    go : (x : Header) → headerRead (take 18 bs) ≡ x → cond (ltb 4096 (length (fileCalls bs))) TooManySteps next ≡ TooManySteps
-    go (Headers.Refused r) e = absurd (header-refused (take 18 bs) r e (rw e at z))
+    go : (x : Header) → headerRead original (take 18 bs) ≡ x → cond (ltb 4096 (length (fileCalls original bs))) TooManySteps next ≡ TooManySteps
+    go (Headers.Refused r) e = absurd (header-refused original (take 18 bs) r e (rw e at z))
     go (Stations n) e =
-        let many : 4096 < length (fileCalls bs) = omega (arith, all-lines (drop 18 bs) 1 (omega arith) (rw e at z), length-drop 18 bs) in
-        rw (lt-ltb 4096 (length (fileCalls bs)) many) refl
+        let many : 4096 < length (fileCalls original bs) = omega (arith, all-lines (drop 18 bs) 1 (omega arith) (rw e at z), length-drop 18 bs) in
+        rw (lt-ltb 4096 (length (fileCalls original bs)) many) refl
 
 -- A FILE THAT IS ONLY READ, IN PARTS, each but the last of whole lines: its final refusal is that of the first part that has one, where each part goes on
 -- with the count of lines that the one before it left
@@ -155,20 +155,20 @@ firstOf r s = cond (eqb (refusalNumber r) 0) s r
 
 abbrev pub surveyParts : ℕ → Lists.List (Lists.List ℕ) → Refusal
 surveyParts lines [] = Accepted
-surveyParts lines (p ∷ ps) = firstOf (ending lines (linesOf p)) (surveyParts (lines + length (stepCalls lines (linesOf p))) ps)
+surveyParts lines (p ∷ ps) = firstOf (ending lines (linesOf p)) (surveyParts (lines + length (stepCalls original lines (linesOf p))) ps)
 
-ending-append : (gs hs : Lists.List (Lists.List ℕ)) (lines : ℕ) → ending lines (gs ++ hs) ≡ firstOf (ending lines gs) (ending (lines + length (stepCalls lines gs)) hs)
+ending-append : (gs hs : Lists.List (Lists.List ℕ)) (lines : ℕ) → ending lines (gs ++ hs) ≡ firstOf (ending lines gs) (ending (lines + length (stepCalls original lines gs)) hs)
 unfolding ending stepCalls
 ending-append [] hs lines = ap (λ k. ending k hs) (sym (add-zero lines))
 ending-append (g ∷ gs) hs lines = go (nextLine lines g) (next-numbered lines g) (ending-append gs hs (lines + 1))
   where
     go : (w : Line) → Numbered w
-        → ending (lines + 1) (gs ++ hs) ≡ firstOf (ending (lines + 1) gs) (ending (lines + 1 + length (stepCalls (lines + 1) gs)) hs)
+        → ending (lines + 1) (gs ++ hs) ≡ firstOf (ending (lines + 1) gs) (ending (lines + 1 + length (stepCalls original (lines + 1) gs)) hs)
         → endThen w (ending (lines + 1) (gs ++ hs))
-        ≡ firstOf (endThen w (ending (lines + 1) gs)) (ending (lines + length (callThen lines w (stepCalls (lines + 1) gs))) hs)
+        ≡ firstOf (endThen w (ending (lines + 1) gs)) (ending (lines + length (callThen original lines w (stepCalls original (lines + 1) gs))) hs)
     go (Refused r) d ih = rw (ne-eqb (refusalNumber r) 0 d) refl
     go (Step station code job) d ih =
-        let same : lines + 1 + length (stepCalls (lines + 1) gs) ≡ lines + suc (length (stepCalls (lines + 1) gs)) = omega arith in
+        let same : lines + 1 + length (stepCalls original (lines + 1) gs) ≡ lines + suc (length (stepCalls original (lines + 1) gs)) = omega arith in
         ih ∙ ap (λ k. firstOf (ending (lines + 1) gs) (ending k hs)) same
 
 pub survey-parts : (ps : Lists.List (Lists.List ℕ)) (lines : ℕ) → Whole ps → ending lines (linesOf (joined ps)) ≡ surveyParts lines ps
@@ -185,10 +185,10 @@ survey-parts (p ∷ []) lines w = ap (λ b. ending lines (linesOf b)) (append-ni
 survey-parts (p ∷ (q ∷ ps)) lines w =
     let b = joined (q ∷ ps) in
     ap (ending lines) (lines-append (w .0 .0) p b (w .0 .1)) ∙ ending-append (linesOf p) (linesOf b) lines
-    ∙ ap (firstOf (ending lines (linesOf p))) (survey-parts (q ∷ ps) (lines + length (stepCalls lines (linesOf p))) (w .1))
+    ∙ ap (firstOf (ending lines (linesOf p))) (survey-parts (q ∷ ps) (lines + length (stepCalls original lines (linesOf p))) (w .1))
 
 -- the header before such parts
-pub parts-final : (h : Lists.List ℕ) (ps : Lists.List (Lists.List ℕ)) → length h ≡ 18 → Whole ps → (n : ℕ) → headerRead h ≡ Stations n
+pub parts-final : (h : Lists.List ℕ) (ps : Lists.List (Lists.List ℕ)) → length h ≡ 18 → Whole ps → (n : ℕ) → headerRead original h ≡ Stations n
     → finalOf (h ++ joined ps) ≡ surveyParts 1 ps
 parts-final h ps e w n q = rw (take-at h (joined ps) 18 e, drop-at h (joined ps) 18 e, q) (survey-parts ps 1 w)
 
@@ -223,29 +223,29 @@ surveyed-served final steps next = go (eqb (refusalNumber final) 0) (ltb 4096 st
     go false b z = z
 
 -- a refused header refuses the file, whatever its lines
-pub surveyed-header : (bs : Lists.List ℕ) {l : Lists.List ℕ} → l ≡ take 18 bs → {r : Refusal} → headerRead l ≡ Headers.Refused r → (steps : ℕ) (next : Refusal)
+pub surveyed-header : (bs : Lists.List ℕ) {l : Lists.List ℕ} → l ≡ take 18 bs → {r : Refusal} → headerRead original l ≡ Headers.Refused r → (steps : ℕ) (next : Refusal)
     → (surveyed (finalOf bs) steps next ≡ r) × (refusalNumber r ≡ 0 → ⊥)
 surveyed-header bs p {r} e steps next =
-    let e′ = ap headerRead (sym p) ∙ e in
-    let d = header-refused (take 18 bs) r e′ in
+    let e′ = ap (headerRead original) (sym p) ∙ e in
+    let d = header-refused original (take 18 bs) r e′ in
     (rw (e′, ne-eqb (refusalNumber r) 0 d) refl, d)
 
 -- A FILE behind an accepted header: its lines are read as one part
-module _ (bs : Lists.List ℕ) {l : Lists.List ℕ} (p : l ≡ take 18 bs) {n : ℕ} (e : headerRead l ≡ Stations n) {rest : Lists.List ℕ}
+module _ (bs : Lists.List ℕ) {l : Lists.List ℕ} (p : l ≡ take 18 bs) {n : ℕ} (e : headerRead original l ≡ Stations n) {rest : Lists.List ℕ}
     (q : rest ≡ drop (length l) bs) where
-  pub header-told : headerRead (take 18 bs) ≡ Stations n
-  header-told = ap headerRead (sym p) ∙ e
+  pub header-told : headerRead original (take 18 bs) ≡ Stations n
+  header-told = ap (headerRead original) (sym p) ∙ e
 
-  pub calls-told : stepCalls 1 (linesOf rest) ≡ fileCalls bs
-  calls-told = ap (λ x. stepCalls 1 (linesOf x)) (q ∙ rest-after bs l p)
+  pub calls-told : stepCalls original 1 (linesOf rest) ≡ fileCalls original bs
+  calls-told = ap (λ x. stepCalls original 1 (linesOf x)) (q ∙ rest-after bs l p)
 
   module _ {s : Survey} (f : Surveys 1 rest s) where
     pub final-told : s .refusal ≡ finalOf bs
     final-told = f .refusal ∙ ap (λ x. ending 1 (linesOf x)) (q ∙ rest-after bs l p)
         ∙ sym (ap (λ h. finalAfter h (stepLines bs)) header-told)
 
-    pub steps-told : s .steps ≡ length (fileCalls bs)
+    pub steps-told : s .steps ≡ length (fileCalls original bs)
     steps-told = f .steps ∙ ap length calls-told
 
-    pub snaps-told : s .snaps ≡ snapCalls (fileCalls bs)
+    pub snaps-told : s .snaps ≡ snapCalls (fileCalls original bs)
     snaps-told = f .snaps ∙ ap snapCalls calls-told

@@ -6,8 +6,10 @@ use mathlib.Core.Bool.{true}
 use mathlib.Core.List as Lists
 use mathlib.Core.List.{[], _∷_}
 use Rattle.label.specs.Labels as Labels
-use Rattle.simulation.specs.Machine.{Board, apart, State}
+use Rattle.simulation.specs.Calls.{Board, apart}
 use Rattle.transition.specs.Forms.{Form}
+use Rattle.transition.specs.WellFormed.{Stated, stated}
+use Rattle.schedule.specs.Tables.{tables}
 use Rattle.schedule.specs.Lines.{lineRead}
 use Rattle.schedule.specs.Files.{stepLines, fileReport}
 use Rattle.schedule.specs.Scans.{scanLines}
@@ -15,13 +17,6 @@ use Rattle.schedule.specs.declared.Line.the-variants.{Step}
 
 -- BEFORE: document 01's board, where step 2 only begins a scan; which stations a scan shows is the same on both (02, Cards 2 and 4), and so are steps 6 and 7.
 -- The declared table has no phase between the begin and the snap, so its tables are the machine's states themselves, and each is well-formed.
-
-pub record Stated : Type 0 where
-  pub count : ℕ
-  pub state : State Labels.Label
-
-abbrev pub stated : ℕ → State Labels.Label → Stated
-stated n s = record { count = n; state = s }
 
 abbrev pub asStates : Board → Form
 asStates B = record { board = B; Table = Stated; count = λ t. t .count; state = λ t. t .state; written = stated; wellFormed = λ t. true }
@@ -40,4 +35,4 @@ Followed (l ∷ ls) = ((station job : ℕ) → lineRead l ≡ Step station 2 job
 -- both show the same scans: the lines of their reports that are of scans. All others tell of a refusal: behind a step 2 that is accepted the step 3 is
 -- refused by 4 now.
 abbrev pub ScansAsBefore : Form → Lists.List ℕ → Type 0
-ScansAsBefore F bs = Followed (stepLines bs) → scanLines (fileReport F bs) ≡ scanLines (fileReport (asStates apart) bs)
+ScansAsBefore F bs = Followed (stepLines bs) → scanLines (fileReport (tables F) bs) ≡ scanLines (fileReport (tables (asStates apart)) bs)

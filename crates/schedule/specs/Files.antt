@@ -1,4 +1,4 @@
--- The run of a schedule file on a table of any form, and its report (01, "The schedule file and the report").
+-- The run of a schedule file on any tables, and its report (01, "The schedule file and the report").
 use Prim.Native.Nat.{ℕ, zero, suc, _+_, _/_}
 use mathlib.Core.Bool.{cond}
 use mathlib.Core.List as Lists
@@ -6,9 +6,9 @@ use mathlib.Core.List.{[], _∷_, _++_}
 use lib.ListN.{length, take, drop}
 use lib.Dec.{eqb}
 use Rattle.columns.specs.Columns.{reportLine}
-use Rattle.transition.specs.Forms.{Form}
 use Rattle.moves.specs.Moves.{refusalNumber}
-use Rattle.schedule.specs.Sessions.{Session, isFinal, Served, standing, headerOf, serveOf}
+use Rattle.schedule.specs.Tables.{Tables}
+use Rattle.schedule.specs.Sessions.{Session, isFinal, Served, unmoved, headerOf, serveOf}
 
 -- the input is cut every 18 bytes; the last piece may be short
 unfoldable pub cut : ℕ → Lists.List ℕ → Lists.List (Lists.List ℕ)
@@ -40,17 +40,17 @@ headerPrinted s = printed 1 (refusalNumber (s .refusal)) []
 abbrev pub behind : {T : Type 0} → Lists.List ℕ → Served T → Served T
 behind bytes o = record { session = o .session; refusal = o .refusal; bytes = bytes ++ o .bytes }
 
-module _ (F : Form) where
+module _ (T : Tables) where
   -- the lines one after the other, up to a final refusal, with its number and all that they print
-  unfoldable pub runLines : Session (F .Table) → Lists.List (Lists.List ℕ) → Served (F .Table)
-  runLines s [] = standing s
+  unfoldable pub runLines : Session (T .Table) → Lists.List (Lists.List ℕ) → Served (T .Table)
+  runLines s [] = unmoved s
   runLines s (l ∷ ls) =
-      cond (isFinal s) (standing s)
-      (let o = serveOf F s l in behind (printed (s .lines + 1) (o .refusal) (o .bytes)) (runLines (o .session) ls))
+      cond (isFinal s) (unmoved s)
+      (let o = serveOf T s l in behind (printed (s .lines + 1) (o .refusal) (o .bytes)) (runLines (o .session) ls))
 
   -- the header, then the lines after it
-  unfoldable pub fileRun : Lists.List ℕ → Served (F .Table)
-  fileRun bs = let s = headerOf F (take 18 bs) in behind (headerPrinted s) (runLines s (stepLines bs))
+  unfoldable pub fileRun : Lists.List ℕ → Served (T .Table)
+  fileRun bs = let s = headerOf T (take 18 bs) in behind (headerPrinted s) (runLines s (stepLines bs))
 
   -- the bytes of the report, and the number of the file's final refusal, 0 if there is none
   abbrev pub fileReport : Lists.List ℕ → Lists.List ℕ

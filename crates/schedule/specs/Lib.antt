@@ -1,3 +1,4 @@
+pub mod Tables
 pub mod Lines
 pub mod Sessions
 pub mod Files

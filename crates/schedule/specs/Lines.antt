@@ -1,14 +1,13 @@
 -- A line of a schedule file (01, "The schedule file and the report"; refusals 1 and 8 to 12 of "When a step is turned down").
-use Prim.Native.Nat.{ℕ, _+_}
+use Prim.Native.Nat.{ℕ, _+_, _*_}
 use mathlib.Core.Bool.{not, _&&_, cond}
 use mathlib.Core.List.{List}
 use lib.ListN.{length, getD, take, drop}
 use lib.Dec.{eqb, ltb}
-use Rattle.basics.specs.Tests.{within}
 use Rattle.columns.specs.Reading.{columnRead}
 use Rattle.columns.specs.declared.Column.{Column}
 use Rattle.columns.specs.declared.Column.the-variants.{Value, Bad}
-use Rattle.simulation.specs.Calls.{Call, Buffer}
+use Rattle.simulation.specs.Calls.{Board, sized, Call, Buffer}
 use Rattle.moves.specs.Moves.{called}
 use Rattle.moves.specs.declared.Refusal.the-variants.{StationCount, IncompleteLine, MalformedColumn, UnknownStep, JobOutOfRange, TooManyLines}
 use Rattle.schedule.specs.declared.Line.{Line}
@@ -36,10 +35,13 @@ lineRead l = cond (eqb (length l) 18 && eqb (getD l 17 0) 10)
 abbrev pub nextLine : ℕ → List ℕ → Line
 nextLine lines l = cond (ltb 1000000 lines) (Refused TooManyLines) (lineRead l)
 
--- the call of a step line that follows `lines` others: its report lines bear its line number, and it has room for the longest scan result, 32 lines of 29
--- bytes, so that none is refused by 7
-abbrev pub lineCall : ℕ → ℕ → ℕ → ℕ → Call
-lineCall lines station code job = called (lines + 1) code station job (Buffer 928)
+-- the room of a line: for the longest scan result of a board, 29 bytes for each process of 32 stations
+abbrev pub lineRoom : Board → ℕ
+lineRoom B = 928 * B .perStation
+
+-- the call of a step line that follows `lines` others: its report lines bear its line number, and with that room none is refused by 7
+abbrev pub lineCall : Board → ℕ → ℕ → ℕ → ℕ → Call
+lineCall B lines station code job = called (lines + 1) code station job (Buffer (lineRoom B))
 
 -- what stands at the front of the bytes behind `lines` others: their end, a step call, or the refusal that ends the reading
 abbrev pub sayNext : ℕ → Line → Next
@@ -49,14 +51,14 @@ sayNext lines (Step station code job) = Nexts.Call (record { code = code; statio
 unfoldable pub nextCall : ℕ → List ℕ → Next
 nextCall lines bs = cond (eqb (length bs) 0) Nexts.End (sayNext lines (nextLine lines (take 18 bs)))
 
--- the header is n, code 0, job 0; its refusals come in the order 8, 9, 10, 1, 11
-abbrev pub headerSaid : Line → Header
-headerSaid (Refused r) = Headers.Refused r
-headerSaid (Step n code job) =
+-- the header of a board is n, code 0, job 0; its refusals come in the order 8, 9, 10, 1, 11
+abbrev pub headerSaid : Board → Line → Header
+headerSaid B (Refused r) = Headers.Refused r
+headerSaid B (Step n code job) =
     cond (not (eqb code 0)) (Headers.Refused UnknownStep)
-    (cond (not (within 2 32 n)) (Headers.Refused StationCount)
+    (cond (not (sized B n)) (Headers.Refused StationCount)
     (cond (not (eqb job 0)) (Headers.Refused JobOutOfRange)
     (Stations n)))
 
-unfoldable pub headerRead : List ℕ → Header
-headerRead l = headerSaid (lineRead l)
+unfoldable pub headerRead : Board → List ℕ → Header
+headerRead B l = headerSaid B (lineRead l)

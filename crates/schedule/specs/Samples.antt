@@ -8,6 +8,7 @@ use mathlib.Core.List.{[], _∷_, _++_}
 use Rattle.basics.specs.Tests.{All}
 use Rattle.transition.specs.Forms.{Form}
 use Rattle.transition.specs.Samples.{ascii}
+use Rattle.schedule.specs.Tables.{tables}
 use Rattle.schedule.specs.Files.{fileReport}
 
 -- the lines of a file, and those of its report
@@ -24,7 +25,7 @@ texts [] = []
 texts (s ∷ l) = ascii s ++ texts l
 
 abbrev pub FilePrints : Form → FileSample → Type 0
-FilePrints F x = fileReport F (texts (x .file)) ≡ texts (x .report)
+FilePrints F x = fileReport (tables F) (texts (x .file)) ≡ texts (x .report)
 
 -- 01's listing: its line 7 is refused by 4 (02, Card 1), and its line 8 shows station 1 alone (02, Card 2)
 abbrev pub listing : FileSample

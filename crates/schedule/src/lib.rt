@@ -5,6 +5,7 @@ ghost use Prim.Native.Nat.{_+_, _≤_};
 ghost use lib.ListN.{length, take, drop};
 ghost use lib.Dec.{eqb};
 ghost use Rattle.moves.specs.declared.Refusal.the-variants.{Accepted};
+ghost use Rattle.simulation.specs.Calls.{original};
 ghost use Rattle.schedule.specs.Lines.{lineRead, nextLine, nextCall, headerRead};
 ghost use Rattle.schedule.specs.Numbers.{surveyed, Surveys};
 use columns::Column;
@@ -66,7 +67,7 @@ pub fn next_line(lines: u32, line: &[u8]) -> Line
 
 // Reads the header: the number of stations, code 0 and job 0.
 pub fn read_header(line: &[u8]) -> Header
-    ensures { λ r. ⌜ r ≡ headerRead (now (line .entry)) ⌝ }
+    ensures { λ r. ⌜ r ≡ headerRead original (now (line .entry)) ⌝ }
 {
     match read_line(line) {
         Line::Refused(r) => Header::Refused(r),

@@ -6,6 +6,7 @@ ghost use Prim.Native.Nat.{ℕ, _+_, _≤_};
 ghost use lib.ListN.{length};
 ghost use lib.Dec.{ltb};
 ghost use Rattle.moves.specs.Moves.{refusalNumber};
+ghost use Rattle.schedule.specs.Tables.{tables};
 ghost use Rattle.schedule.specs.declared.Line.the-variants.{Step};
 ghost use Rattle.schedule.specs.Sessions.{refused, stopped, illFormed, headerOf, stepLine, serveOf};
 ghost use Rattle.table.specs.Tables.{declared};
@@ -32,7 +33,7 @@ pub struct Served {
 
 // Opens a session by its header. Behind a refused one stands the fresh table of 2 stations.
 pub fn open(header: &[u8]) -> Session
-    ensures { λ r. ⌜ sessionOf r ≡ headerOf declared (now (header .entry)) ⌝ }
+    ensures { λ r. ⌜ sessionOf r ≡ headerOf (tables declared) (now (header .entry)) ⌝ }
 {
     match schedule::read_header(header) {
         Header::Refused(r) => Session {
@@ -111,11 +112,11 @@ fn unread(s: Session, r: Refusal) -> Served
 fn step_line(s: Session, code: u64, station: u64, job: u64, report: &mut [u8]) -> Served
     requires { ⌜ s .lines ≤ 1000000 ⌝ }
     requires { ⌜ length (now report) ≡ 928 ⌝ }
-    ensures { λ o. ⌜ ServedAs (stepLine declared (sessionOf s) (Step station code job)) o (now (report .entry)) (now (report .exit)) ⌝ }
+    ensures { λ o. ⌜ ServedAs (stepLine (tables declared) (sessionOf s) (Step station code job)) o (now (report .entry)) (now (report .exit)) ⌝ }
     ensures { λ o. ⌜ Keeps s o (now (report .entry)) (now (report .exit)) ⌝ }
 {
     let lines = s.lines;
-    let standing = s.refusal;
+    let unmoved = s.refusal;
     let request = Request {
         code,
         station,
@@ -129,7 +130,7 @@ fn step_line(s: Session, code: u64, station: u64, job: u64, report: &mut [u8]) -
     Served {
         session: Session {
             lines: lines + 1,
-            refusal: standing,
+            refusal: unmoved,
             table: next,
         },
         reply,
@@ -139,12 +140,12 @@ fn step_line(s: Session, code: u64, station: u64, job: u64, report: &mut [u8]) -
 // Serves a line after the header: a final refusal comes first, then an ill-formed table, and then what the line says. The report buffer has room for the
 // longest scan result, so no line is refused by 7.
 pub fn serve(s: Session, line: &[u8], report: &mut [u8; 928]) -> Served
-    ensures { λ o. ⌜ ServedAs (serveOf declared (sessionOf s) (now (line .entry))) o (now (report .entry)) (now (report .exit)) ⌝ }
+    ensures { λ o. ⌜ ServedAs (serveOf (tables declared) (sessionOf s) (now (line .entry))) o (now (report .entry)) (now (report .exit)) ⌝ }
     ensures { λ o. ⌜ Keeps s o (now (report .entry)) (now (report .exit)) ⌝ }
 {
-    let standing = s.refusal;
-    if standing.refuses() {
-        return refuse(s, standing);
+    let unmoved = s.refusal;
+    if unmoved.refuses() {
+        return refuse(s, unmoved);
     }
     match schedule::next_line(s.lines, line) {
         Line::Refused(r) => unread(s, r),

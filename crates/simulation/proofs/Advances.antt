@@ -9,9 +9,9 @@ use lib.ListN.{length, getD, drop, length-append}
 use borrow.Author.Tests.{ne-eqb}
 use Rattle.basics.specs.Tests.{newest, ordered, All}
 use Rattle.basics.proofs.Facts.{by-here, all-parts, all-map}
-use Rattle.simulation.specs.Calls.{Call}
-use Rattle.simulation.specs.Machine.{Board, Labelling, put, numbers, stands, LabelStep, stay, snap, update, labelStep, labelSnap, pendingAfter}
-use Rattle.simulation.specs.Machine.{relabelled, carryOut, State, answer, step, snapsOf, run, snaps}
+use Rattle.simulation.specs.Calls.{Call, Board, judge}
+use Rattle.simulation.specs.Machine.{snaps, Labelling, put, numbers, stands, LabelStep, stay, snap, update, labelStep, labelSnap, pendingAfter}
+use Rattle.simulation.specs.Machine.{relabelled, carryOut, State, answer, step, snapsOf, run}
 use Rattle.simulation.specs.Numbered.{numbered, LabelSnap, met, labelSnaps, Fit, advance, advances}
 
 -- one step of the labels: the advance comes to the number, and is used up
@@ -41,11 +41,11 @@ module _ (n : ℕ) (l : Labelling ℕ) (v : ℕ) where
   used-up (update k) al = refl
 
 -- the two ways to feed the machine differ in the labels left, if at all
-labels-tell : (B : Board) (n : ℕ) (s : State ℕ) (c : Call) (v a : ℕ) → let w = labelStep (B .judge n (s .rest) c) in
+labels-tell : (B : Board) (n : ℕ) (s : State ℕ) (c : Call) (v a : ℕ) → let w = labelStep (judge B n (s .rest) c) in
     relabelled n (numbers a) (s .labels) w ≡ relabelled n (numbered v) (s .labels) w → step B n (numbers a) s c ≡ step B n (numbered v) s c
 unfolding step
-labels-tell B n s c v a = ap (λ (l : Labelling ℕ). answer c l (carryOut (ordered n (stands (numbered v) (s .labels))) (s .rest)
-    (B .judge n (s .rest) c)))
+labels-tell B n s c v a = ap (λ (l : Labelling ℕ). answer c l (carryOut B (ordered n (stands (numbered v) (s .labels))) (s .rest)
+    (judge B n (s .rest) c)))
 
 -- all calls: the same answers, and all advances used up
 pub run-advances : (B : Board) (n most : ℕ) (cs : Lists.List Call) (s : State ℕ) (ns : Lists.List ℕ) → All (Fit most) (labelSnaps B n s ns cs)
@@ -59,7 +59,7 @@ run-advances B n most (c ∷ cs) s ns h = go (run-advances B n most cs s′ ns�
     v = getD ns 0 0
 
     w : LabelStep
-    w = labelStep (B .judge n (s .rest) c)
+    w = labelStep (judge B n (s .rest) c)
 
     s′ : State ℕ
     s′ = step B n (numbered v) s c .state

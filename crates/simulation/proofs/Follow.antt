@@ -12,9 +12,9 @@ use lib.Seq.{drop-nil}
 use lib.Dec.{eqb}
 use Rattle.basics.specs.Tests.{All}
 use Rattle.basics.proofs.Facts.{all-append, all-replicate, all-weaken, map-replicate, member-replicate, first-replicate, drop-replicate, ordered-same}
-use Rattle.simulation.specs.Calls.{Rest, Call}
-use Rattle.simulation.specs.Machine.{Board, Labelling, Rules, numbers, LabelStep, labelStep, labelSnap, carryOut, State, Answer, answer, fresh, step}
-use Rattle.simulation.specs.Machine.{snapsOf, run, snaps, seen, Bounded}
+use Rattle.simulation.specs.Calls.{Rest, Call, Board, judge}
+use Rattle.simulation.specs.Machine.{snaps, Labelling, Rules, numbers, LabelStep, labelStep, labelSnap, carryOut, State, Answer, answer, fresh, step}
+use Rattle.simulation.specs.Machine.{snapsOf, run, seen, Bounded}
 use Rattle.simulation.specs.Numbered.{numbered, LabelSnap, met, labelSnaps, Fit, Fits, Gapless, advance, advances, newestSnaps, zeros}
 use Rattle.simulation.specs.Numbering.{through, Renumbering, renumber, renumbered}
 use Rattle.simulation.proofs.Sync.{Rising, rising-le}
@@ -44,10 +44,10 @@ module _ {A : Type 0} (B : Board) (n : ℕ) (r : Rules A) (s : State A) (c : Cal
 
 -- a board whose calls ask of the labels what they are able to do
 module _ {A : Type 0} {n : ℕ} {r : Rules A} {a₀ : A} {Able : LabelStep → Type 0} (L : Simulable n r a₀ Able)
-    (B : Board) (able : (o : Rest) (c : Call) → Able (labelStep (B .judge n o c))) where
+    (B : Board) (able : (o : Rest) (c : Call) → Able (labelStep (judge B n o c))) where
   -- what a call asks of the labels
   abbrev asked : State A → Call → LabelStep
-  asked s c = labelStep (B .judge n (s .rest) c)
+  asked s c = labelStep (judge B n (s .rest) c)
 
   -- and what it does to numbers
   renumbering : State A → Labelling ℕ → Call → Renumbering
@@ -67,7 +67,7 @@ module _ {A : Type 0} {n : ℕ} {r : Rules A} {a₀ : A} {Able : LabelStep → T
     follows : (f : ℕ → ℕ) → Rising f → (v : ℕ) → (1 ≤ snapsOf B n s c → v ≡ f (e .number))
         → step B n (numbered v) (shadow (through (λ x. f (e .shift x)) N) s) c ≡ like (through f (e .beside)) (step B n r s c)
     unfolding step snapsOf
-    follows f rise v h = ap₂ (λ (order : Lists.List ℕ) (l : Labelling ℕ). answer c l (carryOut order (s .rest) (B .judge n (s .rest) c)))
+    follows f rise v h = ap₂ (λ (order : Lists.List ℕ) (l : Labelling ℕ). answer c l (carryOut B order (s .rest) (judge B n (s .rest) c)))
         (sym (ordered-same n n _ _ (le-refl n) (order-kept L (s .labels) N i (λ x. f (e .shift x)) (λ x y u. rise _ _ (S .rising x y u)) v)))
         (S .follow f rise v h)
 
@@ -121,7 +121,7 @@ module _ {A : Type 0} {n : ℕ} {r : Rules A} {a₀ : A} {Able : LabelStep → T
     pub zero : f 0 ≡ 0
     pub each : length ns ≡ snaps B n (λ _. r) s [] cs
     pub one : length ns ≡ length (labelSnaps B n (shadow (through f N) s) ns cs)
-    pub same : map (seen n) (run B n (λ _. r) s [] cs) ≡ map (seen n) (run B n numbered (shadow (through f N) s) ns cs)
+    pub same : map (seen B n) (run B n (λ _. r) s [] cs) ≡ map (seen B n) (run B n numbered (shadow (through f N) s) ns cs)
     pub newest : zeros ns ≡ newestSnaps B n r s cs
     pub spans : (b : ℕ) → Upto n N b → Spans s N cs f ns b
 
@@ -145,7 +145,7 @@ module _ {A : Type 0} {n : ℕ} {r : Rules A} {a₀ : A} {Able : LabelStep → T
     zero = ap f (S .zero) ∙ T .zero;
     each = rw (snaps-cons B n r s c cs, length-append, length-replicate) (ap (λ k. ℓ + k) (T .each));
     one = rw met-here (length-append (replicate ℓ v) ns ∙ ap₂ _+_ (length-replicate ℓ v ∙ sym met-one) (T .one) ∙ sym (length-append x xs));
-    same = rw (run-cons B n r s c cs, runs) (ap (λ l. seen n a ∷ l) (T .same));
+    same = rw (run-cons B n r s c cs, runs) (ap (λ l. seen B n a ∷ l) (T .same));
     newest = unfold newestSnaps snapsOf in map-append (λ y. eqb y 0) (replicate ℓ v) ns ∙ ap₂ _++_ (S .newest f (T .rising) (T .zero)) (T .newest);
     spans = λ b h. let U = S .span b h in spans b U (T .spans (U .b′) (U .upto));
   }
@@ -238,7 +238,7 @@ module _ {A : Type 0} {n : ℕ} {r : Rules A} {a₀ : A} {Able : LabelStep → T
 pub record Numbers {A : Type 0} (B : Board) (n : ℕ) (r : Rules A) (a : A) (cs : Lists.List Call) (ns : Lists.List ℕ) : Type 0 where
   pub each : length ns ≡ snaps B n (λ _. r) (fresh a) [] cs
   pub fits : Fits B n (snaps B n (λ _. r) (fresh a) [] cs) (fresh 0) ns cs
-  pub same : map (seen n) (run B n (λ _. r) (fresh a) [] cs) ≡ map (seen n) (run B n numbered (fresh 0) ns cs)
+  pub same : map (seen B n) (run B n (λ _. r) (fresh a) [] cs) ≡ map (seen B n) (run B n numbered (fresh 0) ns cs)
   pub newest : zeros ns ≡ newestSnaps B n r (fresh a) cs
   pub gapless : Gapless ns
 
@@ -248,7 +248,7 @@ Found B n r a cs ns = Numbers B n r a cs ns × All (Bounded n (snaps B n (λ _. 
 
 -- THE SEQUENCE THEOREM: the numbers that the pass finds are such, for every sequence of calls
 pub finds : {A : Type 0} {n : ℕ} {r : Rules A} {a : A} {Able : LabelStep → Type 0} (L : Simulable n r a Able) (B : Board)
-    → ((o : Rest) (c : Call) → Able (labelStep (B .judge n o c))) → (cs : Lists.List Call)
+    → ((o : Rest) (c : Call) → Able (labelStep (judge B n o c))) → (cs : Lists.List Call)
     → Found B n r a cs (renumbered n r (L .slot) B (fresh a) (λ x i. 0) [] cs)
 finds {A} {n} {r} {a} L B able cs = subst (Found B n r a cs) (sym (renumbered-is L B able cs (fresh a) (λ x i. 0) [])) (
   record {
@@ -257,7 +257,7 @@ finds {A} {n} {r} {a} L B able cs = subst (Found B n r a cs) (sym (renumbered-is
       one = S .one ∙ ap (λ s. length (labelSnaps B n s ns cs)) begin;
       each = subst (λ s. All (Fit most) (labelSnaps B n s ns cs)) begin (all-weaken (fit-weaken few) (labelSnaps B n u ns cs) (T .fit));
     };
-    same = S .same ∙ ap (λ s. map (seen n) (run B n numbered s ns cs)) begin;
+    same = S .same ∙ ap (λ s. map (seen B n) (run B n numbered s ns cs)) begin;
     newest = S .newest;
     gapless = record { most = T .most; upto = T .upto; each = λ v l u. given-only v (T .reach v l u) };
   },
@@ -299,7 +299,7 @@ pub record Simulates {A : Type 0} (B : Board) (n : ℕ) (r : Rules A) (a : A) (c
   pub whole : All (λ a. 1 ≤ a) advances
   pub each : length advances ≡ snaps B n (λ _. r) (fresh a) [] cs
   pub eachᵘ : length advances ≡ snaps B n numbers (fresh 0) advances cs
-  pub same : map (seen n) (run B n (λ _. r) (fresh a) [] cs) ≡ map (seen n) (run B n numbers (fresh 0) advances cs)
+  pub same : map (seen B n) (run B n (λ _. r) (fresh a) [] cs) ≡ map (seen B n) (run B n numbers (fresh 0) advances cs)
   pub bound : All (Bounded n (snaps B n (λ _. r) (fresh a) [] cs)) (run B n numbers (fresh 0) advances cs)
 
 pub simulates : {A : Type 0} {B : Board} {n : ℕ} {r : Rules A} {a : A} {cs : Lists.List Call} {ns : Lists.List ℕ} → Found B n r a cs ns → Simulates B n r a cs
@@ -308,7 +308,7 @@ simulates {A} {B} {n} {r} {a} {cs} {ns} (N, bound) = record {
   whole = advances-whole _ l (N .fits .each);
   each = length-map l advance ∙ sym (N .fits .one) ∙ N .each;
   eachᵘ = length-map l advance ∙ sym (R .1);
-  same = N .same ∙ ap (map (seen n)) (sym (R .0));
+  same = N .same ∙ ap (map (seen B n)) (sym (R .0));
   bound = rw (R .0) bound;
 }
   where

@@ -11,6 +11,7 @@ use Rattle.label.specs.Labels.{Label, agrees, labelBelow}
 use Rattle.basics.proofs.Facts.{both, and-both, or-left, or-right, implies, every-all}
 use Rattle.label.proofs.Order.{agree-agrees, below-less}
 use Rattle.label.proofs.Total.{below-true}
+use Rattle.simulation.specs.Calls.{Board}
 use Rattle.simulation.specs.Machine.{Labelling, digits, stands, pendingAfter}
 use Rattle.simulation.specs.PaperRule.{choice, everyChoice, totallyOrdered, tot, paperPending}
 use Rattle.simulation.proofs.Sync.{Sync, less, same, more, lt-number, number-lt}
@@ -28,9 +29,9 @@ compared {m} {a} {b} (same e h) = or-left _ (agree-agrees m a b (λ p l. ap (λ 
 compared {m} {a} {b} (more l h) = or-right (agrees m a b) (or-right (labelBelow m a b) (below-less l))
 
 -- labels of n processes, under the invariant
-module _ (n : ℕ) (some : 1 ≤ n) (l : Labelling Label) (N : Labelling ℕ) (r : Ready (n - 1) l N) where
+module _ (B : Board) (n : ℕ) (some : 1 ≤ n) (l : Labelling Label) (N : Labelling ℕ) (r : Ready (n - 1) l N) where
   -- the newest process has its label pending too
-  pub newest-pending : let z = newest n (stands (digits n) l) in l true z ≡ l false z
+  pub newest-pending : let z = newest n (stands (digits B n) l) in l true z ≡ l false z
   newest-pending = rw (newest-labels n (n - 1) (omega arith) l N r) (r .inv .pending ∙ sym (r .inv .current))
 
   -- the labels of a choice vector stand to each other as their numbers do
@@ -62,9 +63,9 @@ module _ (n : ℕ) (some : 1 ≤ n) (l : Labelling Label) (N : Labelling ℕ) (r
   tot-holds = every-choice n _ _ choice-ordered
 
   -- so the paper always makes a new label where 01 does
-  pub paper-agrees : (k : ℕ) → paperPending n (digits n) l k ≡ pendingAfter n (digits n) l k
+  pub paper-agrees : (k : ℕ) → paperPending n (digits B n) l k ≡ pendingAfter n (digits B n) l k
   unfolding paperPending pendingAfter
-  paper-agrees k = rw tot-holds (swap _ _ (eqb k (newest n (stands (digits n) l))))
+  paper-agrees k = rw tot-holds (swap _ _ (eqb k (newest n (stands (digits B n) l))))
     where
       swap : (a b : Label) (x : Bool) → cond (true && not x) a b ≡ cond x b a
       swap a b true = refl

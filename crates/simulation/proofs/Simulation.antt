@@ -1,5 +1,5 @@
 -- The bounded labels owe what the sequence theorem asks, for every number of processes: the paper's invariant (sections 5 to 7) is the relation. So the
--- theorem holds of the original board.
+-- theorem holds of every board that fills them with 1.
 use Prim.Native.Nat.{ℕ, suc, _-_, _≤_, _<_}
 use native.Mathlib.Omega.{arith}
 use native.Mathlib.Decide.{ℕ-discrete}
@@ -13,8 +13,8 @@ use Rattle.label.specs.Labels.{Label, labelBefore, level, newLabel}
 use Rattle.basics.proofs.Facts.{Same, newest-same}
 use Rattle.label.proofs.Order.{before-same, next-label-behind}
 use Rattle.label.proofs.Choice.{Choice, level-spec}
-use Rattle.simulation.specs.Calls.{Call}
-use Rattle.simulation.specs.Machine.{original, Labelling, put, copy, digits, State, step}
+use Rattle.simulation.specs.Calls.{Board, original, Call}
+use Rattle.simulation.specs.Machine.{Labelling, put, copy, digits, State, step, freshLabel}
 use Rattle.simulation.specs.Numbering.{slotOf, placed, numbersOf}
 use Rattle.simulation.proofs.Labellings.{by-put}
 use Rattle.simulation.proofs.Sync.{number-same, sync-before, byNumber, newest-unique, newest-is}
@@ -91,9 +91,19 @@ module _ (n m : ℕ) (size : n ≡ suc m) where
 pub fresh-ready : (m : ℕ) → Ready m (λ x i p. 1) (λ x i. 0)
 fresh-ready m = record { z = m; top = λ p. 1; inv = Invariant.fresh m; behind = λ x i p h. refl }
 
--- so these labels are simulable, on every board whose calls ask for snaps and updates of its n processes alone
-pub bounded : (n : ℕ) → 1 ≤ n → Simulable n (digits n) (λ p. 1) (Inside n)
-bounded n some = let size : n ≡ suc (n - 1) = omega arith in record {
+-- THE BOARDS whose labels are so: those that are filled with 1
+pub data Proper : Board → Type 0 where
+  stepwise : (per known : ℕ) (apart : Bool) → 1 ≤ per → Proper (record { perStation = per; fill = 1; scanApart = apart; known = known })
+
+pub original-proper : Proper original
+original-proper = stepwise 1 7 false (omega arith)
+
+pub proper-some : {B : Board} → Proper B → 1 ≤ B .perStation
+proper-some (stepwise per known apart h) = h
+
+-- so their labels are simulable
+pub bounded : {B : Board} → Proper B → (n : ℕ) → 1 ≤ n → Simulable n (digits B n) (freshLabel B) (Inside n)
+bounded (stepwise per known apart h) n some = let size : n ≡ suc (n - 1) = omega arith in record {
   slot = slotOf (n - 1);
   R = Ready (n - 1);
   start = fresh-ready (n - 1);
@@ -102,18 +112,16 @@ bounded n some = let size : n ≡ suc (n - 1) = omega arith in record {
   updates = updates n (n - 1) size;
 }
 
--- THE ORIGINAL BOARD
-module _ (n : ℕ) (some : 1 ≤ n) where
-  -- the invariant after a call
-  pub ready-step : (s : State Label) (N : Labelling ℕ) (c : Call) → Ready (n - 1) (s .labels) N
-      → (N′ : Labelling ℕ) × Ready (n - 1) (step original n (digits n) s c .state .labels) N′
-  unfolding bounded
-  ready-step s N c r = step-keeps (bounded n some) original (inside n) s N c r
+-- the invariant after a call
+pub ready-step : {B : Board} → Proper B → (n : ℕ) → 1 ≤ n → (s : State Label) (N : Labelling ℕ) (c : Call) → Ready (n - 1) (s .labels) N
+    → (N′ : Labelling ℕ) × Ready (n - 1) (step B n (digits B n) s c .state .labels) N′
+unfolding bounded
+ready-step {B} (stepwise per known apart h) n some s N c r = step-keeps (bounded (stepwise per known apart h) n some) B (inside B n) s N c r
 
-  -- every sequence of calls has its numbers, and its advances
-  pub numbering : (cs : Lists.List Call) → Found original n (digits n) (λ p. 1) cs (numbersOf original n cs)
-  unfolding bounded
-  numbering cs = finds (bounded n some) original (inside n) cs
+-- every sequence of calls has its numbers, and its advances
+pub numbering : {B : Board} → Proper B → (n : ℕ) → 1 ≤ n → (cs : Lists.List Call) → Found B n (digits B n) (freshLabel B) cs (numbersOf B n cs)
+unfolding bounded
+numbering {B} (stepwise per known apart h) n some cs = finds (bounded (stepwise per known apart h) n some) B (inside B n) cs
 
-  pub simulation : (cs : Lists.List Call) → Simulates original n (digits n) (λ p. 1) cs
-  simulation cs = simulates (numbering cs)
+pub simulation : {B : Board} → Proper B → (n : ℕ) → 1 ≤ n → (cs : Lists.List Call) → Simulates B n (digits B n) (freshLabel B) cs
+simulation p n some cs = simulates (numbering p n some cs)

@@ -7,8 +7,8 @@ use mathlib.Core.List.{[], _∷_, _++_, map, List·Memᴰ}
 use lib.ListN.{length, getD, drop}
 use lib.Dec.{eqb}
 use Rattle.basics.specs.Tests.{newest, All}
-use Rattle.simulation.specs.Calls.{Call}
-use Rattle.simulation.specs.Machine.{Board, Labelling, Rules, numberBefore, stands, LabelStep, stay, snap, update, labelStep, State, step, snapsOf}
+use Rattle.simulation.specs.Calls.{Board, Call, judge}
+use Rattle.simulation.specs.Machine.{Labelling, Rules, numberBefore, stands, LabelStep, stay, snap, update, labelStep, State, step, snapsOf}
 
 -- UCTSS where a snap is given its number itself: it becomes pending, unless the process is the newest
 abbrev pub numbered : ℕ → Rules ℕ
@@ -30,7 +30,7 @@ unfoldable pub labelSnaps : Board → ℕ → State ℕ → Lists.List ℕ → L
 labelSnaps B n s ns [] = []
 labelSnaps B n s ns (c ∷ cs) =
     let v = getD ns 0 0 in
-    met n (s .labels) (labelStep (B .judge n (s .rest) c)) v ++ labelSnaps B n (step B n (numbered v) s c .state) (drop (snapsOf B n s c) ns) cs
+    met n (s .labels) (labelStep (judge B n (s .rest) c)) v ++ labelSnaps B n (step B n (numbered v) s c .state) (drop (snapsOf B n s c) ns) cs
 
 -- the newest process is given 0; any other a number above the top number, and no higher than `most`
 pub record Fit (most : ℕ) (x : LabelSnap) : Type 0 where
@@ -63,7 +63,7 @@ newestSnap n r l (update k) = []
 
 unfoldable pub newestSnaps : {A : Type 0} → Board → ℕ → Rules A → State A → Lists.List Call → Lists.List Bool
 newestSnaps B n r s [] = []
-newestSnaps B n r s (c ∷ cs) = newestSnap n r (s .labels) (labelStep (B .judge n (s .rest) c)) ++ newestSnaps B n r (step B n r s c .state) cs
+newestSnaps B n r s (c ∷ cs) = newestSnap n r (s .labels) (labelStep (judge B n (s .rest) c)) ++ newestSnaps B n r (step B n r s c .state) cs
 
 -- which numbers are 0
 abbrev pub zeros : Lists.List ℕ → Lists.List Bool

@@ -10,9 +10,9 @@ use lib.Dec.{eqb, leb}
 use Rattle.basics.specs.Tests.{newest, firstFrom}
 use Rattle.label.specs.Labels as Labels
 use Rattle.label.specs.Labels.{otherAgrees, labelBelow}
-use Rattle.simulation.specs.Calls.{Call}
-use Rattle.simulation.specs.Machine.{Board, Labelling, put, copy, Rules, digits, stands, LabelStep, stay, snap, update, labelStep}
-use Rattle.simulation.specs.Machine.{State, fresh, step, snapsOf}
+use Rattle.simulation.specs.Calls.{Board, Call, judge}
+use Rattle.simulation.specs.Machine.{Labelling, put, copy, Rules, digits, stands, LabelStep, stay, snap, update, labelStep}
+use Rattle.simulation.specs.Machine.{State, freshLabel, fresh, step, snapsOf}
 
 abbrev pub through : {A B : Type 0} → (A → B) → Labelling A → Labelling B
 through f l x i = f (l x i)
@@ -70,9 +70,9 @@ module _ {A : Type 0} (n : ℕ) (r : Rules A) (at : (ℕ → A) → (ℕ → ℕ
   unfoldable pub renumbered : Board → State A → Labelling ℕ → Lists.List ℕ → Lists.List Call → Lists.List ℕ
   renumbered B s N given [] = given
   renumbered B s N given (c ∷ cs) =
-      let e = renumber (s .labels) N (labelStep (B .judge n (s .rest) c)) in
+      let e = renumber (s .labels) N (labelStep (judge B n (s .rest) c)) in
       renumbered B (step B n r s c .state) (e .beside) (map (e .shift) given ++ replicate (snapsOf B n s c) (e .number)) cs
 
 -- THE NUMBERS of a sequence of calls on n processes of a board, from the fresh state
 abbrev pub numbersOf : Board → ℕ → Lists.List Call → Lists.List ℕ
-numbersOf B n cs = renumbered n (digits n) (slotOf (n - 1)) B (fresh (λ p. 1)) (λ x i. 0) [] cs
+numbersOf B n cs = renumbered n (digits B n) (slotOf (n - 1)) B (fresh (freshLabel B)) (λ x i. 0) [] cs

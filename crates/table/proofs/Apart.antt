@@ -16,7 +16,6 @@ use Rattle.label.specs.Labels as Labels
 use Rattle.label.specs.Rows.{row}
 use Rattle.simulation.specs.Calls as Calls
 use Rattle.simulation.specs.Machine.{State}
-use Rattle.transition.proofs.Written.{Kept}
 use Rattle.transition.proofs.Theorem.{Lawful}
 use Rattle.moves.specs.Moves.{operationOf, phaseOf}
 use Rattle.moves.specs.declared.Operation.{Operation}
@@ -27,7 +26,7 @@ use Rattle.arrays.specs.Arrays.{Rows, Arrays, arrays, cell, planes, phaseNumber
 use Rattle.arrays.specs.WellFormed.{wellFormed}
 use Rattle.arrays.specs.Sizes.{Sized, Shaped}
 use Rattle.arrays.proofs.States.{phase-back, phase-low, number-back, out-back, out-low, out-number, lent-lawful, written-held}
-use Rattle.table.specs.Tables.{declaredOperation, declaredPhase, declaredEntry, blank, rowsOf, entriesOf, at, takenApart, stationOf, putTogether, declared}
+use Rattle.table.specs.Tables.{declaredOperation, declaredPhase, declaredEntry, blank, rowsOf, entriesOf, at, takenApart, declaredStation, putTogether, declared}
 use Rattle.table.specs.declared.Entry.{Entry}
 use Rattle.table.specs.declared.Station.{Station}
 use Rattle.table.specs.declared.Table.{Table}
@@ -82,11 +81,12 @@ declared-back Snap = refl
 declared-back Update = refl
 declared-back (End o) = ap End (operation-back o)
 
-declared-kept : (p : Phase) → Kept (phaseOf p)
-declared-kept Idle = tt
-declared-kept Snap = tt
-declared-kept Update = tt
-declared-kept (End o) = tt
+declared-kept : (p : Phase) → Calls.hasPhase Calls.original (phaseOf p) ≡ true
+declared-kept Idle = refl
+declared-kept Snap = refl
+declared-kept Update = refl
+declared-kept (End Label) = refl
+declared-kept (End Scan) = refl
 
 declared-number : (p : Calls.Phase) → phaseNumber (phaseOf (declaredPhase p)) ≡ phaseNumber p
 declared-number Calls.Idle = refl
@@ -112,13 +112,13 @@ entries-back l e = tabulate-is 32 l blank _ e (λ p u. ap₂ declaredEntry (elem
 -- ARRAYS, PUT TOGETHER
 
 module _ (a : Arrays) (g : Shaped a) (known : (i : ℕ) → i < 32 → (cell (a .control) 0 i 0 ≤ 4) × (cell (a .control) 1 i 0 ≤ 1)) where
-  put-at : (i : ℕ) → i < 32 → at (putTogether a) i ≡ stationOf a i
+  put-at : (i : ℕ) → i < 32 → at (putTogether a) i ≡ declaredStation a i
   unfolding putTogether
-  put-at i h = element (stationOf a) _ i h
+  put-at i h = element (declaredStation a) _ i h
 
   -- a plane of what f takes of each record
   plane-back : {A : Type 0} (xs : Lists.List (Lists.List A)) (k : ℕ) (d : A) (f : Station → A) → length (getD xs k []) ≡ 32
-      → ((i : ℕ) → i < 32 → f (stationOf a i) ≡ cell xs k i d) → tabulate 32 0 (λ i. f (at (putTogether a) i)) ≡ getD xs k []
+      → ((i : ℕ) → i < 32 → f (declaredStation a i) ≡ cell xs k i d) → tabulate 32 0 (λ i. f (at (putTogether a) i)) ≡ getD xs k []
   plane-back xs k d f e h = tabulate-is 32 (getD xs k []) d _ e (λ i l. ap f (put-at i l) ∙ h i l)
 
   pub apart-together : takenApart (putTogether a) ≡ a
@@ -168,10 +168,10 @@ module _ (n : ℕ) (s : State Labels.Label) where
 pub declared-lawful : Lawful declared
 unfolding putTogether arraysOf
 declared-lawful = record {
-  board = refl;
+  proper = lent-lawful .proper;
   counted = λ n s. refl;
-  held = λ n h s w. ap stateOf (written-apart n s) ∙ lent-lawful .held n h s w;
-  passes = λ n l h s r. ap wellFormed (written-apart n s) ∙ lent-lawful .passes n l h s r;
+  held = λ n z s r. ap stateOf (written-apart n s) ∙ lent-lawful .held n z s r;
+  passes = λ n z s r. ap wellFormed (written-apart n s) ∙ lent-lawful .passes n z s r;
 }
 
 -- A TABLE, TAKEN APART
@@ -188,7 +188,7 @@ pub record Whole (t : Table) : Type 0 where
 
 module _ (t : Table) (w : Whole t) where
   -- the record at a place is the one that the arrays have there
-  pub station-apart : (i : ℕ) → i < 32 → stationOf (takenApart t) i ≡ at t i
+  pub station-apart : (i : ℕ) → i < 32 → declaredStation (takenApart t) i ≡ at t i
   unfolding takenApart
   station-apart i h y = record {
     label = element (λ k. at t k .label) [] i h y;
@@ -204,7 +204,7 @@ module _ (t : Table) (w : Whole t) where
   pub together-apart : putTogether (takenApart t) ≡ t
   unfolding putTogether takenApart
   together-apart = ap (λ (l : Lists.List Station). record { count = t .count; stations = l })
-      (tabulate-is 32 (t .stations) _ (stationOf (takenApart t)) (w .places) station-apart)
+      (tabulate-is 32 (t .stations) _ (declaredStation (takenApart t)) (w .places) station-apart)
 
   pub apart-shaped : Shaped (takenApart t)
   unfolding takenApart

@@ -5,7 +5,7 @@ ghost use Prim.Native.Nat.{_+_, _*_, _≤_, _<_};
 ghost use lib.ListN.{length};
 ghost use Rattle.io.specs.Counts.{Counts};
 ghost use Rattle.arrays.specs.Arrays.{arrays};
-ghost use Rattle.file.specs.Feeds.{Standing};
+ghost use Rattle.file.specs.Feeds.{Underway};
 use arrays::Control;
 use arrays::Jobs;
 use arrays::Labels;
@@ -50,9 +50,9 @@ fn serve_part(
     part: &[u8],
     out: &mut [u8],
 ) -> Stage
-    requires { ⌜ Standing run (arrays (run .count) (now labels) (now jobs) (now control) (now results)) (now order) ⌝ }
+    requires { ⌜ Underway run (arrays (run .count) (now labels) (now jobs) (now control) (now results)) (now order) ⌝ }
     requires { ⌜ 928 ≤ length (now out) ⌝ }
-    ensures { λ r. ⌜ Standing (r .run) (arrays (r .run .count) (now (labels .exit)) (now (jobs .exit)) (now (control .exit)) (now (results .exit)))
+    ensures { λ r. ⌜ Underway (r .run) (arrays (r .run .count) (now (labels .exit)) (now (jobs .exit)) (now (control .exit)) (now (results .exit)))
         (now (order .exit)) ⌝ }
     ensures { λ r. ⌜ (r .more ≡ true → (last ≡ false) × (r .count ≤ length (now (part .entry))) × (length (now (part .entry)) < r .count + 18)
         × (18 * r .run .lines ≡ 18 * run .lines + r .count) × (r .run .lines ≤ 1000001)) ⌝ }
@@ -118,10 +118,10 @@ fn read_part(
     input: &mut [u8],
     out: &mut [u8],
 ) -> Stage
-    requires { ⌜ Standing run (arrays (run .count) (now labels) (now jobs) (now control) (now results)) (now order) ⌝ }
+    requires { ⌜ Underway run (arrays (run .count) (now labels) (now jobs) (now control) (now results)) (now order) ⌝ }
     requires { ⌜ (kept < 18) × (36 ≤ length (now input)) ⌝ }
     requires { ⌜ 928 ≤ length (now out) ⌝ }
-    ensures { λ r. ⌜ Standing (r .run) (arrays (r .run .count) (now (labels .exit)) (now (jobs .exit)) (now (control .exit)) (now (results .exit)))
+    ensures { λ r. ⌜ Underway (r .run) (arrays (r .run .count) (now (labels .exit)) (now (jobs .exit)) (now (control .exit)) (now (results .exit)))
         (now (order .exit)) ⌝ }
     ensures { λ r. ⌜ (r .more ≡ true → (r .count < 18) × (run .lines < r .run .lines) × (r .run .lines ≤ 1000001)) ⌝ }
 {

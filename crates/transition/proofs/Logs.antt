@@ -14,15 +14,15 @@ use borrow.Author.Tests.{eqb-true, eq-eqb, ne-eqb, ltb-true, lt-ltb, leb-true, l
 use Rattle.basics.specs.Tests.{count, newest, ordered, All}
 use Rattle.basics.proofs.Facts.{tf, and-both, both, is-false, all-weaken, bit-one}
 use Rattle.basics.proofs.Counts.{count-none, count-but}
-use Rattle.simulation.specs.Calls.{Call, place, Label, Scan, Buffer, Phase, Idle, Update, Snap, End, Process, Rest, Move, judge, bytesOf, written}
+use Rattle.simulation.specs.Calls.{Call, place, Label, Scan, Buffer, Phase, Idle, Update, Snap, End, Process, Rest, Move, judge, bytesOf, written, Board}
+use Rattle.simulation.specs.Machine.{Labelling, stands, LabelStep, stay, snap, update, labelStep, labelSnap, carryOut, State, fresh, inPhase, begun, updated}
+use Rattle.simulation.specs.Machine.{setOut, changed, Answer, step, snapsOf, Seen}
 use Rattle.simulation.specs.Machine as Machine
-use Rattle.simulation.specs.Machine.{Board, original, Labelling, stands, LabelStep, stay, snap, update, labelStep, labelSnap, carryOut, State, fresh}
-use Rattle.simulation.specs.Machine.{inPhase, begun, updated, setOut, changed, Answer, step, snapsOf, Seen}
 use Rattle.simulation.specs.Numbered.{numbered, LabelSnap, met, labelSnaps, Fit, Fits}
 use Rattle.simulation.proofs.Advances.{met-length, fit-weaken}
-use Rattle.simulation.proofs.Judged.{Own, own-place, Verdict, turned, begins, scans, updates, snaps, ends, service, verdict-in}
+use Rattle.simulation.proofs.Judged.{Own, own-place, VerdictIn, turned, begins, beginsScan, scans, updates, snaps, ends, service, verdict-in}
 use Rattle.simulation.proofs.Reports.{lines-length}
-use Rattle.transition.specs.Forms.{Form, TableAnswer, freshTable}
+use Rattle.transition.specs.Forms.{Form, TableAnswer, freshTable, stepOf}
 use Rattle.transition.specs.Demand.{runTable, seenIn}
 use Rattle.transition.specs.Demand as Demand
 use Rattle.transition.specs.Numbers.{withNumbers, Numbers}
@@ -136,7 +136,7 @@ exactly B n (c ∷ cs) s ns bytes = go (exactly B n cs s′ ns′ rest)
     rest = drop (length mine) bytes
 
     w : LabelStep
-    w = labelStep (B .judge n (s .rest) c)
+    w = labelStep (judge B n (s .rest) c)
 
     go : (right B n s′ ns′ rest cs ≡ true) ↔ (Fits B n 4294967295 s′ ns′ cs × (rest ≡ writes B n s′ ns′ cs))
         → ((fitsNext n (s .labels) w ns && (atFront mine bytes && right B n s′ ns′ rest cs)) ≡ true)
@@ -170,7 +170,7 @@ unfolding labelSnaps
 met-few B n [] s ns = omega arith
 met-few B n (c ∷ cs) s ns =
     let v = getD ns 0 0 in
-    let w = labelStep (B .judge n (s .rest) c) in
+    let w = labelStep (judge B n (s .rest) c) in
     let s′ = step B n (numbered v) s c .state in
     let ns′ = drop (snapsOf B n s c) ns in
     omega (arith, length-append (met n (s .labels) w v) (labelSnaps B n s′ ns′ cs), met-length n (s .labels) v w, one w, met-few B n cs s′ ns′)
@@ -196,10 +196,10 @@ abbrev endings : ℕ → Rest → ℕ
 endings n o = count n (λ i. endsScan (o .process i .phase))
 
 -- what is handed out fits the buffer that is lent: an end without room is refused
-handed-half : (n b : ℕ) (c : Call) (order : Lists.List ℕ) (o : Rest) → c .room ≡ Buffer b → let a = carryOut order o (judge false n o c) in
+handed-half : (B : Board) (n b : ℕ) (c : Call) (order : Lists.List ℕ) (o : Rest) → c .room ≡ Buffer b → let a = carryOut B order o (judge B n o c) in
     2 * (length (a .handed) * 29) + b * endings n (a .rest) ≤ b + b * endings n o
 unfolding carryOut
-handed-half n b c order o e = go (verdict-in n o c)
+handed-half B n b c order o e = go (verdict-in B n o c)
   where
     k : ℕ
     k = place c
@@ -218,11 +218,12 @@ handed-half n b c order o e = go (verdict-in n o c)
         let up : count n (after f) ≤ suc (endings n o) = omega (arith, one own f, bit-one (endsScan (f (o .process k) .phase))) in
         omega (arith, mul-le-mul-left b up, mul-suc b (endings n o))
 
-    go : {w : Move} → Verdict n (length (o .result k)) c (o .process k .out) (o .process k .phase) w → let a = carryOut order o w in
+    go : {w : Move} → VerdictIn B n o c w → let a = carryOut B order o w in
         2 * (length (a .handed) * 29) + b * endings n (a .rest) ≤ b + b * endings n o
     go (turned x d) = omega arith
-    go (begins own q) = omega (arith, more own (begun (c .job)))
-    go (scans own q) = omega (arith, more own (inPhase (End Scan)))
+    go (begins own f) = omega (arith, more own (begun (c .job)))
+    go (beginsScan own f a) = omega (arith, more own (inPhase (Snap Scan)))
+    go (scans own f a) = omega (arith, more own (inPhase (End Scan)))
     go (updates own q) = omega (arith, more own updated)
     go (snaps own Label q t) = omega (arith, more own (inPhase Update))
     go (snaps own Scan q t) = omega (arith, more own (inPhase (End Scan)))
@@ -234,41 +235,41 @@ handed-half n b c order o e = go (verdict-in n o c)
         omega (arith, leb-true _ b (rw e at h), ap (λ p. b * p) due, mul-suc b left)
     go (service own x q) = omega (arith, more own (setOut x))
 
-writes-half : (n b : ℕ) (cs : Lists.List Call) → All (λ c. c .room ≡ Buffer b) cs → (s : State ℕ) (ns : Lists.List ℕ)
-    → 2 * length (writes original n s ns cs) ≤ b * length cs + b * endings n (s .rest)
+writes-half : (B : Board) (n b : ℕ) (cs : Lists.List Call) → All (λ c. c .room ≡ Buffer b) cs → (s : State ℕ) (ns : Lists.List ℕ)
+    → 2 * length (writes B n s ns cs) ≤ b * length cs + b * endings n (s .rest)
 unfolding lists Machine.run step
-writes-half n b [] h s ns = omega arith
-writes-half n b (c ∷ cs) h s ns =
+writes-half B n b [] h s ns = omega arith
+writes-half B n b (c ∷ cs) h s ns =
     let r = numbered (getD ns 0 0) in
-    let a = step original n r s c in
-    let ns′ = drop (snapsOf original n s c) ns in
+    let a = step B n r s c in
+    let ns′ = drop (snapsOf B n s c) ns in
     let order = ordered n (stands r (s .labels)) in
-    let l = carryOut order (s .rest) (judge false n (s .rest) c) .handed in
+    let l = carryOut B order (s .rest) (judge B n (s .rest) c) .handed in
     omega (
       arith,
-      length-append (bytesOf (a .report)) (writes original n (a .state) ns′ cs),
+      length-append (bytesOf (a .report)) (writes B n (a .state) ns′ cs),
       ap (λ r. length (bytesOf (written (c .line) r l))) (h .0) ∙ lines-length (c .line) 1 l,
-      handed-half n b c order (s .rest) (h .0),
-      writes-half n b cs (h .1) (a .state) ns′,
+      handed-half B n b c order (s .rest) (h .0),
+      writes-half B n b cs (h .1) (a .state) ns′,
       mul-suc b (length cs),
     )
 
-pub report-half : (b : ℕ) {n : ℕ} {calls : Lists.List Call} {ns bytes : Lists.List ℕ} → All (λ c. c .room ≡ Buffer b) calls → Right original n calls ns bytes
+pub report-half : {B : Board} (b : ℕ) {n : ℕ} {calls : Lists.List Call} {ns bytes : Lists.List ℕ} → All (λ c. c .room ≡ Buffer b) calls → Right B n calls ns bytes
     → 2 * length bytes ≤ b * length calls
-report-half b {n} {calls} {ns} h R =
-    omega (arith, ap length (R .report), writes-half n b calls h (fresh 0) ns, ap (λ p. b * p) (count-none n (λ i. false) (λ j l. refl)))
+report-half {B} b {n} {calls} {ns} h R =
+    omega (arith, ap length (R .report), writes-half B n b calls h (fresh 0) ns, ap (λ p. b * p) (count-none n (λ i. false) (λ j l. refl)))
 
 -- RIGHT LOGS: numbers that do for the calls (02, Card 6), with the lists of the table of labels
 pub logged : {F : Form} {n : ℕ} {calls : Lists.List Call} {ns : Lists.List ℕ} → Numbers F n calls ns → length calls ≤ 4294967295
-    → Right (F .board) n calls ns (lists (map (λ a. a .report) (runTable F (freshTable F n) calls)))
+    → Right (F .board) n calls ns (lists (map (λ a. a .report) (runTable (stepOf F) (freshTable F n) calls)))
 logged {F} {n} {calls} {ns} N few = record {
   fits = record { one = N .fits .one; each = all-weaken (fit-weaken low) (labelSnaps (F .board) n (fresh 0) ns calls) (N .fits .each) };
   report = ap lists (sym (map-map (λ (s : Seen). s .report) (seenIn F) xs) ∙ ap (map (λ (s : Seen). s .report)) (N .same)
-      ∙ map-map (λ (s : Seen). s .report) (Machine.seen n) ys);
+      ∙ map-map (λ (s : Seen). s .report) (Machine.seen (F .board) n) ys);
 }
   where
     xs : Lists.List (TableAnswer (F .Table))
-    xs = runTable F (freshTable F n) calls
+    xs = runTable (stepOf F) (freshTable F n) calls
 
     ys : Lists.List (Answer ℕ)
     ys = withNumbers (F .board) n ns calls

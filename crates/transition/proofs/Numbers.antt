@@ -1,61 +1,57 @@
 -- The numbers found beside the labels do for every sequence of calls, on tables of every lawful form (02, Card 6).
-use Prim.Native.Nat.{ℕ, _≤_}
-use native.Mathlib.Omega.{arith}
-use mathlib.Core.Path.{_≡_, refl, sym, ap, ap₂, subst, _∙_}
+use Prim.Native.Nat.{ℕ}
+use mathlib.Core.Path.{_≡_, refl, sym, ap₂, subst, _∙_}
 use mathlib.Core.Bool.{Bool}
 use mathlib.Core.List as Lists
-use mathlib.Core.List.{[], _∷_, _++_, map}
+use mathlib.Core.List.{[], _∷_, _++_}
 use Rattle.label.specs.Labels as Labels
-use Rattle.simulation.specs.Calls.{Call}
+use Rattle.simulation.specs.Calls.{Call, judge}
+use Rattle.simulation.specs.Machine.{digits, labelStep, State, fresh, step, freshLabel}
 use Rattle.simulation.specs.Machine as Machine
-use Rattle.simulation.specs.Machine.{Board, original, digits, labelStep, State, fresh, step}
 use Rattle.simulation.specs.Numbered as Numbered
-use Rattle.simulation.specs.Numbered.{Fits, advances, newestSnap}
+use Rattle.simulation.specs.Numbered.{Fits, newestSnap}
 use Rattle.simulation.specs.Numbering.{numbersOf}
 use Rattle.simulation.proofs.Advances.{run-advances}
 use Rattle.simulation.proofs.Follow as Follow
 use Rattle.simulation.proofs.Simulation.{numbering}
-use Rattle.transition.specs.Forms.{Form, freshTable}
-use Rattle.transition.specs.Demand.{tableSnaps, unbounded}
-use Rattle.transition.specs.Numbers.{withNumbers, tableNewestSnaps, Numbers}
+use Rattle.transition.specs.Forms.{Form}
+use Rattle.transition.specs.Numbers.{tableNewestSnaps, Numbers}
+use Rattle.transition.proofs.Written.{Sized, sized-some}
 use Rattle.transition.proofs.Reached.{Reached, reached-fresh}
 use Rattle.transition.proofs.Theorem.{Lawful, reached-held, reached-passes, reached-written, reached-next, Runs, runs}
 
-module _ (F : Form) (L : Lawful F) (n : ℕ) (low : 2 ≤ n) (high : n ≤ 32) where
+module _ (F : Form) (L : Lawful F) (n : ℕ) (z : Sized (F .board) n) where
   -- whether snaps are the newest's is told alike by the table of a reached state and by the machine
-  newest-written : (cs : Lists.List Call) (s : State Labels.Label) → Reached n s
-      → tableNewestSnaps F (F .written n s) cs ≡ Numbered.newestSnaps original n (digits n) s cs
+  newest-written : (cs : Lists.List Call) (s : State Labels.Label) → Reached (F .board) n s
+      → tableNewestSnaps F (F .written n s) cs ≡ Numbered.newestSnaps (F .board) n (digits (F .board) n) s cs
   unfolding tableNewestSnaps Numbered.newestSnaps
   newest-written [] s r = refl
-  newest-written (c ∷ cs) s r = rw (reached-passes F L n low high r, reached-written F L n low high r c)
-      (ap₂ _++_ here (newest-written cs (step original n (digits n) s c .state) (reached-next F L n low high r c)))
+  newest-written (c ∷ cs) s r = rw (reached-passes F L n z r, reached-written F L n z r c)
+      (ap₂ _++_ here (newest-written cs (step (F .board) n (digits (F .board) n) s c .state) (reached-next F L n z r c)))
     where
-      asked : Board → ℕ → State Labels.Label → Lists.List Bool
-      asked B k u = newestSnap k (digits k) (u .labels) (labelStep (B .judge k (u .rest) c))
+      asked : ℕ → State Labels.Label → Lists.List Bool
+      asked k u = newestSnap k (digits (F .board) k) (u .labels) (labelStep (judge (F .board) k (u .rest) c))
 
-      here : asked (F .board) (F .count (F .written n s)) (F .state (F .written n s)) ≡ asked original n s
-      here = ap (λ B. asked B (F .count (F .written n s)) (F .state (F .written n s))) (L .board)
-          ∙ ap₂ (asked original) (L .counted n s) (reached-held F L n low high r)
+      here : asked (F .count (F .written n s)) (F .state (F .written n s)) ≡ asked n s
+      here = ap₂ asked (L .counted n s) (reached-held F L n z r)
 
   -- what does for the machines does for the tables
-  pub numbers-do : {calls : Lists.List Call} {ns : Lists.List ℕ} → Follow.Numbers original n (digits n) (λ p. 1) calls ns → Numbers F n calls ns
+  pub numbers-do : {calls : Lists.List Call} {ns : Lists.List ℕ} → Follow.Numbers (F .board) n (digits (F .board) n) (freshLabel (F .board)) calls ns → Numbers F n calls ns
   numbers-do {calls} {ns} N = record {
     each = N .each ∙ sym (R .count);
-    newest = N .newest ∙ sym (newest-written calls (fresh (λ p. 1)) start);
-    fits = subst (λ B. Fits B n (tableSnaps F (freshTable F n) calls) (fresh 0) ns calls) (sym (L .board))
-        (subst (λ k. Fits original n k (fresh 0) ns calls) (sym (R .count)) (N .fits));
-    same = R .same ∙ N .same ∙ ap (λ B. map (Machine.seen n) (withNumbers B n ns calls)) (sym (L .board));
-    grown = subst (λ B. withNumbers B n ns calls ≡ unbounded B n (advances B n (fresh 0) ns calls) calls) (sym (L .board))
-        (sym (run-advances original n _ calls (fresh 0) ns (N .fits .each) .0));
+    newest = N .newest ∙ sym (newest-written calls (fresh (freshLabel (F .board))) start);
+    fits = subst (λ k. Fits (F .board) n k (fresh 0) ns calls) (sym (R .count)) (N .fits);
+    same = R .same ∙ N .same;
+    grown = sym (run-advances (F .board) n _ calls (fresh 0) ns (N .fits .each) .0);
     gapless = N .gapless;
   }
     where
-      start : Reached n (fresh (λ p. 1))
-      start = reached-fresh n (omega arith)
+      start : Reached (F .board) n (fresh (freshLabel (F .board)))
+      start = reached-fresh (F .board) n (sized-some z) (L .proper)
 
-      R : Runs F n (fresh (λ p. 1)) calls
-      R = runs F L n low high calls (fresh (λ p. 1)) start
+      R : Runs F n (fresh (freshLabel (F .board))) calls
+      R = runs F L n z calls (fresh (freshLabel (F .board))) start
 
-  -- THE NUMBERS of a sequence of calls, for every number of stations from 2 to 32
-  pub numbers : (calls : Lists.List Call) → Numbers F n calls (numbersOf original n calls)
-  numbers calls = numbers-do (numbering n (omega arith) calls .0)
+  -- THE NUMBERS of a sequence of calls, for every number of processes of 2 to 32 stations
+  pub numbers : (calls : Lists.List Call) → Numbers F n calls (numbersOf (F .board) n calls)
+  numbers calls = numbers-do (numbering (L .proper) n (sized-some z) calls .0)

@@ -14,14 +14,14 @@ use Rattle.basics.proofs.Passing.{passing-all, passing-map, passing-fewer, orde
 use Rattle.label.specs.Labels as Labels
 use Rattle.label.specs.Rows.{noRing}
 use Rattle.label.proofs.RowLaws.{no-ring-of}
-use Rattle.simulation.specs.Calls.{Call, place, Label, Scan, Phase, Idle, Update, Snap, End, Entry, entry, Process, Rest, Move, judge}
-use Rattle.simulation.specs.Machine.{Labelling, original, digits, stands, inPhase, begun, updated, setOut, changed, hasJob, shows, scanOf, carryOut}
-use Rattle.simulation.specs.Machine.{freshRest, State, fresh, step}
+use Rattle.simulation.specs.Calls.{Call, place, Label, Scan, Phase, Idle, Update, Snap, End, Entry, entry, Process, Rest, Move, judge, Board, idle}
+use Rattle.simulation.specs.Machine.{Labelling, digits, stands, inPhase, begun, updated, setOut, changed, hasJob, shows, scanOf, carryOut, freshRest, State}
+use Rattle.simulation.specs.Machine.{fresh, step, freshLabel}
 use Rattle.simulation.proofs.Sync.{no-ring}
-use Rattle.simulation.proofs.Judged.{Verdict, turned, begins, scans, updates, snaps, ends, service, verdict-in}
+use Rattle.simulation.proofs.Judged.{VerdictIn, turned, begins, beginsScan, scans, updates, snaps, ends, service, verdict-in}
 use Rattle.simulation.proofs.Touched.{results-all}
-use Rattle.simulation.proofs.Simulation.{Ready, newest-labels, fresh-ready, ready-step}
-use Rattle.transition.proofs.Written.{WritableRest, Writable, writable-step}
+use Rattle.simulation.proofs.Simulation.{Ready, newest-labels, fresh-ready, Proper, stepwise, ready-step}
+use Rattle.transition.proofs.Written.{Sized, sized-some, WritableRest, Writable, writable-step}
 
 -- a result that 13 lets pass (02, Card 2): stations from 1 to n with jobs, none of them twice
 pub record Sound (n : ℕ) (l : Lists.List Entry) : Type 0 where
@@ -32,17 +32,17 @@ pub record Sound (n : ℕ) (l : Lists.List Entry) : Type 0 where
 abbrev pub Idles : Process → Type 0
 Idles p = p .out ≡ true → p .phase ≡ Idle
 
-pub record Reached (n : ℕ) (s : State Labels.Label) : Type 0 where
+pub record Reached (B : Board) (n : ℕ) (s : State Labels.Label) : Type 0 where
   pub N : Labelling ℕ
   pub ready : Ready (n - 1) (s .labels) N
-  pub writable : Writable n s
+  pub writable : Writable B n s
   pub sound : (i : ℕ) → Sound n (s .rest .result i)
   pub idles : (i : ℕ) → Idles (s .rest .process i)
 
-module _ (n : ℕ) (some : 1 ≤ n) where
-  module _ {s : State Labels.Label} (r : Reached n s) where
+module _ (B : Board) (n : ℕ) (some : 1 ≤ n) where
+  module _ {s : State Labels.Label} (r : Reached B n s) where
     -- the newest process is one of the n
-    pub reached-lead : newest n (stands (digits n) (s .labels)) < n
+    pub reached-lead : newest n (stands (digits B n) (s .labels)) < n
     reached-lead = rw (newest-labels n (n - 1) (omega arith) (s .labels) (r .N) (r .ready)) (omega (arith, r .ready .inv .newest .station))
 
     -- the numbers rule out a ring, whichever of its two labels is taken of each process
@@ -54,17 +54,18 @@ module _ (n : ℕ) (some : 1 ≤ n) where
         t : ℕ → Labels.Label
         t i = s .labels (x i) i
 
-  pub rest-fresh : WritableRest n freshRest
+  pub rest-fresh : WritableRest B n freshRest
   rest-fresh = record {
     listed = λ i. (omega arith, λ p e. absurd (omega arith));
-    phase = λ i. tt;
-    past = λ i l. record { process = refl; result = refl };
+    phase = λ i. refl;
+    past = λ i l. refl;
+    unused = λ g l. refl;
   }
 
-  pub reached-fresh : Reached n (fresh (λ p. 1))
-  reached-fresh = record {
+  pub reached-fresh : Proper B → Reached B n (fresh (freshLabel B))
+  reached-fresh p = record {
     N = λ x i. 0;
-    ready = fresh-ready (n - 1);
+    ready = start p;
     writable = record {
       behind = λ x i p h. refl;
       blank = λ x i l. refl;
@@ -73,6 +74,9 @@ module _ (n : ℕ) (some : 1 ≤ n) where
     sound = λ i. record { each = tt; once = λ j l. unfold passing in omega arith };
     idles = λ i e. refl;
   }
+    where
+      start : {B : Board} → Proper B → Ready (n - 1) (λ x i. freshLabel B) (λ x i. 0)
+      start (stepwise per known apart h) = fresh-ready (n - 1)
 
   suc-eqb : (i j : ℕ) → eqb (suc i) (suc j) ≡ eqb i j
   suc-eqb i j = by-here (λ b. eqb (suc i) (suc j) ≡ b) j i (λ e. eq-eqb _ _ (ap suc e)) (λ d. ne-eqb (suc i) (suc j) (λ e. d (omega arith)))
@@ -105,16 +109,10 @@ module _ (n : ℕ) (some : 1 ≤ n) where
 
   -- only idle processes leave service, and only those in service begin
   idles-step : (order : Lists.List ℕ) (o : Rest) → ((i : ℕ) → Idles (o .process i)) → (c : Call) (i : ℕ)
-      → Idles (carryOut order o (judge false n o c) .rest .process i)
+      → Idles (carryOut B order o (judge B n o c) .rest .process i)
   unfolding carryOut
-  idles-step order o h c i = go (verdict-in n o c)
+  idles-step order o h c i = go (verdict-in B n o c)
     where
-      idle : Phase → Bool
-      idle Idle = true
-      idle Update = false
-      idle (Snap x) = false
-      idle (End x) = false
-
       -- the record of the caller, changed
       at : (f : Process → Process) → (i ≡ place c → Idles (f (o .process i))) → Idles (changed o (place c) f .process i)
       at f g = by-here (λ b. Idles (cond b (f (o .process i)) (o .process i))) (place c) i g (λ _. h i)
@@ -128,10 +126,11 @@ module _ (n : ℕ) (some : 1 ≤ n) where
           → Idles (changed o (place c) f .process i)
       busy f same e b = in-service f same (is-false (λ t. tf (ap idle (h (place c) t)) (ap idle e ∙ b)))
 
-      go : {k : ℕ} {w : Move} → Verdict n k c (o .process (place c) .out) (o .process (place c) .phase) w → Idles (carryOut order o w .rest .process i)
+      go : {w : Move} → VerdictIn B n o c w → Idles (carryOut B order o w .rest .process i)
       go (turned x d) = h i
-      go (begins own e) = in-service (begun (c .job)) (λ p. refl) e
-      go (scans own e) = in-service (inPhase (End Scan)) (λ p. refl) e
+      go (begins own f) = in-service (begun (c .job)) (λ p. refl) (f .service)
+      go (beginsScan own f e) = in-service (inPhase (Snap Scan)) (λ p. refl) (f .service)
+      go (scans own f e) = in-service (inPhase (End Scan)) (λ p. refl) (f .service)
       go (updates own e) = busy updated (λ p. refl) e refl
       go (snaps own Label e t) = busy (inPhase Update) (λ p. refl) e refl
       go (snaps own Scan e t) = busy (inPhase (End Scan)) (λ p. refl) e refl
@@ -139,16 +138,20 @@ module _ (n : ℕ) (some : 1 ≤ n) where
       go (ends own Scan e r) = at (inPhase Idle) (λ _ _. refl)
       go (service own b e) = at (setOut b) (λ q _. ap (λ j. o .process j .phase) q ∙ e)
 
-  -- a step call leads from one to another
-  pub reached-step : n ≤ 32 → (s : State Labels.Label) → Reached n s → (c : Call) → Reached n (step original n (digits n) s c .state)
-  reached-step high s r c = record {
-    N = next .0;
-    ready = next .1;
-    writable = writable-step n high s (r .writable) c (reached-lead r);
-    sound = unfold step in
-        results-all (Sound n) _ (s .rest) (scan-sound (s .rest .process) (stands (digits n) (s .labels))) (r .sound) (judge false n (s .rest) c);
-    idles = unfold step in idles-step _ (s .rest) (r .idles) c;
-  }
-    where
-      next : (N′ : Labelling ℕ) × Ready (n - 1) (step original n (digits n) s c .state .labels) N′
-      next = ready-step n (omega arith) s (r .N) c (r .ready)
+-- a step call leads from one to another
+pub reached-step : {B : Board} → Proper B → (n : ℕ) → Sized B n → (s : State Labels.Label) → Reached B n s → (c : Call)
+    → Reached B n (step B n (digits B n) s c .state)
+reached-step {B} p n z s r c = record {
+  N = next .0;
+  ready = next .1;
+  writable = writable-step B n z s (r .writable) c (reached-lead B n some r);
+  sound = unfold step in
+      results-all B _ (s .rest) (Sound n) (scan-sound B n some (s .rest .process) (stands (digits B n) (s .labels))) (r .sound) (judge B n (s .rest) c);
+  idles = unfold step in idles-step B n some _ (s .rest) (r .idles) c;
+}
+  where
+    some : 1 ≤ n
+    some = sized-some z
+
+    next : (N′ : Labelling ℕ) × Ready (n - 1) (step B n (digits B n) s c .state .labels) N′
+    next = ready-step p n some s (r .N) c (r .ready)

@@ -1,5 +1,5 @@
 -- Demand 3 of sequences of calls, from the contract that each call keeps and the theorem about `stepOf`.
-use Prim.Native.Nat.{ℕ, _≤_}
+use Prim.Native.Nat.{ℕ}
 use mathlib.Core.Path.{_≡_, refl, sym, ap, ap₂, _∙_}
 use mathlib.Core.Logic.{_≢_}
 use mathlib.Core.Bool.{true}
@@ -9,11 +9,12 @@ use lib.ListN.{length, take}
 use lib.Seq.{take-at}
 use Rattle.basics.specs.Tests.{All}
 use Rattle.simulation.specs.Machine as Machine
+use Rattle.simulation.specs.Calls.{Room, Buffer, Panel, Call, Entry, reportLines, panelRecords, Report, Bytes, Records, capacity, size, bytesOf, written, Board}
 use Rattle.simulation.specs.Machine.{Seen}
-use Rattle.simulation.specs.Calls.{Room, Buffer, Panel, Call, Entry, reportLines, panelRecords, Report, Bytes, Records, capacity, size, bytesOf, written}
 use Rattle.transition.specs.Forms.{Form, TableAnswer, over, onto, freshTable, stepOf}
 use Rattle.transition.specs.Demand.{runTable, seenIn, unbounded, Demand3}
 use Rattle.transition.specs.Sequences.{Steps, Made, callMade, firstOf, told, Sequence, SequenceDemand}
+use Rattle.transition.proofs.Written.{Sized}
 use Rattle.transition.proofs.Theorem.{Lawful, step-report, step-bytes, step-kept, demand}
 
 -- a buffer with these bytes at its front, read by their count
@@ -69,10 +70,10 @@ steps-bytes F {t} {c = c} {b} s room e =
     (s .count ∙ ap size h, ap bytesOf (s .report ∙ ap (λ r. onto r (Bytes b)) h))
 
 -- calls that show what the machine's answers show count the bytes or records that these have
-pub same-counts : {A : Type 0} (n : ℕ) (f : A → Seen) (xs : Lists.List A) (ys : Lists.List (Machine.Answer ℕ)) → map f xs ≡ map (Machine.seen n) ys
+pub same-counts : {A : Type 0} (B : Board) (n : ℕ) (f : A → Seen) (xs : Lists.List A) (ys : Lists.List (Machine.Answer ℕ)) → map f xs ≡ map (Machine.seen B n) ys
     → map (λ x. size (f x .report)) xs ≡ map (λ y. size (y .report)) ys
-same-counts n f xs ys e =
-    sym (map-map (λ s. size (s .report)) f xs) ∙ ap (map (λ (s : Seen). size (s .report))) e ∙ map-map (λ s. size (s .report)) (Machine.seen n) ys
+same-counts B n f xs ys e =
+    sym (map-map (λ s. size (s .report)) f xs) ∙ ap (map (λ (s : Seen). size (s .report))) e ∙ map-map (λ s. size (s .report)) (Machine.seen B n) ys
 
 module _ (F : Form) where
   -- what a call hands back is the answer of `stepOf`
@@ -85,11 +86,11 @@ module _ (F : Form) where
     answer-is : told x ≡ stepOf F t (callMade x)
     answer-is i = record { table = s .table i; refusal = s .number i; report = answer-read i }
 
-  sequence-run : (t : F .Table) (xs : Lists.List (Made (F .Table))) → Sequence F t xs → map told xs ≡ runTable F t (map callMade xs)
+  sequence-run : (t : F .Table) (xs : Lists.List (Made (F .Table))) → Sequence F t xs → map told xs ≡ runTable (stepOf F) t (map callMade xs)
   unfolding runTable
   sequence-run t [] q = refl
   sequence-run t (x ∷ xs) q =
-      ap₂ _∷_ (answer-is t x (q .0)) (sequence-run (x .table) xs (q .1) ∙ ap (λ a. runTable F a (map callMade xs)) (q .0 .table))
+      ap₂ _∷_ (answer-is t x (q .0)) (sequence-run (x .table) xs (q .1) ∙ ap (λ a. runTable (stepOf F) a (map callMade xs)) (q .0 .table))
 
   sequence-counted : (t : F .Table) (xs : Lists.List (Made (F .Table))) → Sequence F t xs → map (λ x. x .written) xs ≡ map (λ x. size (told x .report)) xs
   sequence-counted t [] q = refl
@@ -100,16 +101,16 @@ module _ (F : Form) where
   sequence-kept t (x ∷ xs) q = (q .0 .report ∙ ap (λ r. onto r (x .lent)) (sym (answer-read t x (q .0))), sequence-kept (x .table) xs (q .1))
 
   -- DEMAND 3 OF SEQUENCES
-  pub sequence-demand : Lawful F → (n : ℕ) → 2 ≤ n → n ≤ 32 → (xs : Lists.List (Made (F .Table))) → Sequence F (freshTable F n) xs → SequenceDemand F n xs
-  sequence-demand L n p q xs s = record {
+  pub sequence-demand : Lawful F → (n : ℕ) → Sized (F .board) n → (xs : Lists.List (Made (F .Table))) → Sequence F (freshTable F n) xs → SequenceDemand F n xs
+  sequence-demand L n z xs s = record {
     demand = d;
     same = same;
-    counted = sequence-counted (freshTable F n) xs s ∙ same-counts n (λ x. seenIn F (told x)) xs (unbounded (F .board) n (d .advances) (map callMade xs)) same;
+    counted = sequence-counted (freshTable F n) xs s ∙ same-counts (F .board) n (λ x. seenIn F (told x)) xs (unbounded (F .board) n (d .advances) (map callMade xs)) same;
     kept = sequence-kept (freshTable F n) xs s;
   }
     where
       d : Demand3 F n (map callMade xs)
-      d = demand F L n p q (map callMade xs)
+      d = demand F L n z (map callMade xs)
 
-      same : map (λ x. seenIn F (told x)) xs ≡ map (Machine.seen n) (unbounded (F .board) n (d .advances) (map callMade xs))
+      same : map (λ x. seenIn F (told x)) xs ≡ map (Machine.seen (F .board) n) (unbounded (F .board) n (d .advances) (map callMade xs))
       same = sym (map-map (seenIn F) told xs) ∙ ap (map (seenIn F)) (sequence-run (freshTable F n) xs s) ∙ d .same

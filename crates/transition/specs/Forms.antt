@@ -6,11 +6,11 @@ use mathlib.Core.List as Lists
 use mathlib.Core.List.{[], _∷_, _++_}
 use lib.ListN.{length, drop}
 use Rattle.label.specs.Labels as Labels
-use Rattle.simulation.specs.Calls.{Call, Report, Bytes, Records, written}
+use Rattle.simulation.specs.Calls.{Call, Report, Bytes, Records, written, Board}
+use Rattle.simulation.specs.Machine.{digits, State, fresh, step, freshLabel}
 use Rattle.simulation.specs.Machine as Machine
-use Rattle.simulation.specs.Machine.{Board, digits, State, fresh, step}
 
--- tables of a board with their number of stations; the state that a table holds; the table of n stations that holds a state; and whether a table is
+-- tables of a board with their number of processes; the state that a table holds; the table of n processes that holds a state; and whether a table is
 -- well-formed (13)
 pub record Form : Type 1 where
   pub board : Board
@@ -40,16 +40,16 @@ onto (Bytes l) (Records lent) = Records lent
 onto (Records l) (Bytes lent) = Bytes lent
 
 module _ (F : Form) where
-  -- the fresh table of n stations: labels of 1s, no jobs, empty results, all idle and in service
+  -- the fresh table of n processes: labels of the board's fill digit, no jobs, empty results, all idle and in service
   abbrev pub freshTable : ℕ → F .Table
-  freshTable n = F .written n (fresh (λ p. 1))
+  freshTable n = F .written n (fresh (freshLabel (F .board)))
 
   abbrev pub answered : ℕ → Machine.Answer Labels.Label → TableAnswer (F .Table)
   answered n a = record { table = F .written n (a .state); refusal = a .refusal; report = a .report }
 
   -- a step call: 13 if the table is not well-formed; else the machine's step from the state that it holds, written down
   unfoldable pub stepOf : F .Table → Call → TableAnswer (F .Table)
-  stepOf t c = let n = F .count t in cond (F .wellFormed t) (answered n (step (F .board) n (digits n) (F .state t) c)) (refuse t c 13)
+  stepOf t c = let n = F .count t in cond (F .wellFormed t) (answered n (step (F .board) n (digits (F .board) n) (F .state t) c)) (refuse t c 13)
 
   -- the table that a sequence of calls leaves
   unfoldable pub after : F .Table → Lists.List Call → F .Table

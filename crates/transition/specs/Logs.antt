@@ -8,9 +8,9 @@ use mathlib.Core.List.{[], _∷_, _++_, map}
 use lib.ListN.{length, getD, drop}
 use lib.Dec.{eqb, ltb, leb}
 use Rattle.basics.specs.Tests.{newest}
-use Rattle.simulation.specs.Calls.{Call, Report, bytesOf}
+use Rattle.simulation.specs.Calls.{Call, Report, bytesOf, Board, judge}
+use Rattle.simulation.specs.Machine.{Labelling, stands, LabelStep, stay, snap, update, labelStep, State, step, snapsOf}
 use Rattle.simulation.specs.Machine as Machine
-use Rattle.simulation.specs.Machine.{Board, Labelling, stands, LabelStep, stay, snap, update, labelStep, State, step, snapsOf}
 use Rattle.simulation.specs.Numbered.{numbered, Fits}
 use Rattle.transition.specs.Numbers.{withNumbers}
 
@@ -46,5 +46,5 @@ right B n s ns report [] = eqb (length ns) 0 && eqb (length report) 0
 right B n s ns report (c ∷ cs) =
     let a = step B n (numbered (getD ns 0 0)) s c in
     let bytes = bytesOf (a .report) in
-    fitsNext n (s .labels) (labelStep (B .judge n (s .rest) c)) ns
+    fitsNext n (s .labels) (labelStep (judge B n (s .rest) c)) ns
     && (atFront bytes report && right B n (a .state) (drop (snapsOf B n s c) ns) (drop (length bytes) report) cs)

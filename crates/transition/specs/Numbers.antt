@@ -5,9 +5,9 @@ use mathlib.Core.Bool.{Bool, cond}
 use mathlib.Core.List as Lists
 use mathlib.Core.List.{[], _∷_, _++_, map}
 use lib.ListN.{length}
-use Rattle.simulation.specs.Calls.{Call}
+use Rattle.simulation.specs.Calls.{Call, Board, judge}
+use Rattle.simulation.specs.Machine.{digits, labelStep}
 use Rattle.simulation.specs.Machine as Machine
-use Rattle.simulation.specs.Machine.{Board, digits, labelStep}
 use Rattle.simulation.specs.Numbered.{numbered, Fits, Gapless, advances, newestSnap, zeros}
 use Rattle.transition.specs.Forms.{Form, freshTable, stepOf}
 use Rattle.transition.specs.Demand.{runTable, tableSnaps, seenIn, unbounded}
@@ -23,7 +23,7 @@ tableNewestSnaps F t [] = []
 tableNewestSnaps F t (c ∷ cs) =
     let n = F .count t in
     let s = F .state t in
-    cond (F .wellFormed t) (newestSnap n (digits n) (s .labels) (labelStep (F .board .judge n (s .rest) c))) [] ++ tableNewestSnaps F (stepOf F t c .table) cs
+    cond (F .wellFormed t) (newestSnap n (digits (F .board) n) (s .labels) (labelStep (judge (F .board) n (s .rest) c))) [] ++ tableNewestSnaps F (stepOf F t c .table) cs
 
 -- These numbers do for the calls on the fresh table of n stations (02, Card 6):
 -- - each: there is one for each accepted snap for a label;
@@ -37,6 +37,6 @@ pub record Numbers (F : Form) (n : ℕ) (calls : Lists.List Call) (ns : Lists.Li
   pub each : length ns ≡ tableSnaps F (freshTable F n) calls
   pub newest : zeros ns ≡ tableNewestSnaps F (freshTable F n) calls
   pub fits : Fits (F .board) n (tableSnaps F (freshTable F n) calls) (Machine.fresh 0) ns calls
-  pub same : map (seenIn F) (runTable F (freshTable F n) calls) ≡ map (Machine.seen n) (withNumbers (F .board) n ns calls)
+  pub same : map (seenIn F) (runTable (stepOf F) (freshTable F n) calls) ≡ map (Machine.seen (F .board) n) (withNumbers (F .board) n ns calls)
   pub grown : withNumbers (F .board) n ns calls ≡ unbounded (F .board) n (advances (F .board) n (Machine.fresh 0) ns calls) calls
   pub gapless : Gapless ns

@@ -14,8 +14,8 @@ use Rattle.basics.specs.Tests.{ordered, tabulate, All}
 use Rattle.label.specs.Labels as Labels
 use Rattle.label.specs.Labels.{below, labelBelow}
 use Rattle.label.specs.Rows.{digit}
-use Rattle.simulation.specs.Calls.{Room, Buffer, Panel, Call, Entry, entry, PanelRecord, reportLines, Report, Bytes, Records}
-use Rattle.simulation.specs.Machine.{original, digits, stands, State}
+use Rattle.simulation.specs.Calls.{Room, Buffer, Panel, Call, Entry, entry, PanelRecord, reportLines, Report, Bytes, Records, original}
+use Rattle.simulation.specs.Machine.{digits, stands, State}
 use Rattle.simulation.specs.Numbering.{numbersOf}
 use Rattle.transition.specs.Forms.{Form, freshTable, stepOf, after}
 use Rattle.transition.specs.Questions.{Tells}
@@ -43,7 +43,7 @@ unfoldable pub shown : ℕ → State Labels.Label → Lists.List (Lists.List ℕ
 shown n s = tabulate n 0 (λ i. tabulate (n - 1) 0 (s .labels false i))
 
 unfoldable pub order : ℕ → State Labels.Label → Lists.List ℕ
-order n s = map suc (ordered n (stands (digits n) (s .labels)))
+order n s = map suc (ordered n (stands (digits original n) (s .labels)))
 
 -- the stations that the scan result of station k shows
 unfoldable pub shownBy : ℕ → State Labels.Label → Lists.List ℕ

@@ -54,6 +54,6 @@ module _ (F : Form) where
 -- lent keeps what was not written
 pub record SequenceDemand (F : Form) (n : ℕ) (xs : Lists.List (Made (F .Table))) : Type 0 where
   pub demand : Demand3 F n (map callMade xs)
-  pub same : map (λ x. seenIn F (told x)) xs ≡ map (Machine.seen n) (unbounded (F .board) n (demand .advances) (map callMade xs))
+  pub same : map (λ x. seenIn F (told x)) xs ≡ map (Machine.seen (F .board) n) (unbounded (F .board) n (demand .advances) (map callMade xs))
   pub counted : map (λ x. x .written) xs ≡ map (λ a. size (a .report)) (unbounded (F .board) n (demand .advances) (map callMade xs))
   pub kept : All (λ x. x .lent′ ≡ onto (told x .report) (x .lent)) xs

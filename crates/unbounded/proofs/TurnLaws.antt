@@ -15,13 +15,13 @@ use borrow.Author.Tests.{eqb-true, leb-true}
 use Rattle.basics.specs.Tests.{newest, ordered, All}
 use Rattle.basics.proofs.Facts.{tf, and-both, all-at, all-weaken, length-tabulate, getD-tabulate, ordered-length}
 use Rattle.rows.proofs.OrderLaws.{listed-below, order-front, order-long}
-use Rattle.simulation.specs.Calls.{Call, Buffer, Entry, Rest, judge, reportLines}
+use Rattle.simulation.specs.Calls.{Call, Buffer, Entry, Rest, judge, reportLines, original}
 use Rattle.simulation.specs.Machine.{Labelling, numberBefore, stands, snap, labelStep, labelSnap, relabelled, scanOf, Outcome, carryOut}
 use Rattle.simulation.specs.Machine.{freshRest, fresh, step, snapsOf}
 use Rattle.simulation.specs.Numbered.{numbered}
 use Rattle.simulation.proofs.Touched.{results-all}
 use Rattle.transition.specs.Logs.{fitsNext}
-use Rattle.transition.proofs.Written.{WritableRest, rest-step}
+use Rattle.transition.proofs.Written.{original-sized, WritableRest, rest-step}
 use Rattle.transition.proofs.Reached.{scan-sound, rest-fresh}
 use Rattle.moves.specs.Moves.{moveOf, callOf}
 use Rattle.moves.proofs.MoveLaws.{by-move, step-any}
@@ -135,11 +135,12 @@ module _ {t : Table} {order : Lists.List ℕ} (f : Runnableᵘ t order) where
   abbrev inOrder : ℕ → ℕ → Bool
   inOrder = stands (numbered 0) (beside (t .numbers))
 
-  writable : WritableRest n (restᵘ t)
+  writable : WritableRest original n (restᵘ t)
   writable = record {
     listed = λ i. entries-listed n (getD (t .results) i []);
     phase = λ i. number-kept (cell (t .control) 0 i 0);
-    past = λ i h. record { process = f .past i h .0; result = f .past i h .1 };
+    past = λ i h. f .past i h .0;
+    unused = λ i h. f .past i (omega arith) .1;
   }
 
   known : (i : ℕ) → i < n → cell (t .control) 0 i 0 ≤ 4
@@ -154,7 +155,7 @@ module _ {t : Table} {order : Lists.List ℕ} (f : Runnableᵘ t order) where
 
   scan-names : Names (scanOf (restᵘ t .process) (ordered n inOrder))
   scan-names = all-weaken (λ e h. h .1) (scanOf (restᵘ t .process) (ordered n inOrder))
-      (scan-sound n (omega (arith, f .low)) (restᵘ t .process) inOrder .each)
+      (scan-sound original n (omega (arith, f .low)) (restᵘ t .process) inOrder .each)
 
   pub turn-newest : getD order (n - 1) 0 ≡ newest n inOrder
   turn-newest = order-newest n 0 (t .numbers) order (f .isOrder) (omega (arith, f .low))
@@ -174,11 +175,11 @@ module _ {t : Table} {order : Lists.List ℕ} (f : Runnableᵘ t order) where
         (omega (arith, order-long 32 inOrder n order (f .isOrder) (f .high), f .high), λ p h. omega (arith, listed-below inOrder n order front p h, f .high))
         (rows-named n (getD (t .results) (x .place) []) (f .high) _ (f .named (x .place)))
 
-    judged : actionOf x ≡ judge false n (restᵘ t) c
+    judged : actionOf x ≡ judge original n (restᵘ t) c
     judged = rest-judged n (f .low) (t .jobs) (t .control) (t .results) known q (Buffer 928) _ x j
 
     module _ {log : Lists.List ℕ} {used : ℕ} {v : Given} (g : GivenTo (x .action) (x .place) (getD order (n - 1) 0) current log used v) where
-      turn-fits : v .fits ≡ fitsNext n (beside (t .numbers)) (labelStep (judge false n (restᵘ t) c)) (drop used log)
+      turn-fits : v .fits ≡ fitsNext n (beside (t .numbers)) (labelStep (judge original n (restᵘ t) c)) (drop used log)
       turn-fits = g .passes n (x .job) (beside (t .numbers)) refl turn-newest
           ∙ ap (λ w. fitsNext n (beside (t .numbers)) (labelStep w) (drop used log)) judged
 
@@ -215,22 +216,22 @@ module _ {t : Table} {order : Lists.List ℕ} (f : Runnableᵘ t order) where
         turn-kept d = f .isOrder ∙ order-stays n (v .number) (x .place) (x .job) (x .action) (t .numbers) numbers′ renumbered d
 
         -- what the machine comes to
-        outcome : restAfter n (t .jobs) (t .control) (t .results) x order ≡ carryOut (ordered n inOrder) (restᵘ t) (judge false n (restᵘ t) c)
-        outcome = ap₂ (λ l w. carryOut l (restᵘ t) w) front judged
+        outcome : restAfter n (t .jobs) (t .control) (t .results) x order ≡ carryOut original (ordered n inOrder) (restᵘ t) (judge original n (restᵘ t) c)
+        outcome = ap₂ (λ l w. carryOut original l (restᵘ t) w) front judged
 
         abbrev after : Outcome
-        after = carryOut (ordered n inOrder) (restᵘ t) (judge false n (restᵘ t) c)
+        after = carryOut original (ordered n inOrder) (restᵘ t) (judge original n (restᵘ t) c)
 
         held : Holds (after .rest) j′ c′ r′
         held = subst (λ (y : Outcome). Holds (y .rest) j′ c′ r′) outcome (k .holds)
 
-        after-writable : WritableRest n (after .rest)
-        after-writable = rest-step n (restᵘ t) writable c (ordered n inOrder) (ordered-length inOrder n)
+        after-writable : WritableRest original n (after .rest)
+        after-writable = rest-step original n (original-sized n (f .low) (f .high)) (restᵘ t) writable c (ordered n inOrder) (ordered-length inOrder n)
 
         rest-left : restᵘ left ≡ after .rest
         rest-left = rest-held n (f .high) (after .rest) after-writable held
 
-        labels-left : beside numbers′ ≡ relabelled n (numbered next) (beside (t .numbers)) (labelStep (judge false n (restᵘ t) c))
+        labels-left : beside numbers′ ≡ relabelled n (numbered next) (beside (t .numbers)) (labelStep (judge original n (restᵘ t) c))
         labels-left = renumbered ∙ number-unused n (v .number) next (beside (t .numbers)) (x .place) (x .job) (x .action) (g .next e)
             ∙ ap (λ w. relabelled n (numbered next) (beside (t .numbers)) (labelStep w)) judged
 
@@ -258,10 +259,12 @@ module _ {t : Table} {order : Lists.List ℕ} (f : Runnableᵘ t order) where
           low = f .low;
           high = f .high;
           holds = subst (λ y. Holds y j′ c′ r′) (sym rest-left) held;
-          past = λ i u. let w = after-writable .past i u in
-              (ap (λ (o : Rest). o .process i) rest-left ∙ w .process, ap (λ (o : Rest). o .result i) rest-left ∙ w .result);
+          past = λ i u. (
+            ap (λ (o : Rest). o .process i) rest-left ∙ after-writable .past i u,
+            ap (λ (o : Rest). o .result i) rest-left ∙ after-writable .unused i (omega arith),
+          );
           named = λ i. subst (λ (o : Rest). Names (o .result i)) (sym rest-left)
-              (results-all Names (ordered n inOrder) (restᵘ t) scan-names (f .named) (judge false n (restᵘ t) c) i);
+              (results-all original (ordered n inOrder) (restᵘ t) Names scan-names (f .named) (judge original n (restᵘ t) c) i);
           isOrder = o;
         }
 
@@ -271,7 +274,7 @@ module _ (n : ℕ) (low : 2 ≤ n) (high : n ≤ 32) {j c : Rows} {r : Planes} (
   freshTable = table n (replicate 2 (replicate 32 0)) j c r
 
   rest-first : restᵘ freshTable ≡ freshRest
-  rest-first = rest-held n high freshRest (rest-fresh n (omega (arith, low))) h
+  rest-first = rest-held n high freshRest (rest-fresh original n (omega (arith, low))) h
 
   pub fresh-state : stateᵘ freshTable ≡ fresh 0
   fresh-state = λ y. record { labels = none-beside y; rest = rest-first y }

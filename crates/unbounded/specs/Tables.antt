@@ -6,8 +6,8 @@ use mathlib.Core.List as Lists
 use mathlib.Core.List.{[]}
 use lib.ListN.{length, getD, drop}
 use Rattle.basics.specs.Tests.{newest, All}
-use Rattle.simulation.specs.Calls.{Call, Entry, Rest, judge, bytesOf, reportLines}
-use Rattle.simulation.specs.Machine.{original, Labelling, stands, labelStep, labelSnap, freshRest, State, Answer, step, snapsOf}
+use Rattle.simulation.specs.Calls.{Call, Entry, Rest, judge, bytesOf, reportLines, original}
+use Rattle.simulation.specs.Machine.{Labelling, stands, labelStep, labelSnap, freshRest, State, Answer, step, snapsOf}
 use Rattle.simulation.specs.Numbered.{numbered}
 use Rattle.transition.specs.Logs.{fitsNext}
 use Rattle.moves.specs.Moves.{refusalNumber, moveOf, placeOf}
@@ -83,6 +83,6 @@ pub record Kept (t : Table) (order : Lists.List ℕ) (c : Call) (used : ℕ) (t�
 
 pub record Turnsᵘ (t : Table) (order : Lists.List ℕ) (c : Call) (given : Lists.List ℕ) (used : ℕ) (t′ : Table) (order′ : Lists.List ℕ) (r : NumberedTurn)
     : Type 0 where
-  pub fits : r .fits ≡ fitsNext (t .count) (beside (t .numbers)) (labelStep (judge false (t .count) (restᵘ t) c)) (drop used given)
+  pub fits : r .fits ≡ fitsNext (t .count) (beside (t .numbers)) (labelStep (judge original (t .count) (restᵘ t) c)) (drop used given)
   pub served : r .fits ≡ true → Servedᵘ t c given used t′ r
   pub kept : r .fits ≡ false → Kept t order c used t′ order′ r

@@ -2,14 +2,14 @@
 use native.Mathlib.Omega.{arith}
 use Prim.Native.Nat.{ℕ, _≤_, _<_}
 use mathlib.Core.Path.{_≡_, refl, sym, ap, subst, _∙_}
-use mathlib.Core.Bool.{false}
 use mathlib.Core.List.{[]}
-use Rattle.simulation.specs.Calls.{judgeIn}
+use Rattle.simulation.specs.Calls.{original, judgeIn}
 use Rattle.moves.specs.Moves.{roomOf, moveOf, callOf}
 use Rattle.moves.proofs.MoveLaws.{place-below}
 use Rattle.arrays.specs.Arrays.{cell, outFor, phaseFor}
 use Rattle.engine.proofs.Served.{due-few}
 use borrow.Author.Needs.{needs}
+use Rattle.engine.specs.Contracts.{standingFor}
 use Rattle.engine.proofs.judge.Statement.{statement}
 use Rattle.engine.proofs.judge.Tie as tie
 
@@ -45,8 +45,8 @@ Acts c =
     let y = d .before .before .before .before .before .before in
     let a = y .before .args in
     let i = y .place-of .result in
-    moveOf i (a .q .job) (c .judge .result) ≡ judgeIn false (a .n) (d .due-entries .result) (outFor (cell (a .control .now) 1 i 0))
-    (phaseFor (cell (a .control .now) 0 i 0)) (callOf (a .q) (roomOf (a .room)))
+    moveOf i (a .q .job) (c .judge .result) ≡ judgeIn original (a .n)
+    (standingFor (phaseFor (cell (a .control .now) 0 i 0)) (outFor (cell (a .control .now) 1 i 0)) (d .due-entries .result)) (callOf (a .q) (roomOf (a .room)))
 
 -- how many entries the move is judged by, as its need says
 abbrev counted : {K : Type 0} {k : tie.After-due-entries → ℕ} → (((d : tie.After-due-entries) → K → k d ≤ 32) → Type 0) → tie.After-due-entries → ℕ
@@ -64,8 +64,8 @@ acts h c =
     let y = d .before .before .before .before .before .before in
     let a = y .before .args in
     ap (λ i. moveOf i (a .q .job) (c .judge .result)) (y .place-of .ensures) ∙ c .judge .ensures (a .q .line)
-    ∙ (λ i. judgeIn false (a .n) (h d i) (d .before .before .is-out .ensures i) (d .before .before .before .before .phase-of .ensures i)
-    (callOf (a .q) (roomOf (a .room))))
+    ∙ (λ i. judgeIn original (a .n)
+    (standingFor (d .before .before .before .before .phase-of .ensures i) (d .before .before .is-out .ensures i) (h d i)) (callOf (a .q) (roomOf (a .room))))
 
 -- by the move: so a wrong move and another wrong field are errors of two names
 task : ((c : tie.After-judge) → Acts c) → tie.Need-returns

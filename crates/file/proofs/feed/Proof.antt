@@ -8,7 +8,7 @@ use Rattle.arrays.specs.Arrays.{Arrays, arrays}
 use Rattle.file.specs.Contracts.{Runnable}
 use Rattle.file.specs.Feeds.{Opened, Opens}
 use Rattle.file.specs.declared.Opening.{Opening}
-use Rattle.file.proofs.Openings.{feeds-none, feeds-refused, lines-within, read-within, feeds-lines, standing-lines, standing-refused}
+use Rattle.file.proofs.Openings.{feeds-none, feeds-refused, lines-within, read-within, feeds-lines, underway-lines, underway-refused}
 use Rattle.file.proofs.feed.Statement.{statement}
 use Rattle.file.proofs.feed.Tie as tie
 
@@ -87,7 +87,7 @@ returns-2 c =
     rw (f .0) (
       feeds-refused (s .run) (table o) (s .last) (s .part .now) (s .out .now) (f .2) (f .3) (start o .pre .1) (start o .pre .0 .fresh) (f .4)
           (c .before .before .before .before .line-at .ensures) (told .0) (told .1),
-      standing-refused (f .1) (s .run .count) _ _ (f .4),
+      underway-refused (f .1) (s .run .count) _ _ (f .4),
     )
 
 returns-3 : tie.Need-returns-3
@@ -100,7 +100,7 @@ returns-3 c =
     let g = y .report-lines .ensures in
     rw (c .fed-by .ensures) (
       feeds-lines (opened z .0) (s .args .last) end refl (g .0) (z .stations .result) (s .pre .1),
-      standing-lines (opened z .0) (s .args .last) end refl (g .0) (z .stations .result) (g .1),
+      underway-lines (opened z .0) (s .args .last) end refl (g .0) (z .stations .result) (g .1),
     )
 
 pub feed-spec : {M : Type 1} → statement M

@@ -4,12 +4,13 @@ use Rattle.moves.specs.Moves.{refusalNumber}
 use Rattle.moves.proofs.MoveLaws.{refuses-yes, refuses-no}
 use Rattle.arrays.specs.Arrays.{Arrays, arrays}
 use Rattle.schedule.specs.Lines.{headerRead}
-use Rattle.schedule.proofs.SessionLaws.{header-stations}
+use Rattle.schedule.proofs.SessionLaws.{original-stations}
 use Rattle.schedule.specs.declared.Header.the-variants.{Stations}
 use Rattle.file.proofs.Openings.{ended-none, waits-none, opened-steps, waiting, some-ready, opened-header}
 use borrow.Author.Needs.{needs}
 use Rattle.file.proofs.open_part.Statement.{statement}
 use Rattle.file.proofs.open_part.Tie as tie
+use Rattle.simulation.specs.Calls.{original}
 
 abbrev table : tie.Start → Arrays
 table s = arrays (s .args .run .count) (s .args .labels .now) (s .args .jobs .now) (s .args .control .now) (s .args .results .now)
@@ -35,11 +36,11 @@ returns-3 : tie.Need-returns-3
 returns-3 c = let s = start (c .before .before) in (refl, s .pre, waits-none (s .args .run) (table s) (s .args .last) (s .args .part .now) (c .if3 .taken))
 
 -- an accepted header
-said : (w : tie.After-n) → headerRead (w .before .before .before .line-at .result .now) ≡ Stations (w .n .given .0 .0)
+said : (w : tie.After-n) → headerRead original (w .before .before .before .line-at .result .now) ≡ Stations (w .n .given .0 .0)
 said w = sym (w .before .before .read-header .ensures) ∙ w .n .given .1
 
 refresh-requires : tie.Need-refresh-requires
-refresh-requires c κs = header-stations _ _ (said (c .before .before .before .before .before .before))
+refresh-requires c κs = original-stations _ _ (said (c .before .before .before .before .before .before))
 
 returns-4 : tie.Need-returns-4
 returns-4 c =
@@ -51,7 +52,7 @@ returns-4 c =
       s .pre,
       waiting (s .args .run) (table s) (s .args .last) (s .args .part .now) (going x) first,
       some-ready (s .args .run) (table s) (s .args .last) (s .args .part .now) (going x) first (u .before .before .if3 .left),
-      ap headerRead (sym (u .before .line-at .ensures)) ∙ sym (u .read-header .ensures) ∙ c .before .refusal .given .1,
+      ap (headerRead original) (sym (u .before .line-at .ensures)) ∙ sym (u .read-header .ensures) ∙ c .before .refusal .given .1,
     )
 
 returns-5 : tie.Need-returns-5

@@ -8,7 +8,7 @@ use borrow.Author.Tests.{not-true, not-false}
 use lib.ListN.{length}
 use lib.Seq.{length-take-le}
 use Rattle.arrays.specs.Arrays.{arrays}
-use Rattle.file.specs.Feeds.{Standing}
+use Rattle.file.specs.Feeds.{Underway}
 use Rattle.file.proofs.FeedLaws.{feeds-inside}
 use Rattle.file.proofs.FileLaws.{Gathered, gathered-start, gathered-end, gathered-more, part-within, part-few, part-less}
 use Rattle.file.proofs.run_file.Statement.{statement}
@@ -17,7 +17,7 @@ use Rattle.file.proofs.run_file.Tie as tie
 abbrev Inv-loop : tie.InvT-loop
 Inv-loop file out₀ _ _ _ _ _ _ _ _ _ out order labels jobs control results run scratch long at =
     Gathered file out₀ run (arrays (run .count) labels jobs control results) long at out
-    × Standing run (arrays (run .count) labels jobs control results) order × (length scratch ≡ 4096)
+    × Underway run (arrays (run .count) labels jobs control results) order × (length scratch ≡ 4096)
 
 abbrev μ-loop : tie.MeasureT-loop
 μ-loop file out₀ _ _ _ _ _ _ _ _ _ out order labels jobs control results run scratch long at = length file - at

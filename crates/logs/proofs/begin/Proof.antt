@@ -3,13 +3,14 @@ use mathlib.Core.Path.{_≡_, refl, sym, _∙_}
 use borrow.Author.Tests.{eqb-true, eqb-false}
 use Rattle.basics.proofs.Loops.{was-true, was-false}
 use Rattle.schedule.specs.Lines.{headerRead}
-use Rattle.schedule.proofs.SessionLaws.{header-stations}
+use Rattle.schedule.proofs.SessionLaws.{original-stations}
 use Rattle.schedule.proofs.Runs.{header-within}
 use Rattle.schedule.specs.declared.Header.the-variants.{Stations}
 use Rattle.logs.proofs.Files.{header-refuses, lines-told, lines-begun}
 use borrow.Author.Needs.{needs}
 use Rattle.logs.proofs.begin.Statement.{statement}
 use Rattle.logs.proofs.begin.Tie as tie
+use Rattle.simulation.specs.Calls.{original}
 
 abbrev header : tie.After-from → tie.After-line-at
 header y = y .before .before .before .before .before
@@ -17,7 +18,7 @@ header y = y .before .before .before .before .before
 abbrev start : tie.After-from → tie.Start
 start y = header y .before .before .before .before
 
-accepted : (y : tie.After-from) → headerRead (header y .line-at .result .now) ≡ Stations (y .before .before .n .given .0 .0)
+accepted : (y : tie.After-from) → headerRead original (header y .line-at .result .now) ≡ Stations (y .before .before .n .given .0 .0)
 accepted y = sym (y .before .before .before .before .read-header .ensures) ∙ y .before .before .n .given .1
 
 from-requires : tie.Need-from-requires
@@ -34,7 +35,7 @@ returns c =
     )
 
 refresh-requires : tie.Need-refresh-requires
-refresh-requires c κs = header-stations _ _ (accepted (c .before .before .before .before .before .before .before .before .before))
+refresh-requires c κs = original-stations _ _ (accepted (c .before .before .before .before .before .before .before .before .before))
 
 returns-2 : tie.Need-returns-2
 returns-2 c =

@@ -6,7 +6,7 @@ use Rattle.moves.specs.Moves.{refusalNumber}
 use Rattle.moves.proofs.MoveLaws.{refuses-yes, refuses-no}
 use Rattle.schedule.specs.Lines.{headerRead}
 use Rattle.schedule.specs.Numbers.{Surveys}
-use Rattle.schedule.proofs.SessionLaws.{header-stations}
+use Rattle.schedule.proofs.SessionLaws.{original-stations}
 use Rattle.schedule.proofs.Runs.{header-within}
 use Rattle.schedule.specs.declared.Header.the-variants.{Stations}
 use Rattle.numbering.specs.Files.{refusedBy}
@@ -14,6 +14,7 @@ use Rattle.numbering.proofs.Files.{header-refuses, lines-refuse, lines-
 use borrow.Author.Needs.{needs}
 use Rattle.numbering.proofs.numbers.Statement.{statement}
 use Rattle.numbering.proofs.numbers.Tie as tie
+use Rattle.simulation.specs.Calls.{original}
 
 abbrev header : tie.After-from → tie.After-line-at
 header y = y .before .before .before .before .before
@@ -22,7 +23,7 @@ abbrev start : tie.After-from → tie.Start
 start y = header y .before .before .before
 
 -- what the header says
-accepted : (y : tie.After-from) → headerRead (header y .line-at .result .now) ≡ Stations (y .before .before .n .given .0 .0)
+accepted : (y : tie.After-from) → headerRead original (header y .line-at .result .now) ≡ Stations (y .before .before .n .given .0 .0)
 accepted y = sym (y .before .before .before .before .read-header .ensures) ∙ y .before .before .n .given .1
 
 from-requires : tie.Need-from-requires
@@ -55,7 +56,7 @@ number-lines-requires c κs =
     let z = going (c .before) in
     let x = c .before .before .before in
     let y = x .before .before in (
-      header-stations _ _ (accepted y),
+      original-stations _ _ (accepted y),
       lines-room (start y .args .file .now) (start y .args .list .now) (header y .line-at .ensures) (accepted y)
           (y .from .ensures) (surveyed x) (judged x) z,
     )

@@ -2,6 +2,7 @@ use mathlib.Core.Path.{_≡_, sym, ap, _∙_}
 use Rattle.transition.specs.Forms.{over}
 use Rattle.moves.proofs.MoveLaws.{refuses-yes, refuses-no}
 use Rattle.schedule.specs.Lines.{nextLine}
+use Rattle.schedule.specs.Tables.{tables}
 use Rattle.schedule.specs.Sessions.{Session}
 use Rattle.schedule.proofs.SessionLaws.{serves-as, next-within, serve-final}
 use Rattle.table.specs.Tables.{declared}
@@ -15,7 +16,7 @@ returns : tie.Need-returns
 returns c =
     let yes = refuses-yes (c .before .before .before .before .args .s .refusal) (c .before .before .refuses .ensures) (c .before .if1 .taken) in
     let e = c .refuse .ensures _ in
-    (serves-as (serve-final declared _ _ yes) e, λ d. (ap (λ (s : Session Table). s .table) (e .session), e .report))
+    (serves-as (serve-final (tables declared) _ _ yes) e, λ d. (ap (λ (s : Session Table). s .table) (e .session), e .report))
 
 -- the line is read as the next of the session
 abbrev Read : tie.After-next-line → Type 0

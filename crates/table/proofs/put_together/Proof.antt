@@ -4,7 +4,7 @@ use mathlib.Core.Path.{_≡_, ap, _∙_}
 use mathlib.Core.List.{List}
 use Rattle.basics.proofs.Filled.{filled, filled-none, filled-more}
 use Rattle.arrays.specs.Arrays.{arrays}
-use Rattle.table.specs.Tables.{stationOf, putTogether}
+use Rattle.table.specs.Tables.{declaredStation, putTogether}
 use Rattle.table.proofs.Apart.{filled-end}
 use Rattle.table.specs.declared.Station.{Station}
 use borrow.Author.Needs.{needs}
@@ -13,7 +13,7 @@ use Rattle.table.proofs.put_together.Tie as tie
 
 abbrev Inv-loop : tie.InvT-loop
 Inv-loop n labels jobs control results stations₀ i₀ stations i =
-    (i ≤ 32) × (stations ≡ filled 32 i (stationOf (arrays n labels jobs control results)) (stationOf (arrays n labels jobs control results) 0))
+    (i ≤ 32) × (stations ≡ filled 32 i (declaredStation (arrays n labels jobs control results)) (declaredStation (arrays n labels jobs control results) 0))
 
 abbrev μ-loop : tie.MeasureT-loop
 μ-loop n labels jobs control results stations₀ i₀ stations i = 32 - i

@@ -6,13 +6,13 @@ use borrow.Author.Needs.{needs}
 use lib.ListN.{length}
 use Rattle.arrays.specs.Arrays.{arrays}
 use Rattle.schedule.proofs.Cuts.{linesLeft, fewer-left}
-use Rattle.file.specs.Feeds.{Standing}
+use Rattle.file.specs.Feeds.{Underway}
 use Rattle.tickets.proofs.main.Statement.{statement}
 use Rattle.tickets.proofs.main.Tie as tie
 
 abbrev Inv-loop : tie.InvT-loop
 Inv-loop _ _ _ _ _ _ _ _ _ _ order labels jobs control results input out run kept more =
-    Standing run (arrays (run .count) labels jobs control results) order × (more ≡ true → (kept < 18) × (run .lines ≤ 1000001))
+    Underway run (arrays (run .count) labels jobs control results) order × (more ≡ true → (kept < 18) × (run .lines ≤ 1000001))
     × (length input ≡ 73728) × (length out ≡ 65536)
 
 abbrev μ-loop : tie.MeasureT-loop

@@ -10,14 +10,14 @@ use lib.Seq.{length-take-le}
 use Rattle.basics.proofs.Facts.{and-both}
 use Rattle.arrays.specs.Arrays.{arrays}
 use Rattle.moves.proofs.MoveLaws.{refuses-no}
-use Rattle.file.specs.Feeds.{Standing}
+use Rattle.file.specs.Feeds.{Underway}
 use Rattle.file.proofs.FeedLaws.{feeds-within, feeds-inside, feeds-on, feeds-left}
 use Rattle.tickets.proofs.serve_part.Statement.{statement}
 use Rattle.tickets.proofs.serve_part.Tie as tie
 
 abbrev Inv-loop : tie.InvT-loop
 Inv-loop last order₀ labels₀ jobs₀ control₀ results₀ part out₀ run at₀ order labels jobs control results out now at =
-    Standing now (arrays (now .count) labels jobs control results) order × (length out ≡ length out₀) × (at ≤ length part)
+    Underway now (arrays (now .count) labels jobs control results) order × (length out ≡ length out₀) × (at ≤ length part)
     × (18 * now .lines ≡ 18 * run .lines + at) × (928 ≤ length out)
 
 abbrev μ-loop : tie.MeasureT-loop

@@ -33,7 +33,7 @@ use denote.Steps.{nothing}
 use denote.Triple.End.{all, Fins, Outs, outs, lastsOf}
 use denote.Triple.Walked.{Stays, gave-slice, fitsOf, hasOf, AllGo, goes-gave-slice}
 use denote.Exit.{yes}
-use Rattle.lent_table.proofs.Numbers.{Nums, past, env, past-is, from-at, look-first}
+use Rattle.walks.proofs.Numbers.{Nums, past, env, past-is, from-at, look-first}
 
 -- what is lent beside the table: nothing, or a slice of a type
 pub data Beside : Type 2 where

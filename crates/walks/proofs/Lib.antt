@@ -1,0 +1,16 @@
+pub mod Plain
+pub mod Structs
+pub mod Linked
+pub mod Numbers
+pub mod Report
+pub mod Lent
+pub mod Owned
+pub mod Fill
+pub mod FillLists
+pub mod PanelArrays
+pub mod PanelLinked
+pub mod PanelOwned
+pub mod PanelStep
+pub mod PanelTypes
+pub mod Question
+pub mod QuestionOwned
