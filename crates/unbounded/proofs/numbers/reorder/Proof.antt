@@ -1,3 +1,8 @@
+use Prim.Native.Nat.{ℕ, _-_, _≤_, _<_}
+use mathlib.Core.Path.{_≡_}
+use mathlib.Core.Bool.{true}
+use lib.ListN.{getD}
+use Rattle.unbounded.specs.Numbers.{standsBy}
 use native.Mathlib.Omega.{arith}
 use Rattle.rows.proofs.OrderLaws.{listed-long, place-found, others-room, others-listed, others-sorted, put-again}
 use Rattle.unbounded.proofs.NumberLaws.{renumbered}
@@ -24,16 +29,30 @@ insert-at-requires : tie.Need-insert-at-requires
 insert-at-requires c κs =
     let pre = c .before .before .before .before .before .before .before .before .pre in
     let d = renumbered (pre .0 .0) (pre .0 .1) (pre .1) in
-    (c .before .position .ensures .0, others-room d _ (c .before .before .before .before .before .take-out .ensures))
+    (omega (arith, c .before .position .ensures .0), others-room d _ (c .before .before .before .before .before .take-out .ensures))
 
-returns : tie.Need-returns
-returns c =
+abbrev taken : tie.After-position → tie.After-take-out
+taken f = f .before .before .before .before
+
+-- the place found is that of the station
+abbrev Stands : tie.After-position → Type 0
+Stands f =
+    let a = taken f .before .before .before .args in
+    let order = taken f .take-out .last .0 in
+    let q = f .position .result in
+    (q ≤ a .n - 1) × (((p : ℕ) → p < q → standsBy (a .numbers .now) (getD order p 0) (a .k) ≡ true)
+    × ((p : ℕ) → q ≤ p → p < a .n - 1 → standsBy (a .numbers .now) (a .k) (getD order p 0) ≡ true))
+
+stands : (f : tie.After-position) → Stands f
+stands f = f .position .ensures
+
+put : ((f : tie.After-position) → Stands f) → tie.Need-returns
+put h c =
     let found = c .before .before .before .before in
-    let taken = found .before .before .before .before in
-    let pre = taken .before .before .before .pre in
-    let place = found .position .ensures in
-    put-again (renumbered (pre .0 .0) (pre .0 .1) (pre .1)) _ (taken .take-out .ensures) _ _ (place .0) (place .1 .0) (place .1 .1)
+    let pre = taken found .before .before .before .pre in
+    let place = h found in
+    put-again (renumbered (pre .0 .0) (pre .0 .1) (pre .1)) _ (taken found .take-out .ensures) _ _ (place .0) (place .1 .0) (place .1 .1)
     (c .before .before .insert-at .ensures)
 
 pub reorder-spec : {M : Type 1} → statement M
-reorder-spec = tie.close (tie.spec (λ c. search needs) take-out-requires position-requires insert-at-requires (λ c. search needs) returns)
+reorder-spec = tie.close (tie.spec (λ c. search needs) take-out-requires position-requires insert-at-requires (λ c. search needs) (put stands))
