@@ -22,7 +22,7 @@ use Rattle.simulation.proofs.Simulation.{original-proper}
 use Rattle.transition.specs.Forms.{TableAnswer, stepOf}
 use Rattle.transition.proofs.Written.{original-sized, WritableRest, Writable, writable-step}
 use Rattle.transition.proofs.Reached.{Idles}
-use Rattle.transition.proofs.Fits.{Unspoiled, reached-unspoiled}
+use Rattle.transition.proofs.Fits.{Fitting, reached-fitting}
 use Rattle.transition.proofs.Theorem.{Lawful, step-written}
 use Rattle.arrays.specs.Arrays.{Rows, Arrays, arrays, cell, plane, planes, phaseNumber, phaseFor, outNumber, outFor, resultRows, shownIn, resultOf}
 use Rattle.arrays.specs.Arrays.{Planes, rowsAt, labelRow, restIn, restOf, stateOf, jobsOf, controlOf, resultsOf, labelsOf, arraysOf, Holds}
@@ -142,7 +142,7 @@ module _ (n : ℕ) (high : n ≤ 32) (s : State Labels.Label) (w : Writable orig
   held-written = λ y. record { labels = λ x i. label-at x i y; rest = rest-back n high (s .rest) (w .rest) y }
 
 -- and well-formed if that state passes
-module _ (n : ℕ) (low : 2 ≤ n) (high : n ≤ 32) (s : State Labels.Label) (f : Unspoiled original n s) where
+module _ (n : ℕ) (low : 2 ≤ n) (high : n ≤ 32) (s : State Labels.Label) (f : Fitting original n s) where
   w : Writable original n s
   w = f .writable
 
@@ -159,9 +159,9 @@ module _ (n : ℕ) (low : 2 ≤ n) (high : n ≤ 32) (s : State Labels.Label) (f
       idle true f = rw (f refl) refl
       idle false f = refl
 
-  pub unspoiled-passes : wellFormed (arraysOf n s) ≡ true
+  pub fitting-passes : wellFormed (arraysOf n s) ≡ true
   unfolding wellFormed stationFits placeFresh arraysOf
-  unspoiled-passes = both (both (both (within-of 2 32 n low high)
+  fitting-passes = both (both (both (within-of 2 32 n low high)
       (every-all n _ (λ i l. both (both (both (rows-fit false i l) (rows-fit true i l))
       (rw (rows-at n high o v i (omega arith)) (sound-fits n (o .result i) high (v .listed i) (f .sound i))))
       (rw (phase-at n high o v i, out-at n high o v i) (control-fits (o .process i) (f .idles i))))))
@@ -188,7 +188,7 @@ lent-lawful = record {
   proper = original-proper;
   counted = λ n s. refl;
   held = λ n z s r. held-written n (z .high) s (r .writable);
-  passes = λ n z s r. unspoiled-passes n (z .low) (z .high) s (reached-unspoiled original-proper n z s r);
+  passes = λ n z s r. fitting-passes n (z .low) (z .high) s (reached-fitting original-proper n z s r);
 }
 
 -- WELL-FORMED ARRAYS are those of the state that they hold

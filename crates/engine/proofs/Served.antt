@@ -24,7 +24,7 @@ use Rattle.transition.specs.Questions.{topHolders, Tells}
 use Rattle.transition.specs.Sequences.{Steps}
 use Rattle.transition.proofs.Theorem.{step-written, step-ill-formed}
 use Rattle.transition.proofs.Sequences.{steps-of}
-use Rattle.moves.specs.Moves.{refusalNumber, moveOf, called, directly, callOf}
+use Rattle.moves.specs.Moves.{refusalNumber, moveOf, called, directly, callOf, standingFor}
 use Rattle.moves.proofs.MoveLaws.{by-move, begun-job, place-below}
 use Rattle.arrays.specs.Arrays.{Rows, Planes, Arrays, cell, phaseNumber, phaseFor, outFor, entriesIn, shownIn, restIn, restOf, stateOf, Holds}
 use Rattle.arrays.specs.WellFormed.{wellFormed}
@@ -33,7 +33,7 @@ use Rattle.arrays.specs.Sizes.{Shaped}
 use Rattle.arrays.proofs.Passed.{passed, label-digits}
 use Rattle.arrays.proofs.States.{number-back, written-held}
 use Rattle.engine.specs.Scans.{orderOf}
-use Rattle.engine.specs.Contracts.{actionOf, Prepared, PreparedRest, handsOut, due, outcomeOf, Named, Carries, Judges, Hands, standingFor}
+use Rattle.engine.specs.Contracts.{actionOf, Prepared, PreparedRest, handsOut, due, outcomeOf, Named, Carries, Judges, Hands}
 use Rattle.engine.specs.Contracts.{rowOf, recordOf}
 use Rattle.engine.proofs.Reports.{result-length, records-read}
 use Rattle.moves.specs.declared.Move.{Move}

@@ -1,7 +1,7 @@
 -- What the contracts of the engine say.
 use Prim.Native.Nat.{ℕ, _≤_, _<_}
 use mathlib.Core.Path.{_≡_}
-use mathlib.Core.Bool.{Bool, true, cond}
+use mathlib.Core.Bool.{true, cond}
 use mathlib.Core.List as Lists
 use mathlib.Core.List.{[], _∷_}
 use lib.ListN.{length, getD, take}
@@ -14,7 +14,7 @@ use Rattle.simulation.specs.Calls.{Room, Call, holds, judgeIn, PanelRecord, wri
 use Rattle.simulation.specs.Machine as Machine
 use Rattle.simulation.specs.Machine.{digits, State, labelsAfter, outcome, carryOut}
 use Rattle.transition.specs.Forms.{stepOf}
-use Rattle.moves.specs.Moves.{refusalNumber, moveOf, callOf, placeOf}
+use Rattle.moves.specs.Moves.{refusalNumber, moveOf, callOf, placeOf, standingFor}
 use Rattle.arrays.specs.Arrays.{Rows, Planes, Arrays, cell, phaseFor, outFor, entriesIn, shownIn, restIn, labelsIn, stateOf, labelsOf, arraysOf, Holds}
 use Rattle.arrays.specs.WellFormed.{wellFormed}
 use Rattle.arrays.specs.Form.{lent}
@@ -110,10 +110,6 @@ pub record CarriesRest (o : Machine.Outcome) (x : Task) (jobs control : Rows) (r
 abbrev pub Carries : Arrays → Task → Arrays → Handed → Type 0
 Carries a x a′ r =
     Performs a (x .place) (actionOf x) a′ r × (r .entries ≡ handsOut (x .shown) (x .action)) × Named (r .entries) (getD (a′ .results) (x .place) [])
-
--- what a call is judged by, where a station has one process
-abbrev pub standingFor : Calls.Phase → Bool → ℕ → Calls.Standing
-standingFor ph out shown = record { phase = ph; out = out; shown = shown; alone = true }
 
 -- the call that q makes, judged on a table of n stations with these control bytes and results, room for its report and newest station: the task x
 pub record Judges (n : ℕ) (control : Rows) (results : Planes) (q : Request) (room : Room) (top : ℕ) (x : Task) : Type 0 where

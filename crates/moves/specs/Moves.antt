@@ -1,6 +1,6 @@
 -- What a step call amounts to: the declared phases, room, refusals and moves as the machine has them, a call from its parts and the place of its station.
 use Prim.Native.Nat.{ℕ, _-_}
-use mathlib.Core.Bool.{true, false, cond}
+use mathlib.Core.Bool.{Bool, true, false, cond}
 use Rattle.basics.specs.Tests.{within}
 use Rattle.simulation.specs.Calls as Calls
 use Rattle.simulation.specs.Calls.{Call}
@@ -31,9 +31,12 @@ phaseOf Snap = Calls.Snap Calls.Label
 phaseOf Update = Calls.Update
 phaseOf (End o) = Calls.End (operationOf o)
 
--- what a call is judged by of its station, which on this board has one process
+-- what a call is judged by, where a station has one process; and as it is declared
+abbrev pub standingFor : Calls.Phase → Bool → ℕ → Calls.Standing
+standingFor ph out shown = record { phase = ph; out = out; shown = shown; alone = true }
+
 abbrev pub standingOf : Standing → Calls.Standing
-standingOf own = record { phase = phaseOf (own .phase); out = own .out; shown = own .shown; alone = true }
+standingOf own = standingFor (phaseOf (own .phase)) (own .out) (own .shown)
 
 -- and what is lent
 abbrev pub roomOf : Room → Calls.Room

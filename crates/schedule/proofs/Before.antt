@@ -189,12 +189,12 @@ module _ (n : ℕ) where
   agree (l ∷ (m ∷ ms)) f lines s = agree-line lines l (m ∷ ms) s (agree (m ∷ ms) (f .1) (lines + 1))
       (λ c e x. agree-snap (lines + 1) m ms s c x (f .0 (c .station) (c .job) e) (agree ms (f .1 .1) (lines + 1 + 1) (x .scanned)))
 
-pub states-lawful : Lawful (asStates original)
-states-lawful = record { proper = original-proper; counted = λ n s. refl; held = λ n z s r. refl; passes = λ n z s r. refl }
+pub as-states-lawful : Lawful (asStates original)
+as-states-lawful = record { proper = original-proper; counted = λ n s. refl; held = λ n z s r. refl; passes = λ n z s r. refl }
 
 -- CARD 1, for every list of bytes and every lawful form of the original board
 pub scans-as-before : (F : Form) → Lawful F → F .board ≡ original → (bs : Lists.List ℕ) → ScansAsBefore F bs
-scans-as-before F L same bs f = ap scanLines (same-report F (asStates original) L states-lawful same bs) ∙ go (headerRead original (take 18 bs)) refl
+scans-as-before F L same bs f = ap scanLines (same-report F (asStates original) L as-states-lawful same bs) ∙ go (headerRead original (take 18 bs)) refl
   where
     scans : Served Stated → Lists.List ℕ
     scans o = scanLines (o .bytes)

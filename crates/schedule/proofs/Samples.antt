@@ -17,7 +17,7 @@ use Rattle.schedule.specs.Files.{cut, runLines, fileRun}
 use Rattle.schedule.specs.Before.{asStates}
 use Rattle.schedule.specs.Samples.{texts, FilePrints, listing, refusals, incomplete, headers, FileSamplesHold}
 use Rattle.schedule.proofs.FileTheorem.{same-report}
-use Rattle.schedule.proofs.Before.{states-lawful}
+use Rattle.schedule.proofs.Before.{as-states-lawful}
 
 computed : FileSamplesHold (asStates original)
 unfolding every count firstFrom newest inserted ordered passing lineHead lineTail reportLine columnRead below next agrees firstDifference labelBelow
@@ -27,4 +27,4 @@ computed = (refl, (refl, (refl, (refl, (refl, (refl, (refl, (refl, (refl, (refl,
 
 pub file-samples-hold : (F : Form) → Lawful F → F .board ≡ original → FileSamplesHold F
 file-samples-hold F L same = all-weaken {P = FilePrints (asStates original)} {Q = FilePrints F}
-    (λ x e. same-report F (asStates original) L states-lawful same (texts (x .file)) ∙ e) (listing ∷ refusals ∷ incomplete ++ headers) computed
+    (λ x e. same-report F (asStates original) L as-states-lawful same (texts (x .file)) ∙ e) (listing ∷ refusals ∷ incomplete ++ headers) computed

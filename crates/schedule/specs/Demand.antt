@@ -1,5 +1,5 @@
--- Demand 3 of reading sessions and of schedule files, stated for tables of any form of any board (01, "What demand 3 compares", "When a step is turned down"): the step
--- lines before any final refusal are a sequence of step calls.
+-- Demand 3 of reading sessions and of schedule files, stated for tables of any form of any board (01, "What demand 3 compares", "When a step is turned
+-- down"): the step lines before any final refusal are a sequence of step calls.
 use Prim.Native.Nat.{ℕ, _+_}
 use mathlib.Core.Path.{_≡_}
 use mathlib.Core.Logic.{_≢_}
@@ -95,8 +95,10 @@ pub record Stays {T : Type 0} (z : Session T) (x : ServedLine T) : Type 0 where
 -- and the report"); and all other calls meet the final refusal
 pub record SessionDemand (F : Form) (n : ℕ) (xs : Lists.List (ServedLine (F .Table))) : Type 0 where
   pub demand : Demand3 F n (sessionCalls (F .board) xs)
-  pub same : map (λ x. seenIn F (replied x)) (steps (F .board) xs) ≡ map (Machine.seen (F .board) n) (unbounded (F .board) n (demand .advances) (sessionCalls (F .board) xs))
-  pub counted : map (λ x. x .written) (steps (F .board) xs) ≡ map (λ a. size (a .report)) (unbounded (F .board) n (demand .advances) (sessionCalls (F .board) xs))
+  pub same : map (λ x. seenIn F (replied x)) (steps (F .board) xs)
+      ≡ map (Machine.seen (F .board) n) (unbounded (F .board) n (demand .advances) (sessionCalls (F .board) xs))
+  pub counted : map (λ x. x .written) (steps (F .board) xs)
+      ≡ map (λ a. size (a .report)) (unbounded (F .board) n (demand .advances) (sessionCalls (F .board) xs))
   pub kept : All (λ x. x .buffer′ ≡ over (take (x .written) (x .buffer′)) (x .buffer)) xs
   pub never7 : All (λ x. x .refusal ≢ 7) xs
   pub final : All (Stays (ended (left (session 1 Accepted (freshTable F n)) (steps (F .board) xs)) (sessionEnding xs))) (later (F .board) xs)
@@ -120,5 +122,6 @@ endPrinted B lines ls = printed (lines + length (stepCalls B lines ls) + 1) (ref
 pub record FileDemand (F : Form) (bs : Lists.List ℕ) (n : ℕ) : Type 0 where
   pub demand : Demand3 F n (fileCalls (F .board) bs)
   pub report : fileReport (tables F) bs
-      ≡ printedCalls (fileCalls (F .board) bs) (map (Machine.seen (F .board) n) (unbounded (F .board) n (demand .advances) (fileCalls (F .board) bs))) ++ endPrinted (F .board) 1 (stepLines bs)
+      ≡ printedCalls (fileCalls (F .board) bs) (map (Machine.seen (F .board) n) (unbounded (F .board) n (demand .advances) (fileCalls (F .board) bs)))
+      ++ endPrinted (F .board) 1 (stepLines bs)
   pub never7 : All (λ a. a .refusal ≢ 7) (runTable (stepOf F) (freshTable F n) (fileCalls (F .board) bs))

@@ -116,7 +116,7 @@ fn step_line(s: Session, code: u64, station: u64, job: u64, report: &mut [u8]) -
     ensures { λ o. ⌜ Keeps s o (now (report .entry)) (now (report .exit)) ⌝ }
 {
     let lines = s.lines;
-    let unmoved = s.refusal;
+    let standing = s.refusal;
     let request = Request {
         code,
         station,
@@ -130,7 +130,7 @@ fn step_line(s: Session, code: u64, station: u64, job: u64, report: &mut [u8]) -
     Served {
         session: Session {
             lines: lines + 1,
-            refusal: unmoved,
+            refusal: standing,
             table: next,
         },
         reply,
@@ -143,9 +143,9 @@ pub fn serve(s: Session, line: &[u8], report: &mut [u8; 928]) -> Served
     ensures { λ o. ⌜ ServedAs (serveOf (tables declared) (sessionOf s) (now (line .entry))) o (now (report .entry)) (now (report .exit)) ⌝ }
     ensures { λ o. ⌜ Keeps s o (now (report .entry)) (now (report .exit)) ⌝ }
 {
-    let unmoved = s.refusal;
-    if unmoved.refuses() {
-        return refuse(s, unmoved);
+    let standing = s.refusal;
+    if standing.refuses() {
+        return refuse(s, standing);
     }
     match schedule::next_line(s.lines, line) {
         Line::Refused(r) => unread(s, r),

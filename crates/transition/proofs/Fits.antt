@@ -20,7 +20,7 @@ use Rattle.transition.proofs.Written.{Sized, sized-some, Writable}
 use Rattle.transition.proofs.Reached.{Sound, Idles, Reached, choice-ring-free}
 use Rattle.transition.proofs.Theorem.{Lawful}
 
-pub record Unspoiled (B : Board) (n : ℕ) (s : State Labels.Label) : Type 0 where
+pub record Fitting (B : Board) (n : ℕ) (s : State Labels.Label) : Type 0 where
   pub writable : Writable B n s
   pub digits : (x : Bool) (i p : ℕ) → (B .fill ≤ s .labels x i p) × (s .labels x i p ≤ 5)
   pub behind : (x : Bool) (i p : ℕ) → n - 1 ≤ p → s .labels x i p ≡ B .fill
@@ -29,8 +29,8 @@ pub record Unspoiled (B : Board) (n : ℕ) (s : State Labels.Label) : Type 0 whe
   pub free : noRing (n - 1) (s .labels false) ≡ true
 
 -- REACHED STATES have them
-pub reached-unspoiled : {B : Board} → Proper B → (n : ℕ) → Sized B n → (s : State Labels.Label) → Reached B n s → Unspoiled B n s
-reached-unspoiled {B} (stepwise per known apart h) n z s r = record {
+pub reached-fitting : {B : Board} → Proper B → (n : ℕ) → Sized B n → (s : State Labels.Label) → Reached B n s → Fitting B n s
+reached-fitting {B} (stepwise per known apart h) n z s r = record {
   writable = r .writable;
   digits = λ x i q. by-cases (decLt i n) (λ l. r .ready .inv .digits x i (omega arith) q)
       (λ l. let e = ap (λ (a : Labels.Label). a q) (r .writable .blank x i (omega arith)) in (omega arith, omega arith));
@@ -45,7 +45,7 @@ sized-yes : {B : Board} {n : ℕ} → Sized B n → sized B n ≡ true
 sized-yes {B} {n} z = both (within-of (2 * B .perStation) (32 * B .perStation) n (z .low) (z .high))
     (eq-eqb (n % B .perStation) 0 (omega (arith, div-add-mod n (B .perStation), z .whole, mul-comm (B .perStation) (stationOf B n))))
 
-module _ {B : Board} (n : ℕ) (z : Sized B n) (s : State Labels.Label) (f : Unspoiled B n s) where
+module _ {B : Board} (n : ℕ) (z : Sized B n) (s : State Labels.Label) (f : Fitting B n s) where
   label-fits : (x : Bool) (i : ℕ) → labelFits B n (s .labels x i) ≡ true
   unfolding labelFits
   label-fits x i = both
@@ -59,13 +59,13 @@ module _ {B : Board} (n : ℕ) (z : Sized B n) (s : State Labels.Label) (f : Uns
       both (within-of 1 n _ (e .0) (e .1)) (ap not (ne-eqb _ 0 (e .2))))))
       (every-all n _ (λ i li. le-leb _ 1 (a .once i li)))
 
-  pub unspoiled-fits : stateFits B n s ≡ true
+  pub fitting-fits : stateFits B n s ≡ true
   unfolding stateFits
-  unspoiled-fits = both (both (both (sized-yes z)
+  fitting-fits = both (both (both (sized-yes z)
       (every-all n _ (λ i li. both (both (label-fits false i) (label-fits true i))
       (both (f .writable .rest .phase i) (implies (s .rest .process i .out) (λ e. ap idle (f .idles i e)))))))
       (every-all (stationOf B n) _ (λ g _. list-fits (s .rest .result g) (f .sound g) (f .writable .rest .listed g .0))))
       (f .free)
 
 pub states-lawful : {B : Board} → Proper B → Lawful (states B)
-states-lawful p = record { proper = p; counted = λ n s. refl; held = λ n z s r. refl; passes = λ n z s r. unspoiled-fits n z s (reached-unspoiled p n z s r) }
+states-lawful p = record { proper = p; counted = λ n s. refl; held = λ n z s r. refl; passes = λ n z s r. fitting-fits n z s (reached-fitting p n z s r) }

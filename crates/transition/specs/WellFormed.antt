@@ -1,5 +1,5 @@
--- 13 as it is asked of a state (01, "When a step is turned down": a spoiled table; 02, Cards 2 and 4), on every board and whatever the form of its tables. What a
--- form keeps beside its state, as the places past n, is the form's own.
+-- Refusal 13 as it is asked of a state (01, "When a step is turned down"; 02, Cards 2 and 4), whatever the form of its tables. What a form keeps beside its
+-- state, as the places past n, is the form's own. It is all that 13 asks where a station has one process.
 use Prim.Native.Nat.{ℕ, suc, _+_, _-_, _*_}
 use mathlib.Core.Bool.{Bool, true, false, not, _&&_, _||_}
 use mathlib.Core.List as Lists

@@ -4,12 +4,11 @@ use Prim.Native.Nat.{ℕ, _≤_, _<_}
 use mathlib.Core.Path.{_≡_, refl, sym, ap, subst, _∙_}
 use mathlib.Core.List.{[]}
 use Rattle.simulation.specs.Calls.{original, judgeIn}
-use Rattle.moves.specs.Moves.{roomOf, moveOf, callOf}
+use Rattle.moves.specs.Moves.{roomOf, moveOf, callOf, standingFor}
 use Rattle.moves.proofs.MoveLaws.{place-below}
 use Rattle.arrays.specs.Arrays.{cell, outFor, phaseFor}
 use Rattle.engine.proofs.Served.{due-few}
 use borrow.Author.Needs.{needs}
-use Rattle.engine.specs.Contracts.{standingFor}
 use Rattle.engine.proofs.judge.Statement.{statement}
 use Rattle.engine.proofs.judge.Tie as tie
 
