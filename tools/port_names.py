@@ -16,9 +16,12 @@ WORD = r"[A-Za-z_\u03b1-\u03c9][A-Za-z0-9_'\u2032\u2080-\u2099\u03b1-\u03c9]*(?:
 TOKEN = re.compile(WORD)
 DECL = re.compile(r"^(?:(?:pub|abbrev|unfoldable|ruleset|data|record)\s+)*(" + WORD + r")(?=\s|$)")
 PART = re.compile(r"^\s+(?:pub\s+)?(" + WORD + r"(?:\s+" + WORD + r")*)\s*:")
+INNER = re.compile(r"^\s+(?:(?:pub|abbrev|unfoldable)\s+)*(" + WORD + r"(?:\s+" + WORD + r")*)\s+:(?=\s)")
 KEYWORDS = {"use", "mod", "pub", "open", "unfolding", "where", "let", "in", "package"}
 # a name that would fall together with another, and what it is called instead
-OTHER = {n: n.replace("-", "_") + "_lem" for n in ("numbers-do", "out-number", "file-numbers", "snap-calls", "survey-parts", "every-choice", "first-entries", "fits-snap", "no-ring", "both-fit")}
+OTHER = {n: n.replace("-", "_") + "_lem" for n in ("numbers-do", "out-number", "file-numbers", "snap-calls", "survey-parts", "every-choice", "first-entries", "fits-snap", "no-ring", "both-fit",
+    "control-fits", "rows-at", "job-fits", "put-in", "by-phase", "by-service", "job-of", "not-due", "label-fits", "list-fits")}
+OTHER["runOn"] = "run_further"
 # names that have the spelling already, of which a definition's name becomes one
 LEMMAS = {
     "crates/columns/proofs/ColumnLaws.antt": ["read_as"],
@@ -55,9 +58,12 @@ def in_function(path):
 
 
 def declared(text):
-    """The names at the left margin, and those of fields and constructors."""
+    """The names of definitions and lemmas, at the left margin and in modules, and those of fields and constructors."""
     top, parts, block = set(), set(), None
     for line in text.splitlines():
+        m = INNER.match(line)
+        if m and not (block and PART.match(line)):
+            top |= set(m.group(1).split())
         m = DECL.match(line)
         if m:
             block = None

@@ -96,24 +96,24 @@ passed a e =
     }
 
 module _ (a : Arrays) (e : well_formed a ≡ true) where
-  pub label-digits : (x : Bool) (i p : ℕ) → i < a.count → p < a.count - 1 → (1 ≤ digit (label_row a x i) p) × (digit (label_row a x i) p ≤ 5)
-  label-digits x i p li lp = fits_digit 31 (a.count - 1) (label_row a x i) (((passed a e).each i li).label x) p lp
+  pub label_digits : (x : Bool) (i p : ℕ) → i < a.count → p < a.count - 1 → (1 ≤ digit (label_row a x i) p) × (digit (label_row a x i) p ≤ 5)
+  label_digits x i p li lp = fits_digit 31 (a.count - 1) (label_row a x i) (((passed a e).each i li).label x) p lp
 
-  pub stands-total : Total a.count (stands (digits original a.count) (state_of a).labels)
-  stands-total = total (ringless (a.count - 1) (λ i. digit (label_row a false i)) (passed a e).free
-      (λ i p li lp. label-digits false i p (omega (arith, (passed a e).low)) lp))
+  pub stands_total : Total a.count (stands (digits original a.count) (state_of a).labels)
+  stands_total = total (ringless (a.count - 1) (λ i. digit (label_row a false i)) (passed a e).free
+      (λ i p li lp. label_digits false i p (omega (arith, (passed a e).low)) lp))
       a.count (omega (arith, (passed a e).low))
 
-  pub newest-station : newest a.count (stands (digits original a.count) (state_of a).labels) < a.count
-  newest-station = newest_inside a.count (stands (digits original a.count) (state_of a).labels) stands-total (omega (arith, (passed a e).low))
+  pub newest_station : newest a.count (stands (digits original a.count) (state_of a).labels) < a.count
+  newest_station = newest_inside a.count (stands (digits original a.count) (state_of a).labels) stands_total (omega (arith, (passed a e).low))
 
   -- the newest: all others stand before it, and it alone stands before none
-  pub newest-after-all : let n = a.count in let b = stands (digits original n) (state_of a).labels in (j : ℕ) → j < n → j ≢ newest n b → b j (newest n b) ≡ true
-  newest-after-all = newest_last a.count (stands (digits original a.count) (state_of a).labels) stands-total (omega (arith, (passed a e).low))
+  pub newest_after_all : let n = a.count in let b = stands (digits original n) (state_of a).labels in (j : ℕ) → j < n → j ≢ newest n b → b j (newest n b) ≡ true
+  newest_after_all = newest_last a.count (stands (digits original a.count) (state_of a).labels) stands_total (omega (arith, (passed a e).low))
 
-  pub newest-alone : let n = a.count in let b = stands (digits original n) (state_of a).labels in (i : ℕ) → i < n → ((j : ℕ) → j < n → b i j ≡ false) → i ≡ newest n b
-  newest-alone = newest_only a.count (stands (digits original a.count) (state_of a).labels) stands-total
+  pub newest_alone : let n = a.count in let b = stands (digits original n) (state_of a).labels in (i : ℕ) → i < n → ((j : ℕ) → j < n → b i j ≡ false) → i ≡ newest n b
+  newest_alone = newest_only a.count (stands (digits original a.count) (state_of a).labels) stands_total
 
   -- the scan order: each station before all later ones
-  pub scan-sorted : let b = stands (digits original a.count) (state_of a).labels in Sorted b (ordered a.count b)
-  scan-sorted = let n = a.count in ordered_sorted n (stands (digits original n) (state_of a).labels) stands-total n (omega arith)
+  pub scan_sorted : let b = stands (digits original a.count) (state_of a).labels in Sorted b (ordered a.count b)
+  scan_sorted = let n = a.count in ordered_sorted n (stands (digits original n) (state_of a).labels) stands_total n (omega arith)

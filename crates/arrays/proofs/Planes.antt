@@ -31,12 +31,12 @@ get_d_set l k i v h = by_here (λ b. get_or (set l k v) i 0 ≡ cond b v (get_or
     (λ d. get_or-set_other l k i v 0 d)
 
 module _ (numbers : Rows) (g : Sized 2 32 numbers) (k : ℕ) (h : k < 32) where
-  pub planes-put : (v : ℕ) → beside (set numbers 1 (set (get_or numbers 1 []) k v)) ≡ put (beside numbers) k v
-  planes-put v = by_planes (λ xs. beside (set xs 1 (set (get_or xs 1 []) k v)) ≡ put (beside xs) k v)
+  pub planes_put : (v : ℕ) → beside (set numbers 1 (set (get_or numbers 1 []) k v)) ≡ put (beside numbers) k v
+  planes_put v = by_planes (λ xs. beside (set xs 1 (set (get_or xs 1 []) k v)) ≡ put (beside xs) k v)
       (λ a b u w. alike (λ i. refl) (λ i. get_d_set b k i v (omega arith))) numbers g
 
-  pub planes-copied : beside (set numbers 0 (set (get_or numbers 0 []) k (get_or (get_or numbers 1 []) k 0))) ≡ copy (beside numbers) k
-  planes-copied = by_planes (λ xs. beside (set xs 0 (set (get_or xs 0 []) k (get_or (get_or xs 1 []) k 0))) ≡ copy (beside xs) k)
+  pub planes_copied : beside (set numbers 0 (set (get_or numbers 0 []) k (get_or (get_or numbers 1 []) k 0))) ≡ copy (beside numbers) k
+  planes_copied = by_planes (λ xs. beside (set xs 0 (set (get_or xs 0 []) k (get_or (get_or xs 1 []) k 0))) ≡ copy (beside xs) k)
       (λ a b u w. alike
       (λ i. get_d_set a k i (get_or b k 0) (omega arith) ∙ by_here (λ x. cond x (get_or b k 0) (get_or a i 0) ≡ beside (a ∷ b ∷ []) x i) k i
       (λ e. ap (λ j. get_or b j 0) (sym e)) (λ _. refl))

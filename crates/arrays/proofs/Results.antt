@@ -25,27 +25,27 @@ use Rattle.arrays.specs.Sizes.{Sized}
 
 -- a place of the rows of a result
 module _ (l : Lists.List Entry) (p : ℕ) where
-  past-entry : length l ≤ 32 → 32 ≤ p → entry 0 0 ≡ get_or l p (entry 0 0)
-  past-entry u h = sym (get_or-eq_default l (entry 0 0) (omega arith))
+  past_entry : length l ≤ 32 → 32 ≤ p → entry 0 0 ≡ get_or l p (entry 0 0)
+  past_entry u h = sym (get_or-eq_default l (entry 0 0) (omega arith))
 
-  station-cell : length l ≤ 32 → cell (result_rows l) 0 p 0 ≡ (get_or l p (entry 0 0)).station
-  station-cell u = get_d_all 32 p (λ q. (get_or l q (entry 0 0)).station) 0 (λ h. ap (λ e. e.station) (past-entry u h))
+  station_cell : length l ≤ 32 → cell (result_rows l) 0 p 0 ≡ (get_or l p (entry 0 0)).station
+  station_cell u = get_d_all 32 p (λ q. (get_or l q (entry 0 0)).station) 0 (λ h. ap (λ e. e.station) (past_entry u h))
 
-  job-cell : length l ≤ 32 → cell (result_rows l) 1 p 0 ≡ (get_or l p (entry 0 0)).job
-  job-cell u = get_d_all 32 p (λ q. (get_or l q (entry 0 0)).job) 0 (λ h. ap (λ e. e.job) (past-entry u h))
+  job_cell : length l ≤ 32 → cell (result_rows l) 1 p 0 ≡ (get_or l p (entry 0 0)).job
+  job_cell u = get_d_all 32 p (λ q. (get_or l q (entry 0 0)).job) 0 (λ h. ap (λ e. e.job) (past_entry u h))
 
 -- they show all its entries
 shown_rows : (n : ℕ) (l : Lists.List Entry) → n ≤ 32 → Listed n l → shown_in n (get_or (result_rows l) 0 []) ≡ length l
 shown_rows n l h e = sym (last_is n _ (length l) (record {
   upto = e.0;
-  found = λ p q. rw (ne_eqb (cell (result_rows l) 0 p 0) 0 (λ z. omega (arith, z, station-cell l p (omega (arith, e.0)), e.1 p q))) refl;
-  later = λ p u _. ap (λ x. not (eqb x 0)) (station-cell l p (omega (arith, e.0))) ∙ ap (λ (x : Entry). not (eqb x.station 0))
+  found = λ p q. rw (ne_eqb (cell (result_rows l) 0 p 0) 0 (λ z. omega (arith, z, station_cell l p (omega (arith, e.0)), e.1 p q))) refl;
+  later = λ p u _. ap (λ x. not (eqb x 0)) (station_cell l p (omega (arith, e.0))) ∙ ap (λ (x : Entry). not (eqb x.station 0))
       (get_or-eq_default l (entry 0 0) u);
 }))
 
 pub result_back : (n : ℕ) (l : Lists.List Entry) → n ≤ 32 → Listed n l → result_of n (result_rows l) ≡ l
 result_back n l h e = ap (λ k. entries_in k (result_rows l)) (shown_rows n l h e)
-    ∙ tabulate_is (length l) l (entry 0 0) _ refl (λ p u. ap₂ entry (station-cell l p (omega (arith, e.0))) (job-cell l p (omega (arith, e.0))))
+    ∙ tabulate_is (length l) l (entry 0 0) _ refl (λ p u. ap₂ entry (station_cell l p (omega (arith, e.0))) (job_cell l p (omega (arith, e.0))))
 
 -- an entry in rows
 abbrev entry_at : Rows → ℕ → Entry
@@ -93,39 +93,39 @@ module _ (n : ℕ) (rows : Rows) (fits : result_fits n rows ≡ true) where
   abbrev shown : ℕ
   shown = shown_in n (get_or rows 0 [])
 
-  abbrev entriesFit : Bool
-  entriesFit = every shown (λ p. entry_fits n (cell rows 0 p 0) (cell rows 1 p 0))
+  abbrev entries_fit : Bool
+  entries_fit = every shown (λ p. entry_fits n (cell rows 0 p 0) (cell rows 1 p 0))
 
-  abbrev noneTwice : Bool
-  noneTwice = every n (λ i. leb (count shown (λ p. eqb (cell rows 0 p 0) (suc i))) 1)
+  abbrev none_twice : Bool
+  none_twice = every n (λ i. leb (count shown (λ p. eqb (cell rows 0 p 0) (suc i))) 1)
 
-  abbrev nonePast : Bool
-  nonePast = every (32 - n) (λ p. eqb (cell rows 0 (n + p) 0) 0)
+  abbrev none_past : Bool
+  none_past = every (32 - n) (λ p. eqb (cell rows 0 (n + p) 0) 0)
 
-  abbrev noJob : Bool
-  noJob = every (32 - shown) (λ p. eqb (cell rows 1 (shown + p) 0) 0)
+  abbrev no_job : Bool
+  no_job = every (32 - shown) (λ p. eqb (cell rows 1 (shown + p) 0) 0)
 
-  parts : ((entriesFit && noneTwice && nonePast) ≡ true) × (noJob ≡ true)
+  parts : ((entries_fit && none_twice && none_past) ≡ true) × (no_job ≡ true)
   unfolding result_fits
-  parts = and_both (entriesFit && noneTwice && nonePast) noJob fits
+  parts = and_both (entries_fit && none_twice && none_past) no_job fits
 
   -- the stations that they show are among the n
-  pub station-most : (p : ℕ) → p < shown → cell rows 0 p 0 ≤ n
-  station-most p l =
-      let e = (and_both entriesFit noneTwice (and_both (entriesFit && noneTwice) nonePast parts.0).0).0 in
+  pub station_most : (p : ℕ) → p < shown → cell rows 0 p 0 ≤ n
+  station_most p l =
+      let e = (and_both entries_fit none_twice (and_both (entries_fit && none_twice) none_past parts.0).0).0 in
       (within_true 1 n _ (and_both (within 1 n (cell rows 0 p 0)) (not (eqb (cell rows 1 p 0) 0)) (every_at shown _ e p l)).0).1
 
   -- past these there is nothing
-  no-station : (p : ℕ) → shown ≤ p → p < 32 → cell rows 0 p 0 ≡ 0
-  no-station p h l = by_cases (dec_lt p n)
+  no_station : (p : ℕ) → shown ≤ p → p < 32 → cell rows 0 p 0 ≡ 0
+  no_station p h l = by_cases (dec_lt p n)
       (λ u. none (cell rows 0 p 0) ((last n (λ q. not (eqb (cell rows 0 q 0) 0))).later p h u))
-      (λ u. zeros_from (λ q. cell rows 0 q 0) n (and_both (entriesFit && noneTwice) nonePast parts.0).1 p (omega arith) l)
+      (λ u. zeros_from (λ q. cell rows 0 q 0) n (and_both (entries_fit && none_twice) none_past parts.0).1 p (omega arith) l)
     where
       none : (x : ℕ) → not (eqb x 0) ≡ false → x ≡ 0
       none x e = by_cases (ℕ_discrete x 0) (λ z. z) (λ d. absurd (tf (rw (ne_eqb x 0 d) refl) e))
 
-  pub fits-blank : Blank shown rows
-  fits-blank p h l = (no-station p h l, zeros_from (λ q. cell rows 1 q 0) shown parts.1 p h l)
+  pub fits_blank : Blank shown rows
+  fits_blank p h l = (no_station p h l, zeros_from (λ q. cell rows 1 q 0) shown parts.1 p h l)
 
 pub fresh_cells : (rows : Rows) → result_fresh rows ≡ true → (p : ℕ) → p < 32 → (cell rows 0 p 0 ≡ 0) × (cell rows 1 p 0 ≡ 0)
 unfolding result_fresh
@@ -158,19 +158,19 @@ module _ (n : ℕ) (l : Lists.List Entry) (high : n ≤ 32) (e : Listed n l) (s 
   behind : (p : ℕ) → length l ≤ p → at p ≡ entry 0 0
   behind p u = get_or-eq_default l (entry 0 0) u
 
-  fits-at : (p : ℕ) → p < length l → entry_fits n (at p).station (at p).job ≡ true
-  fits-at p u = let h = named p u in both (within_of 1 n _ h.0 h.1) (rw (ne_eqb (at p).job 0 h.2) refl)
+  fits_at : (p : ℕ) → p < length l → entry_fits n (at p).station (at p).job ≡ true
+  fits_at p u = let h = named p u in both (within_of 1 n _ h.0 h.1) (rw (ne_eqb (at p).job 0 h.2) refl)
 
-  pub sound-fits : result_fits n (result_rows l) ≡ true
+  pub sound_fits : result_fits n (result_rows l) ≡ true
   unfolding result_fits
-  sound-fits = rw (shown_rows n l high e) (both (both (both
-      (every_all (length l) _ (λ p u. rw (station-cell l p small, job-cell l p small) (fits-at p u)))
+  sound_fits = rw (shown_rows n l high e) (both (both (both
+      (every_all (length l) _ (λ p u. rw (station_cell l p small, job_cell l p small) (fits_at p u)))
       (every_all n _ (λ i u. le-leb (count (length l) (λ p. eqb (cell (result_rows l) 0 p 0) (suc i))) 1 (omega (
         arith,
         count_same (length l) (λ p. eqb (cell (result_rows l) 0 p 0) (suc i)) (λ p. eqb (at p).station (suc i))
-            (λ p _. ap (λ (k : ℕ). eqb k (suc i)) (station-cell l p small)),
+            (λ p _. ap (λ (k : ℕ). eqb k (suc i)) (station_cell l p small)),
         places_passing (λ (x : Entry). eqb x.station (suc i)) (entry 0 0) (ne_eqb 0 (suc i) (λ z. omega arith)) l (length l),
         s.once i u,
       )))))
-      (every_all (32 - n) _ (λ p _. eq-eqb _ 0 (station-cell l (n + p) small ∙ ap (λ (x : Entry). x.station) (behind (n + p) (omega (arith, e.0)))))))
-      (every_all (32 - length l) _ (λ p _. eq-eqb _ 0 (job-cell l (length l + p) small ∙ ap (λ (x : Entry). x.job) (behind (length l + p) (omega arith))))))
+      (every_all (32 - n) _ (λ p _. eq-eqb _ 0 (station_cell l (n + p) small ∙ ap (λ (x : Entry). x.station) (behind (n + p) (omega (arith, e.0)))))))
+      (every_all (32 - length l) _ (λ p _. eq-eqb _ 0 (job_cell l (length l + p) small ∙ ap (λ (x : Entry). x.job) (behind (length l + p) (omega arith))))))

@@ -186,8 +186,8 @@ module _ (F : Form) (L : Lawful F) (same : F.board ≡ original) where
       subst (λ (a : TableAnswer F.Table). (a.refusal ≡ k) × (a.report ≡ r)) (sym (stepped n h.0 cs c))
       (leads n (size n h.0) F L same (λ s. let a = step original n (digits original n) s c in (a.refusal ≡ k) × (a.report ≡ r)) cs (h.1, h.2))
 
-  pub samples-hold : SamplesHold F
-  samples-hold =
+  pub samples_hold : SamplesHold F
+  samples_hold =
       each samples scope and each habit_samples habits and each service_samples service and each top_samples shared and each number_samples numbered
       and each log_samples logs and each refusal_samples refusals and each report_samples reports and tt
     where

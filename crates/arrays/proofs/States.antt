@@ -83,44 +83,44 @@ out_number_lem b h = eqb-true _ b (every_at 2 (λ k. eqb (out_number (out_for k)
 -- WHAT IS NOT LABELS and can be written down is what its arrays hold
 module _ (n : ℕ) (high : n ≤ 32) (o : Rest) (w : WritableRest original n o) where
   -- what stands in the arrays at every place, past the last too
-  job-at : (x : Bool) (i : ℕ) → cell (planes (jobs_of o)) (plane x) i 0 ≡ jobs_of o x i
-  job-at false i = get_d_all 32 i (jobs_of o false) 0 (λ l. sym (ap (λ (p : Process). p.job) (w.past i (omega arith))))
-  job-at true i = get_d_all 32 i (jobs_of o true) 0 (λ l. sym (ap (λ (p : Process). p.pending_job) (w.past i (omega arith))))
+  job_at : (x : Bool) (i : ℕ) → cell (planes (jobs_of o)) (plane x) i 0 ≡ jobs_of o x i
+  job_at false i = get_d_all 32 i (jobs_of o false) 0 (λ l. sym (ap (λ (p : Process). p.job) (w.past i (omega arith))))
+  job_at true i = get_d_all 32 i (jobs_of o true) 0 (λ l. sym (ap (λ (p : Process). p.pending_job) (w.past i (omega arith))))
 
-  phase-at : (i : ℕ) → cell (planes (control_of o)) 0 i 0 ≡ phase_number (o.process i).phase
-  phase-at i = get_d_all 32 i (λ j. phase_number (o.process j).phase) 0
+  phase_at : (i : ℕ) → cell (planes (control_of o)) 0 i 0 ≡ phase_number (o.process i).phase
+  phase_at i = get_d_all 32 i (λ j. phase_number (o.process j).phase) 0
       (λ l. sym (ap (λ (p : Process). phase_number p.phase) (w.past i (omega arith))))
 
   out_at : (i : ℕ) → cell (planes (control_of o)) 1 i 0 ≡ out_number (o.process i).out
   out_at i = get_d_all 32 i (λ j. out_number (o.process j).out) 0
       (λ l. sym (ap (λ (p : Process). out_number p.out) (w.past i (omega arith))))
 
-  rows-at : (i : ℕ) → i < 32 → get_or (results_of o) i [] ≡ result_rows (o.result i)
-  rows-at i l = get_d_tabulate 32 0 i (λ j. result_rows (o.result j)) [] l ∙ ap (λ j. result_rows (o.result j)) (zero-add i)
+  rows_at_lem : (i : ℕ) → i < 32 → get_or (results_of o) i [] ≡ result_rows (o.result i)
+  rows_at_lem i l = get_d_tabulate 32 0 i (λ j. result_rows (o.result j)) [] l ∙ ap (λ j. result_rows (o.result j)) (zero-add i)
 
-  result-at : (i : ℕ) → result_of n (get_or (results_of o) i []) ≡ o.result i
-  result-at i = by_cases (dec_lt i 32)
-      (λ l. ap (result_of n) (rows-at i l) ∙ result_back n (o.result i) high (w.listed i))
+  result_at : (i : ℕ) → result_of n (get_or (results_of o) i []) ≡ o.result i
+  result_at i = by_cases (dec_lt i 32)
+      (λ l. ap (result_of n) (rows_at_lem i l) ∙ result_back n (o.result i) high (w.listed i))
       (λ l. ap (result_of n) (get_or-eq_default (results_of o) [] (rw length_tabulate (omega arith)))
       ∙ none_held n [] (λ p _. refl) ∙ sym (w.unused i (omega arith)))
 
   rest_back : rest_in n (planes (jobs_of o)) (planes (control_of o)) (results_of o) ≡ o
   rest_back = λ y. record {
     process = λ i. record {
-      job = job-at false i y;
-      pending_job = job-at true i y;
+      job = job_at false i y;
+      pending_job = job_at true i y;
       phase =
-          (ap phase_for (phase-at i) ∙ phase_back (o.process i).phase (w.phase i)) y;
+          (ap phase_for (phase_at i) ∙ phase_back (o.process i).phase (w.phase i)) y;
       out = (ap out_for (out_at i) ∙ out_back (o.process i).out) y;
     };
-    result = λ i. result-at i y;
+    result = λ i. result_at i y;
   }
 
-  pub held-phases : {jobs control : Rows} {results : Planes} → Holds o jobs control results → (i : ℕ) → cell control 0 i 0 ≤ 4
-  held-phases h i = omega (arith, ap (λ (c : Rows). cell c 0 i 0) h.control, phase-at i, phase_low (o.process i).phase)
+  pub held_phases : {jobs control : Rows} {results : Planes} → Holds o jobs control results → (i : ℕ) → cell control 0 i 0 ≤ 4
+  held_phases h i = omega (arith, ap (λ (c : Rows). cell c 0 i 0) h.control, phase_at i, phase_low (o.process i).phase)
 
-  pub rest-held : {jobs control : Rows} {results : Planes} → Holds o jobs control results → rest_in n jobs control results ≡ o
-  rest-held h = (λ y. rest_in n (h.jobs y) (h.control y) (h.results y)) ∙ rest_back
+  pub rest_held : {jobs control : Rows} {results : Planes} → Holds o jobs control results → rest_in n jobs control results ≡ o
+  rest_held h = (λ y. rest_in n (h.jobs y) (h.control y) (h.results y)) ∙ rest_back
 
 -- A STATE THAT CAN BE WRITTEN DOWN is the state that its arrays hold
 module _ (n : ℕ) (high : n ≤ 32) (s : State Labels.Label) (w : Writable original n s) where
@@ -138,9 +138,9 @@ module _ (n : ℕ) (high : n ≤ 32) (s : State Labels.Label) (w : Writable orig
       there false l = get_or-eq_default (tabulate 32 0 (λ j. row 31 (s.labels false j))) [] (rw length_tabulate l)
       there true l = get_or-eq_default (tabulate 32 0 (λ j. row 31 (s.labels true j))) [] (rw length_tabulate l)
 
-  pub held-written : state_of (arrays_of n s) ≡ s
+  pub held_written : state_of (arrays_of n s) ≡ s
   unfolding arrays_of
-  held-written = λ y. record { labels = λ x i. label_at x i y; rest = rest_back n high s.rest w.rest y }
+  held_written = λ y. record { labels = λ x i. label_at x i y; rest = rest_back n high s.rest w.rest y }
 
 -- and well-formed if that state passes
 module _ (n : ℕ) (low : 2 ≤ n) (high : n ≤ 32) (s : State Labels.Label) (f : Fitting original n s) where
@@ -150,24 +150,24 @@ module _ (n : ℕ) (low : 2 ≤ n) (high : n ≤ 32) (s : State Labels.Label) (f
   rows_fit : (x : Bool) (i : ℕ) → i < n → row_fits 31 (n - 1) (label_row (arrays_of n s) x i) ≡ true
   rows_fit x i l = label_fits 31 (n - 1) _ (s.labels x i) (label_at n high s w x i) (f.digits x i) (f.behind x i)
 
-  rows-fresh : (x : Bool) (i : ℕ) → n ≤ i → row_fits 31 0 (label_row (arrays_of n s) x i) ≡ true
-  rows-fresh x i l = label_fits 31 0 _ (λ p. 1) (label_at n high s w x i ∙ w.blank x i l) (λ p. (omega arith, omega arith)) (λ p _. refl)
+  rows_fresh : (x : Bool) (i : ℕ) → n ≤ i → row_fits 31 0 (label_row (arrays_of n s) x i) ≡ true
+  rows_fresh x i l = label_fits 31 0 _ (λ p. 1) (label_at n high s w x i ∙ w.blank x i l) (λ p. (omega arith, omega arith)) (λ p _. refl)
 
-  control-fits : (p : Process) → Idles p → control_fits (phase_number p.phase) (out_number p.out) ≡ true
-  control-fits p h = both (both (le-leb _ 4 (phase_low p.phase)) (le-leb _ 1 (out_low p.out))) (idle p.out h)
+  control_fits_lem : (p : Process) → Idles p → control_fits (phase_number p.phase) (out_number p.out) ≡ true
+  control_fits_lem p h = both (both (le-leb _ 4 (phase_low p.phase)) (le-leb _ 1 (out_low p.out))) (idle p.out h)
     where
       idle : (x : Bool) → (x ≡ true → p.phase ≡ Idle) → eqb (out_number x) 0 || eqb (phase_number p.phase) 0 ≡ true
       idle true f = rw (f refl) refl
       idle false f = refl
 
-  pub fitting-passes : well_formed (arrays_of n s) ≡ true
+  pub fitting_passes : well_formed (arrays_of n s) ≡ true
   unfolding well_formed station_fits place_fresh arrays_of
-  fitting-passes = both (both (both (within_of 2 32 n low high)
+  fitting_passes = both (both (both (within_of 2 32 n low high)
       (every_all n _ (λ i l. both (both (both (rows_fit false i l) (rows_fit true i l))
-      (rw (rows-at n high o v i (omega arith)) (sound_fits n (o.result i) high (v.listed i) (f.sound i))))
-      (rw (phase-at n high o v i, out_at n high o v i) (control-fits (o.process i) (f.idles i))))))
+      (rw (rows_at_lem n high o v i (omega arith)) (sound_fits n (o.result i) high (v.listed i) (f.sound i))))
+      (rw (phase_at n high o v i, out_at n high o v i) (control_fits_lem (o.process i) (f.idles i))))))
       (every_all (32 - n) _ (λ i l. fresh (n + i) (omega arith) (omega arith))))
-      (ap (λ (u : State Labels.Label). no_ring (n - 1) (u.labels false)) (held-written n high s w) ∙ f.free)
+      (ap (λ (u : State Labels.Label). no_ring (n - 1) (u.labels false)) (held_written n high s w) ∙ f.free)
     where
       o : Rest
       o = s.rest
@@ -176,11 +176,11 @@ module _ (n : ℕ) (low : 2 ≤ n) (high : n ≤ 32) (s : State Labels.Label) (f
       v = w.rest
 
       fresh : (i : ℕ) → n ≤ i → i < 32 → place_fresh (arrays_of n s) i ≡ true
-      fresh i h l = let u = v.past i h in both (both (both (both (both (rows-fresh false i h) (rows-fresh true i h))
-          (eq-eqb (cell (arrays_of n s).jobs 0 i 0) 0 (job-at n high o v false i ∙ ap (λ (p : Process). p.job) u)))
-          (eq-eqb (cell (arrays_of n s).jobs 1 i 0) 0 (job-at n high o v true i ∙ ap (λ (p : Process). p.pending_job) u)))
-          (rw (rows-at n high o v i l, v.unused i (omega arith)) empty_fresh))
-          (both (eq-eqb (cell (arrays_of n s).control 0 i 0) 0 (phase-at n high o v i ∙ ap (λ (p : Process). phase_number p.phase) u))
+      fresh i h l = let u = v.past i h in both (both (both (both (both (rows_fresh false i h) (rows_fresh true i h))
+          (eq-eqb (cell (arrays_of n s).jobs 0 i 0) 0 (job_at n high o v false i ∙ ap (λ (p : Process). p.job) u)))
+          (eq-eqb (cell (arrays_of n s).jobs 1 i 0) 0 (job_at n high o v true i ∙ ap (λ (p : Process). p.pending_job) u)))
+          (rw (rows_at_lem n high o v i l, v.unused i (omega arith)) empty_fresh))
+          (both (eq-eqb (cell (arrays_of n s).control 0 i 0) 0 (phase_at n high o v i ∙ ap (λ (p : Process). phase_number p.phase) u))
           (eq-eqb (cell (arrays_of n s).control 1 i 0) 0 (out_at n high o v i ∙ ap (λ (p : Process). out_number p.out) u)))
 
 pub lent_lawful : Lawful lent
@@ -188,8 +188,8 @@ unfolding arrays_of
 lent_lawful = record {
   proper = original_proper;
   counted = λ n s. refl;
-  held = λ n z s r. held-written n z.high s r.writable;
-  passes = λ n z s r. fitting-passes n z.low z.high s (reached_fitting original_proper n z s r);
+  held = λ n z s r. held_written n z.high s r.writable;
+  passes = λ n z s r. fitting_passes n z.low z.high s (reached_fitting original_proper n z s r);
 }
 
 -- WELL-FORMED ARRAYS are those of the state that they hold
@@ -197,55 +197,55 @@ module _ (a : Arrays) (g : Shaped a) (e : well_formed a ≡ true) where
   high : a.count ≤ 32
   high = (passed a e).high
 
-  blank-at : (i : ℕ) → i < 32 → Blank (shown_in a.count (get_or (rows_at a i) 0 [])) (rows_at a i)
-  blank-at i l = by_cases (dec_lt i a.count)
+  blank_at : (i : ℕ) → i < 32 → Blank (shown_in a.count (get_or (rows_at a i) 0 [])) (rows_at a i)
+  blank_at i l = by_cases (dec_lt i a.count)
       (λ u. fits_blank a.count (rows_at a i) ((passed a e).each i u).result)
       (λ u p _ v. fresh_cells (rows_at a i) ((passed a e).rest i (omega arith) l).result p v)
 
-  phase-known : (i : ℕ) → i < 32 → cell a.control 0 i 0 ≤ 4
-  phase-known i l = by_cases (dec_lt i a.count) (λ u. ((passed a e).each i u).phase) (λ u. omega (arith, ((passed a e).rest i (omega arith) l).phase))
+  phase_known : (i : ℕ) → i < 32 → cell a.control 0 i 0 ≤ 4
+  phase_known i l = by_cases (dec_lt i a.count) (λ u. ((passed a e).each i u).phase) (λ u. omega (arith, ((passed a e).rest i (omega arith) l).phase))
 
-  out-known : (i : ℕ) → i < 32 → cell a.control 1 i 0 ≤ 1
-  out-known i l = by_cases (dec_lt i a.count) (λ u. ((passed a e).each i u).out) (λ u. omega (arith, ((passed a e).rest i (omega arith) l).out))
+  out_known : (i : ℕ) → i < 32 → cell a.control 1 i 0 ≤ 1
+  out_known i l = by_cases (dec_lt i a.count) (λ u. ((passed a e).each i u).out) (λ u. omega (arith, ((passed a e).rest i (omega arith) l).out))
 
-  pub labels-back : labels_of (state_of a).labels ≡ a.labels
-  labels-back = ap₂ (λ b c. b ∷ c ∷ []) (each 0 (omega arith)) (each 1 (omega arith)) ∙ two_lists a.labels [] g.labels.long
+  pub labels_back : labels_of (state_of a).labels ≡ a.labels
+  labels_back = ap₂ (λ b c. b ∷ c ∷ []) (each 0 (omega arith)) (each 1 (omega arith)) ∙ two_lists a.labels [] g.labels.long
     where
       each : (f : ℕ) → f < 2 → tabulate 32 0 (λ i. row 31 (digit (cell a.labels f i []))) ≡ get_or a.labels f []
       each f h = tabulate_is 32 (get_or a.labels f []) [] _ (g.labels.each f h) (λ i l. row_digit 31 _ ((g.label f h).each i l))
 
-  jobs-back : planes (jobs_of (rest_of a)) ≡ a.jobs
-  jobs-back = ap₂ (λ b c. b ∷ c ∷ [])
+  jobs_back : planes (jobs_of (rest_of a)) ≡ a.jobs
+  jobs_back = ap₂ (λ b c. b ∷ c ∷ [])
       (tabulate_is 32 (get_or a.jobs 0 []) 0 _ (g.jobs.each 0 (omega arith)) (λ i l. refl))
       (tabulate_is 32 (get_or a.jobs 1 []) 0 _ (g.jobs.each 1 (omega arith)) (λ i l. refl))
       ∙ two_lists a.jobs [] g.jobs.long
 
-  control-back : planes (control_of (rest_of a)) ≡ a.control
-  control-back = ap₂ (λ b c. b ∷ c ∷ [])
-      (tabulate_is 32 (get_or a.control 0 []) 0 _ (g.control.each 0 (omega arith)) (λ i l. number_back _ (phase-known i l)))
-      (tabulate_is 32 (get_or a.control 1 []) 0 _ (g.control.each 1 (omega arith)) (λ i l. out_number_lem _ (out-known i l)))
+  control_back : planes (control_of (rest_of a)) ≡ a.control
+  control_back = ap₂ (λ b c. b ∷ c ∷ [])
+      (tabulate_is 32 (get_or a.control 0 []) 0 _ (g.control.each 0 (omega arith)) (λ i l. number_back _ (phase_known i l)))
+      (tabulate_is 32 (get_or a.control 1 []) 0 _ (g.control.each 1 (omega arith)) (λ i l. out_number_lem _ (out_known i l)))
       ∙ two_lists a.control [] g.control.long
 
-  results-back : results_of (rest_of a) ≡ a.results
-  results-back = tabulate_is 32 a.results [] _ g.results.long (λ i l.
-      rows_back _ (rows_at a i) (omega (arith, high, (last a.count (λ p. not (eqb (cell (rows_at a i) 0 p 0) 0))).upto)) (g.result i l) (blank-at i l))
+  results_back : results_of (rest_of a) ≡ a.results
+  results_back = tabulate_is 32 a.results [] _ g.results.long (λ i l.
+      rows_back _ (rows_at a i) (omega (arith, high, (last a.count (λ p. not (eqb (cell (rows_at a i) 0 p 0) 0))).upto)) (g.result i l) (blank_at i l))
 
-  pub passed-holds : Holds (rest_of a) a.jobs a.control a.results
-  passed-holds = record { jobs = sym jobs-back; control = sym control-back; results = sym results-back }
+  pub passed_holds : Holds (rest_of a) a.jobs a.control a.results
+  passed_holds = record { jobs = sym jobs_back; control = sym control_back; results = sym results_back }
 
   pub written_held : arrays_of a.count (state_of a) ≡ a
   unfolding arrays_of
-  written_held = λ y. arrays a.count (labels-back y) (jobs-back y) (control-back y) (results-back y)
+  written_held = λ y. arrays a.count (labels_back y) (jobs_back y) (control_back y) (results_back y)
 
   -- and that state can be written down
-  pub held-writable : Writable original a.count (state_of a)
-  held-writable = record {
+  pub held_writable : Writable original a.count (state_of a)
+  held_writable = record {
     behind = λ x i p h. by_cases (dec_lt i 32)
-        (λ l. get_or-eq_default (label_row a x i) 1 (omega (arith, label-long x i l)))
-        (λ l. ap (λ (r : Lists.List ℕ). digit r p) (label-none x i (omega arith)));
+        (λ l. get_or-eq_default (label_row a x i) 1 (omega (arith, label_long x i l)))
+        (λ l. ap (λ (r : Lists.List ℕ). digit r p) (label_none x i (omega arith)));
     blank = λ x i h. by_cases (dec_lt i 32)
-        (λ l. fun_ext (λ p. fits_behind 31 0 (label_row a x i) (label-long x i l) (((passed a e).rest i h l).label x) p (omega arith)))
-        (λ l. ap digit (label-none x i (omega arith)));
+        (λ l. fun_ext (λ p. fits_behind 31 0 (label_row a x i) (label_long x i l) (((passed a e).rest i h l).label x) p (omega arith)))
+        (λ l. ap digit (label_none x i (omega arith)));
     rest = record {
       listed = λ i. entries_listed a.count (rows_at a i);
       phase = λ i. number_kept (cell a.control 0 i 0);
@@ -254,13 +254,13 @@ module _ (a : Arrays) (g : Shaped a) (e : well_formed a ≡ true) where
     };
   }
     where
-      label-long : (x : Bool) (i : ℕ) → i < 32 → length (label_row a x i) ≡ 31
-      label-long false i l = (g.label 0 (omega arith)).each i l
-      label-long true i l = (g.label 1 (omega arith)).each i l
+      label_long : (x : Bool) (i : ℕ) → i < 32 → length (label_row a x i) ≡ 31
+      label_long false i l = (g.label 0 (omega arith)).each i l
+      label_long true i l = (g.label 1 (omega arith)).each i l
 
-      label-none : (x : Bool) (i : ℕ) → 32 ≤ i → label_row a x i ≡ []
-      label-none false i l = get_or-eq_default (get_or a.labels 0 []) [] (omega (arith, g.labels.each 0 (omega arith)))
-      label-none true i l = get_or-eq_default (get_or a.labels 1 []) [] (omega (arith, g.labels.each 1 (omega arith)))
+      label_none : (x : Bool) (i : ℕ) → 32 ≤ i → label_row a x i ≡ []
+      label_none false i l = get_or-eq_default (get_or a.labels 0 []) [] (omega (arith, g.labels.each 0 (omega arith)))
+      label_none true i l = get_or-eq_default (get_or a.labels 1 []) [] (omega (arith, g.labels.each 1 (omega arith)))
 
       unused : (i : ℕ) → a.count ≤ i → i < 32 → ((rest_of a).process i ≡ fresh_rest.process i) × ((rest_of a).result i ≡ fresh_rest.result i)
       unused i h l = let f = (passed a e).rest i h l in (
@@ -283,6 +283,6 @@ module _ (a : Arrays) (g : Shaped a) (e : well_formed a ≡ true) where
       )
 
   -- so a step leaves arrays that hold the state which the machine leaves, from any well-formed table, reached or not
-  pub step-held : (c : Call) → let n = a.count in state_of (step_of lent a c).table ≡ (step original n (digits original n) (state_of a) c).state
-  step-held c = ap (λ (x : TableAnswer Arrays). state_of x.table) (step_written lent a c e)
-      ∙ held-written a.count high _ (writable_step original a.count (original_sized a.count (passed a e).low high) (state_of a) held-writable c (newest_station a e))
+  pub step_held : (c : Call) → let n = a.count in state_of (step_of lent a c).table ≡ (step original n (digits original n) (state_of a) c).state
+  step_held c = ap (λ (x : TableAnswer Arrays). state_of x.table) (step_written lent a c e)
+      ∙ held_written a.count high _ (writable_step original a.count (original_sized a.count (passed a e).low high) (state_of a) held_writable c (newest_station a e))

@@ -33,17 +33,17 @@ control_fresh phase out = eqb phase 0 && eqb out 0
 
 module _ (a : Arrays) where
   -- both labels, the result and the control bytes of one of the n stations
-  unfoldable pub stationFits : ℕ → Bool
-  stationFits i =
+  unfoldable pub station_fits : ℕ → Bool
+  station_fits i =
       row_fits 31 (a.count - 1) (label_row a false i) && row_fits 31 (a.count - 1) (label_row a true i)
       && result_fits a.count (rows_at a i) && control_fits (cell a.control 0 i 0) (cell a.control 1 i 0)
 
   -- a place past n has its fresh contents
-  unfoldable pub placeFresh : ℕ → Bool
-  placeFresh i =
+  unfoldable pub place_fresh : ℕ → Bool
+  place_fresh i =
       row_fits 31 0 (label_row a false i) && row_fits 31 0 (label_row a true i) && eqb (cell a.jobs 0 i 0) 0 && eqb (cell a.jobs 1 i 0) 0
       && result_fresh (rows_at a i) && control_fresh (cell a.control 0 i 0) (cell a.control 1 i 0)
 
-  unfoldable pub wellFormed : Bool
+  unfoldable pub well_formed : Bool
   well_formed = let n = a.count in
-      within 2 32 n && every n stationFits && every (32 - n) (λ i. placeFresh (n + i)) && no_ring (n - 1) (λ i. digit (label_row a false i))
+      within 2 32 n && every n station_fits && every (32 - n) (λ i. place_fresh (n + i)) && no_ring (n - 1) (λ i. digit (label_row a false i))

@@ -45,11 +45,11 @@ use Rattle.engine.specs.declared.Task.{Task}
 
 -- a store in one of two planes
 module _ {A : Type 0} (f g : Bool → ℕ → A) (k : ℕ) (v : A) (h : k < 32) where
-  put-current : v ≡ g false k → ((i : ℕ) → i ≢ k → f false i ≡ g false i) → ((i : ℕ) → f true i ≡ g true i) → put (planes f) 0 k v ≡ planes g
-  put-current e other same = ap₂ (λ p q. p ∷ q ∷ []) (set_tabulate 32 k v _ _ h e (λ i _ d. other i d)) (tabulate_same 32 0 _ _ (λ i _. same i))
+  put_current : v ≡ g false k → ((i : ℕ) → i ≢ k → f false i ≡ g false i) → ((i : ℕ) → f true i ≡ g true i) → put (planes f) 0 k v ≡ planes g
+  put_current e other same = ap₂ (λ p q. p ∷ q ∷ []) (set_tabulate 32 k v _ _ h e (λ i _ d. other i d)) (tabulate_same 32 0 _ _ (λ i _. same i))
 
-  put-pending : v ≡ g true k → ((i : ℕ) → i ≢ k → f true i ≡ g true i) → ((i : ℕ) → f false i ≡ g false i) → put (planes f) 1 k v ≡ planes g
-  put-pending e other same = ap₂ (λ p q. p ∷ q ∷ []) (tabulate_same 32 0 _ _ (λ i _. same i)) (set_tabulate 32 k v _ _ h e (λ i _ d. other i d))
+  put_pending : v ≡ g true k → ((i : ℕ) → i ≢ k → f true i ≡ g true i) → ((i : ℕ) → f false i ≡ g false i) → put (planes f) 1 k v ≡ planes g
+  put_pending e other same = ap₂ (λ p q. p ∷ q ∷ []) (tabulate_same 32 0 _ _ (λ i _. same i)) (set_tabulate 32 k v _ _ h e (λ i _ d. other i d))
 
 -- what the machine makes of the record of a process: its own place, and any other
 at_own : (o : Rest) (k : ℕ) (f : Process → Process) → (changed o k f).process k ≡ f (o.process k)
@@ -72,20 +72,20 @@ module _ {n : ℕ} {l : Planes} {m : Move} {k z : ℕ} (s : PreparedLabels n l m
   abbrev rows : Rows
   rows = get_or l 0 []
 
-  abbrev labelsFor : LabelStep → Planes
-  labelsFor w = labels_of (relabelled n (digits original n) labels w)
+  abbrev labels_for : LabelStep → Planes
+  labels_for w = labels_of (relabelled n (digits original n) labels w)
 
   low : k < 32
   low = omega (arith, s.inside, s.orderly.high)
 
-  pending-own : row 31 (labels true k) ≡ cell l 1 k []
-  pending-own = sym (ap (λ (p : Planes). cell p 1 k []) s.exact ∙ get_d_tabulate 32 0 k (λ i. row 31 (labels true i)) [] low
+  pending_own : row 31 (labels true k) ≡ cell l 1 k []
+  pending_own = sym (ap (λ (p : Planes). cell p 1 k []) s.exact ∙ get_d_tabulate 32 0 k (λ i. row 31 (labels true i)) [] low
       ∙ ap (λ i. row 31 (labels true i)) (zero-add k))
 
-  pending-row : pending_in n rows k (cell l 1 k []) ≡ row 31 (pending_after n (digits original n) labels k)
+  pending_row : pending_in n rows k (cell l 1 k []) ≡ row 31 (pending_after n (digits original n) labels k)
   unfolding pending_in pending_after
-  pending-row = by_here (λ b. cond b (cell l 1 k []) (row 31 new) ≡ row 31 (cond b (labels true k) new)) top k
-      (λ _. sym pending-own)
+  pending_row = by_here (λ b. cond b (cell l 1 k []) (row 31 new) ≡ row 31 (cond b (labels true k) new)) top k
+      (λ _. sym pending_own)
       (λ _. refl)
     where
       top : ℕ
@@ -94,20 +94,20 @@ module _ {n : ℕ} {l : Planes} {m : Move} {k z : ℕ} (s : PreparedLabels n l m
       new : Labels.Label
       new = new_label (n - 1) 1 (labels false) top k
 
-  pub labels-stay : (w : LabelStep) → w ≡ stay → l ≡ labelsFor w
+  pub labels_stay : (w : LabelStep) → w ≡ stay → l ≡ labels_for w
   unfolding relabelled
-  labels-stay w e = s.exact ∙ ap labelsFor (sym e)
+  labels_stay w e = s.exact ∙ ap labels_for (sym e)
 
-  pub labels-snap : {p : Lists.List ℕ} → p ≡ pending_in n rows k (cell l 1 k []) → put l 1 k p ≡ labelsFor (snap k)
+  pub labels_snap : {p : Lists.List ℕ} → p ≡ pending_in n rows k (cell l 1 k []) → put l 1 k p ≡ labels_for (snap k)
   unfolding relabelled
-  labels-snap q = ap₂ (λ x p. put x 1 k p) s.exact (q ∙ pending-row)
-      ∙ put-pending (λ y i. row 31 (labels y i)) (λ y i. row 31 (relabelled n (digits original n) labels (snap k) y i)) k _ low
+  labels_snap q = ap₂ (λ x p. put x 1 k p) s.exact (q ∙ pending_row)
+      ∙ put_pending (λ y i. row 31 (labels y i)) (λ y i. row 31 (relabelled n (digits original n) labels (snap k) y i)) k _ low
       (rw (here_yes k) refl) (λ i d. rw (ne_eqb i k d) refl) (λ i. refl)
 
-  pub labels-update : put l 0 k (cell l 1 k []) ≡ labelsFor (update k)
+  pub labels_update : put l 0 k (cell l 1 k []) ≡ labels_for (update k)
   unfolding relabelled
-  labels-update = ap₂ (λ x p. put x 0 k p) s.exact (sym pending-own)
-      ∙ put-current (λ y i. row 31 (labels y i)) (λ y i. row 31 (relabelled n (digits original n) labels (update k) y i)) k _ low
+  labels_update = ap₂ (λ x p. put x 0 k p) s.exact (sym pending_own)
+      ∙ put_current (λ y i. row 31 (labels y i)) (λ y i. row 31 (relabelled n (digits original n) labels (update k) y i)) k _ low
       (rw (here_yes k) refl) (λ i d. rw (ne_eqb i k d) refl) (λ i. refl)
 
 -- THE REST
@@ -119,52 +119,52 @@ module _ {n : ℕ} {jobs control : Rows} {results : Planes} {x : Task} {order : 
   abbrev k : ℕ
   k = x.place
 
-  place-low : k < 32
-  place-low = omega (arith, s.inside, s.high)
+  place_low : k < 32
+  place_low = omega (arith, s.inside, s.high)
 
   -- JOBS, after a change of the record of k
 
-  abbrev jobsIn : (Process → Process) → Bool → ℕ → ℕ
-  jobsIn f = jobs_of (changed o k f)
+  abbrev jobs_in : (Process → Process) → Bool → ℕ → ℕ
+  jobs_in f = jobs_of (changed o k f)
 
-  jobs-stay : (f : Process → Process) → ((p : Process) → (f p).job ≡ p.job) → ((p : Process) → (f p).pending_job ≡ p.pending_job)
-      → jobs ≡ planes (jobsIn f)
-  jobs-stay f e d = s.holds.jobs ∙ ap₂ (λ x y. x ∷ y ∷ [])
+  jobs_stay : (f : Process → Process) → ((p : Process) → (f p).job ≡ p.job) → ((p : Process) → (f p).pending_job ≡ p.pending_job)
+      → jobs ≡ planes (jobs_in f)
+  jobs_stay f e d = s.holds.jobs ∙ ap₂ (λ x y. x ∷ y ∷ [])
       (tabulate_same 32 0 _ _ (λ i _. at_all (λ (q : Process). q.job) o k f e i))
       (tabulate_same 32 0 _ _ (λ i _. at_all (λ (q : Process). q.pending_job) o k f d i))
 
-  jobs-begun : put jobs 1 k x.job ≡ planes (jobsIn (begun x.job))
-  jobs-begun = ap (λ p. put p 1 k x.job) s.holds.jobs
-      ∙ put-pending (jobs_of o) (jobsIn (begun x.job)) k x.job place-low
+  jobs_begun : put jobs 1 k x.job ≡ planes (jobs_in (begun x.job))
+  jobs_begun = ap (λ p. put p 1 k x.job) s.holds.jobs
+      ∙ put_pending (jobs_of o) (jobs_in (begun x.job)) k x.job place_low
       (sym (ap (λ (p : Process). p.pending_job) (at_own o k (begun x.job))))
       (λ i d. sym (ap (λ (p : Process). p.pending_job) (at_other o k (begun x.job) i d)))
       (at_all (λ (p : Process). p.job) o k (begun x.job) (λ p. refl))
 
-  jobs-updated : put jobs 0 k (cell jobs 1 k 0) ≡ planes (jobsIn updated)
-  jobs-updated = ap (λ p. put p 0 k (cell jobs 1 k 0)) s.holds.jobs
-      ∙ put-current (jobs_of o) (jobsIn updated) k _ place-low
+  jobs_updated : put jobs 0 k (cell jobs 1 k 0) ≡ planes (jobs_in updated)
+  jobs_updated = ap (λ p. put p 0 k (cell jobs 1 k 0)) s.holds.jobs
+      ∙ put_current (jobs_of o) (jobs_in updated) k _ place_low
       (sym (ap (λ (p : Process). p.job) (at_own o k updated)))
       (λ i d. sym (ap (λ (p : Process). p.job) (at_other o k updated i d)))
       (at_all (λ (p : Process). p.pending_job) o k updated (λ p. refl))
 
   -- CONTROL, after a change of the record of k
 
-  abbrev controlIn : (Process → Process) → Bool → ℕ → ℕ
-  controlIn f = control_of (changed o k f)
+  abbrev control_in : (Process → Process) → Bool → ℕ → ℕ
+  control_in f = control_of (changed o k f)
 
   -- one that leads to the phase with this number
-  phase-put : (f : Process → Process) (v : ℕ) → ((p : Process) → (f p).out ≡ p.out) → v ≡ phase_number (f (o.process k)).phase
-      → put control 0 k v ≡ planes (controlIn f)
-  phase-put f v same e = ap (λ c. put c 0 k v) s.holds.control
-      ∙ put-current (control_of o) (controlIn f) k v place-low
+  phase_put : (f : Process → Process) (v : ℕ) → ((p : Process) → (f p).out ≡ p.out) → v ≡ phase_number (f (o.process k)).phase
+      → put control 0 k v ≡ planes (control_in f)
+  phase_put f v same e = ap (λ c. put c 0 k v) s.holds.control
+      ∙ put_current (control_of o) (control_in f) k v place_low
       (e ∙ sym (ap (λ (p : Process). phase_number p.phase) (at_own o k f)))
       (λ i d. sym (ap (λ (p : Process). phase_number p.phase) (at_other o k f i d)))
       (at_all (λ (p : Process). out_number p.out) o k f (λ p. ap out_number (same p)))
 
   -- one of service
-  service-put : (b : Bool) (v : ℕ) → v ≡ out_number b → put control 1 k v ≡ planes (controlIn (set_out b))
-  service-put b v e = ap (λ c. put c 1 k v) s.holds.control
-      ∙ put-pending (control_of o) (controlIn (set_out b)) k v place-low
+  service_put : (b : Bool) (v : ℕ) → v ≡ out_number b → put control 1 k v ≡ planes (control_in (set_out b))
+  service_put b v e = ap (λ c. put c 1 k v) s.holds.control
+      ∙ put_pending (control_of o) (control_in (set_out b)) k v place_low
       (e ∙ sym (ap (λ (p : Process). out_number p.out) (at_own o k (set_out b))))
       (λ i d. sym (ap (λ (p : Process). out_number p.out) (at_other o k (set_out b) i d)))
       (at_all (λ (p : Process). phase_number p.phase) o k (set_out b) (λ p. refl))
@@ -178,9 +178,9 @@ module _ {n : ℕ} {jobs control : Rows} {results : Planes} {x : Task} {order : 
   abbrev scan : Lists.List Calls.Entry
   scan = scan_of o.process (take n order)
 
-  results-scanned : {q : Rows} → q ≡ scan_rows n order here → set results k q ≡ results_of (stored (changed o k (in_phase (End Scan))) (station_of original k) scan)
-  results-scanned e = ap₂ (λ r q. set r k q) s.holds.results (e ∙ ap result_rows (scan_alike here o.process (λ i. refl) (λ i. refl) (take n order)))
-      ∙ set_tabulate 32 k _ (λ i. result_rows (o.result i)) _ place-low (rw (here_yes k) refl) (λ i _ d. rw (ne_eqb i k d) refl)
+  results_scanned : {q : Rows} → q ≡ scan_rows n order here → set results k q ≡ results_of (stored (changed o k (in_phase (End Scan))) (station_of original k) scan)
+  results_scanned e = ap₂ (λ r q. set r k q) s.holds.results (e ∙ ap result_rows (scan_alike here o.process (λ i. refl) (λ i. refl) (take n order)))
+      ∙ set_tabulate 32 k _ (λ i. result_rows (o.result i)) _ place_low (rw (here_yes k) refl) (λ i _ d. rw (ne_eqb i k d) refl)
       ∙ ap (λ g. results_of (stored (changed o k (in_phase (End Scan))) g scan)) (sym (div-one k))
 
   -- THE MOVES
@@ -218,26 +218,26 @@ module _ {n : ℕ} {jobs control : Rows} {results : Planes} {x : Task} {order : 
   unfolding carry_out tabulate
   refused e d = carried e d s.holds (refl, refl, refl) refl (λ p l. absurd (omega arith))
 
-  pub begins-label : Accepts BeginLabel (put jobs 1 k x.job) (put control 0 k 1) results
+  pub begins_label : Accepts BeginLabel (put jobs 1 k x.job) (put control 0 k 1) results
   unfolding carry_out
-  begins-label = quiet refl refl refl (record { jobs = jobs-begun; control = phase-put (begun x.job) 1 (λ p. refl) refl; results = s.holds.results })
+  begins_label = quiet refl refl refl (record { jobs = jobs_begun; control = phase_put (begun x.job) 1 (λ p. refl) refl; results = s.holds.results })
 
   -- the record of k gets another phase alone
   rephased : (ph : Calls.Phase) → Holds (changed o k (in_phase ph)) jobs (put control 0 k (phase_number ph)) results
   rephased ph = let f = in_phase ph in
-      record { jobs = jobs-stay f (λ p. refl) (λ p. refl); control = phase-put f (phase_number ph) (λ p. refl) refl; results = s.holds.results }
+      record { jobs = jobs_stay f (λ p. refl) (λ p. refl); control = phase_put f (phase_number ph) (λ p. refl) refl; results = s.holds.results }
 
-  pub snaps-label : Accepts SnapLabel jobs (put control 0 k 2) results
+  pub snaps_label : Accepts SnapLabel jobs (put control 0 k 2) results
   unfolding carry_out
-  snaps-label = quiet refl refl refl (rephased Update)
+  snaps_label = quiet refl refl refl (rephased Update)
 
-  pub snaps-scan : {q : Rows} → q ≡ scan_rows n order here → Accepts SnapScan jobs (put control 0 k 4) (set results k q)
+  pub snaps_scan : {q : Rows} → q ≡ scan_rows n order here → Accepts SnapScan jobs (put control 0 k 4) (set results k q)
   unfolding carry_out
-  snaps-scan q = let f = rephased (End Scan) in quiet refl refl refl (record { jobs = f.jobs; control = f.control; results = results-scanned q })
+  snaps_scan q = let f = rephased (End Scan) in quiet refl refl refl (record { jobs = f.jobs; control = f.control; results = results_scanned q })
 
   pub updates : Accepts Moves.Update (put jobs 0 k (cell jobs 1 k 0)) (put control 0 k 3) results
   unfolding carry_out
-  updates = quiet refl refl refl (record { jobs = jobs-updated; control = phase-put updated 3 (λ p. refl) refl; results = s.holds.results })
+  updates = quiet refl refl refl (record { jobs = jobs_updated; control = phase_put updated 3 (λ p. refl) refl; results = s.holds.results })
 
   pub ends_label : Accepts EndLabel jobs (put control 0 k 0) results
   unfolding carry_out
@@ -245,20 +245,20 @@ module _ {n : ℕ} {jobs control : Rows} {results : Planes} {x : Task} {order : 
 
   -- leaving service, and returning to it
   serviced : (b : Bool) → Holds (changed o k (set_out b)) jobs (put control 1 k (out_number b)) results
-  serviced b = record { jobs = jobs-stay (set_out b) (λ p. refl) (λ p. refl); control = service-put b (out_number b) refl; results = s.holds.results }
+  serviced b = record { jobs = jobs_stay (set_out b) (λ p. refl) (λ p. refl); control = service_put b (out_number b) refl; results = s.holds.results }
 
-  pub leaves-service : Accepts LeaveService jobs (put control 1 k 1) results
+  pub leaves_service : Accepts LeaveService jobs (put control 1 k 1) results
   unfolding carry_out
-  leaves-service = quiet refl refl refl (serviced true)
+  leaves_service = quiet refl refl refl (serviced true)
 
-  pub returns-to-service : Accepts ReturnToService jobs (put control 1 k 0) results
+  pub returns_to_service : Accepts ReturnToService jobs (put control 1 k 0) results
   unfolding carry_out
-  returns-to-service = quiet refl refl refl (serviced false)
+  returns_to_service = quiet refl refl refl (serviced false)
 
-  pub ends-scan : {h : Handed} → x.action ≡ EndScan → h ≡ record { refusal = Accepted; place = k; entries = x.shown }
+  pub ends_scan : {h : Handed} → x.action ≡ EndScan → h ≡ record { refusal = Accepted; place = k; entries = x.shown }
       → CarriesRest (rest_after n jobs control results x order) x jobs (put control 0 k 0) results h
   unfolding carry_out
-  ends-scan e d = carried e d (rephased Idle) (refl, refl, refl)
+  ends_scan e d = carried e d (rephased Idle) (refl, refl, refl)
       (ap o.result (div-one k) ∙ ap (λ j. entries_in j (get_or results k [])) (sym (s.is_shown e))) (s.named e)
 
 -- BOTH, on a well-formed table
@@ -275,11 +275,11 @@ module _ {a : Arrays} {x : Task} {order : Lists.List ℕ} (s : Prepared a x orde
   abbrev count : ℕ
   count = a.count
 
-  pub labels-prepared : PreparedLabels count a.labels x.action x.place x.newest
-  labels-prepared = record { exact = sym (labels_back a g s.passed); orderly = orderly a s.passed; inside = s.inside; is_newest = s.is_newest }
+  pub labels_prepared : PreparedLabels count a.labels x.action x.place x.newest
+  labels_prepared = record { exact = sym (labels_back a g s.passed); orderly = orderly a s.passed; inside = s.inside; is_newest = s.is_newest }
 
-  pub rest-prepared : PreparedRest count a.jobs a.control a.results x order
-  rest-prepared = record {
+  pub rest_prepared : PreparedRest count a.jobs a.control a.results x order
+  rest_prepared = record {
     holds = passed_holds a g s.passed;
     high = s.high;
     inside = s.inside;
@@ -294,8 +294,8 @@ module _ {a : Arrays} {x : Task} {order : Lists.List ℕ} (s : Prepared a x orde
   }
 
   -- the order that a scan is given is that of the labels
-  same-order : x.action ≡ SnapScan → take count order ≡ ordered count (stands (digits original count) (labels_in a.labels))
-  same-order e = let b = stands (digits original count) (labels_in a.labels) in
+  same_order : x.action ≡ SnapScan → take count order ≡ ordered count (stands (digits original count) (labels_in a.labels))
+  same_order e = let b = stands (digits original count) (labels_in a.labels) in
       ap (take count) (s.is_order e) ∙ take_at (ordered count b) (replicate (32 - count) 0) count (ordered_length b count)
 
   pub carries : {l : Planes} {j c : Rows} {r : Planes} {h : Handed}
@@ -303,7 +303,7 @@ module _ {a : Arrays} {x : Task} {order : Lists.List ℕ} (s : Prepared a x orde
       → CarriesRest (rest_after count a.jobs a.control a.results x order) x j c r h → Carries a x (arrays count l j c r) h
   unfolding arrays_of
   carries {l} {j} {c} {r} {h} labelled f =
-      let t = order_unused (take count order) (ordered count (stands (digits original count) (labels_in a.labels))) (rest_of a) x.place x.job x.action same-order in
+      let t = order_unused (take count order) (ordered count (stands (digits original count) (labels_in a.labels))) (rest_of a) x.place x.job x.action same_order in
       let held = subst (λ (y : Outcome). Holds y.rest j c r) t f.holds in (
         record {
           table = λ y. arrays count (labelled x.job y) (held.jobs y) (held.control y) (held.results y);

@@ -28,10 +28,10 @@ row_none f e = replicate_tabulate 32 0 0 _ (λ p _. e)
 
 -- one entry more
 row_more : (f : Entry → ℕ) (l : Lists.List Entry) (e : Entry) (k : ℕ) → k ≡ length l → k < 32 → set (row_for f l) k (f e) ≡ row_for f (l ++ e ∷ [])
-row_more f l e k q h = set_tabulate 32 k (f e) _ _ h (ap f (sym at-end)) (λ p _ d. ap f (sym (elsewhere p d)))
+row_more f l e k q h = set_tabulate 32 k (f e) _ _ h (ap f (sym at_end)) (λ p _ d. ap f (sym (elsewhere p d)))
   where
-    at-end : get_or (l ++ e ∷ []) k (entry 0 0) ≡ e
-    at-end = get_or_at l e [] (entry 0 0) k (sym q)
+    at_end : get_or (l ++ e ∷ []) k (entry 0 0) ≡ e
+    at_end = get_or_at l e [] (entry 0 0) k (sym q)
 
     elsewhere : (p : ℕ) → p ≢ k → get_or (l ++ e ∷ []) p (entry 0 0) ≡ get_or l p (entry 0 0)
     elsewhere p d = by_cases (dec_lt p k)
@@ -51,22 +51,22 @@ module _ (order : Lists.List ℕ) (process : ℕ → Process) (p : ℕ) (h : p <
   abbrev shown : ℕ → Bool
   shown j = shows (process j)
 
-  abbrev entryFor : ℕ → Entry
-  entryFor j = entry (suc j) (process j).job
+  abbrev entry_for : ℕ → Entry
+  entry_for j = entry (suc j) (process j).job
 
-  one_more : scanned (p + 1) order process ≡ scanned p order process ++ map entryFor (passing shown (i ∷ []))
+  one_more : scanned (p + 1) order process ≡ scanned p order process ++ map entry_for (passing shown (i ∷ []))
   unfolding scan_of
-  one_more = ap (λ l. map entryFor (passing shown l)) (ap (λ k. take k order) (add-one p) ∙ take-suc order p 0 h)
-      ∙ ap (map entryFor) (passing_append shown (take p order) (i ∷ []))
-      ∙ map-append entryFor (passing shown (take p order)) (passing shown (i ∷ []))
+  one_more = ap (λ l. map entry_for (passing shown l)) (ap (λ k. take k order) (add-one p) ∙ take-suc order p 0 h)
+      ∙ ap (map entry_for) (passing_append shown (take p order) (i ∷ []))
+      ∙ map-append entry_for (passing shown (take p order)) (passing shown (i ∷ []))
 
-  with-this : shown i ≡ true → scanned (p + 1) order process ≡ scanned p order process ++ entryFor i ∷ []
+  with_this : shown i ≡ true → scanned (p + 1) order process ≡ scanned p order process ++ entry_for i ∷ []
   unfolding passing
-  with-this e = one_more ∙ ap (λ l. scanned p order process ++ map entryFor l) (passing_yes shown i [] e)
+  with_this e = one_more ∙ ap (λ l. scanned p order process ++ map entry_for l) (passing_yes shown i [] e)
 
-  without-this : shown i ≡ false → scanned (p + 1) order process ≡ scanned p order process
+  without_this : shown i ≡ false → scanned (p + 1) order process ≡ scanned p order process
   unfolding passing
-  without-this e = one_more ∙ ap (λ l. scanned p order process ++ map entryFor l) (passing_no shown i [] e) ∙ append-nil _
+  without_this e = one_more ∙ ap (λ l. scanned p order process ++ map entry_for l) (passing_no shown i [] e) ∙ append-nil _
 
 -- rows with the k entries of a scan of the first p stations of the order
 pub record Filled (order : Lists.List ℕ) (process : ℕ → Process) (p k : ℕ) (rows : Rows) : Type 0 where
@@ -84,10 +84,10 @@ module _ (order : Lists.List ℕ) (process : ℕ → Process) where
 
   -- the next station is shown, or struck out
   module _ (p k : ℕ) {rows : Rows} (f : Filled order process p k rows) (h : p < length order) where
-    pub shown-next : {k' : ℕ} {rows' : Rows} → k < 32 → shows (process (get_or order p 0)) ≡ true
+    pub shown_next : {k' : ℕ} {rows' : Rows} → k < 32 → shows (process (get_or order p 0)) ≡ true
         → rows' ≡ put (put rows 0 k (get_or order p 0 + 1)) 1 k (process (get_or order p 0)).job → k' ≡ k + 1 → Filled order process (p + 1) k' rows'
-    shown-next u d er ek =
-        let w = with-this order process p h d in
+    shown_next u d er ek =
+        let w = with_this order process p h d in
         let l = scanned p order process in
         let e = entry (suc (get_or order p 0)) (process (get_or order p 0)).job in
         record {
@@ -97,7 +97,7 @@ module _ (order : Lists.List ℕ) (process : ℕ → Process) where
               ∙ ap result_rows (sym w);
         }
 
-    pub struck-next : {k' : ℕ} {rows' : Rows} → shows (process (get_or order p 0)) ≡ false → rows' ≡ rows → k' ≡ k → Filled order process (p + 1) k' rows'
-    struck-next z er ek =
-        let w = sym (without-this order process p h z) in
+    pub struck_next : {k' : ℕ} {rows' : Rows} → shows (process (get_or order p 0)) ≡ false → rows' ≡ rows → k' ≡ k → Filled order process (p + 1) k' rows'
+    struck_next z er ek =
+        let w = sym (without_this order process p h z) in
         record { count = ek ∙ f.count ∙ ap length w; held = er ∙ f.held ∙ ap result_rows w }

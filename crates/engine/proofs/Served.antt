@@ -127,39 +127,39 @@ module _ (n : ℕ) (low : 2 ≤ n) (jobs control : Rows) (results : Planes) (kno
   pub place_inside : x.place < n
   place_inside = omega (arith, j.place, place_below n q.station low)
 
-  phase-low : number ≤ 4
-  phase-low = known x.place place_inside
+  phase_low : number ≤ 4
+  phase_low = known x.place place_inside
 
   -- the entries of the result there
-  abbrev shownHere : ℕ
-  shownHere = shown_in n (cell results x.place 0 [])
+  abbrev shown_here : ℕ
+  shown_here = shown_in n (cell results x.place 0 [])
 
-  pub judged-few : n ≤ 32 → hands_out x.shown x.action ≤ 32
-  judged-few high = shown_few x.shown (omega (arith, j.shown, due_few number n (cell results x.place 0 []) high)) x.action
+  pub judged_few : n ≤ 32 → hands_out x.shown x.action ≤ 32
+  judged_few high = shown_few x.shown (omega (arith, j.shown, due_few number n (cell results x.place 0 []) high)) x.action
 
-  shown-all : x.action ≡ EndScan → x.shown ≡ shownHere
-  shown-all e = j.shown ∙ ap (λ b. due b shownHere) (sym (number_back number phase-low)
+  shown_all : x.action ≡ EndScan → x.shown ≡ shown_here
+  shown_all e = j.shown ∙ ap (λ b. due b shown_here) (sym (number_back number phase_low)
       ∙ ap phase_number (scan_ends (verdict original n (standing_for ph out x.shown) call) (sym j.action ∙ ap (move_of x.place q.job) e)))
 
-  job-fits : x.action ≡ BeginLabel → x.job ≤ 4294967295
-  job-fits e = subst (λ k. k ≤ 4294967295) (sym j.job) (begun_job n (standing_for ph out x.shown) call x.place x.action j.action e)
+  job_fits_lem : x.action ≡ BeginLabel → x.job ≤ 4294967295
+  job_fits_lem e = subst (λ k. k ≤ 4294967295) (sym j.job) (begun_job n (standing_for ph out x.shown) call x.place x.action j.action e)
 
   -- what carrying out asks for of what is not labels
-  pub rest-ready : (order : Lists.List ℕ) → Holds (rest_in n jobs control results) jobs control results → n ≤ 32
-      → (n ≤ length order) × ((p : ℕ) → p < n → get_or order p 0 < 32) → Named shownHere (get_or results x.place []) → PreparedRest n jobs control results x order
-  rest-ready order h high listed named = record {
+  pub rest_ready : (order : Lists.List ℕ) → Holds (rest_in n jobs control results) jobs control results → n ≤ 32
+      → (n ≤ length order) × ((p : ℕ) → p < n → get_or order p 0 < 32) → Named shown_here (get_or results x.place []) → PreparedRest n jobs control results x order
+  rest_ready order h high listed named = record {
     holds = h;
     high = high;
     inside = place_inside;
-    job_fits = job-fits;
+    job_fits = job_fits_lem;
     listed = λ e. listed;
-    is_shown = shown-all;
-    named = λ e. subst (λ k. Named k (get_or results x.place [])) (sym (shown-all e)) named;
+    is_shown = shown_all;
+    named = λ e. subst (λ k. Named k (get_or results x.place [])) (sym (shown_all e)) named;
   }
 
   -- the move is the one that the machine judges
-  pub rest-judged : action_of x ≡ judge original n (rest_in n jobs control results) call
-  rest-judged = ap (λ v. move_of x.place v x.action) j.job ∙ j.action ∙ go (within 1 n q.station) refl
+  pub rest_judged : action_of x ≡ judge original n (rest_in n jobs control results) call
+  rest_judged = ap (λ v. move_of x.place v x.action) j.job ∙ j.action ∙ go (within 1 n q.station) refl
     where
       o : Calls.Rest
       o = rest_in n jobs control results
@@ -177,8 +177,8 @@ module _ (n : ℕ) (low : 2 ≤ n) (jobs control : Rows) (results : Planes) (kno
       }
 
       go : (b : Bool) → within 1 n q.station ≡ b → judge_in original n (standing_for ph out x.shown) call ≡ judge original n o call
-      go true e = ap (λ k. judge_in original n (standing_for ph out k) call) j.shown ∙ due_same n shownHere out number call phase-low
-          ∙ ap (λ k. judge_in original n (standing_for ph out k) call) (sym (length_tabulate shownHere 0 _)) ∙ ap at (j.place ∙ rw e refl)
+      go true e = ap (λ k. judge_in original n (standing_for ph out k) call) j.shown ∙ due_same n shown_here out number call phase_low
+          ∙ ap (λ k. judge_in original n (standing_for ph out k) call) (sym (length_tabulate shown_here 0 _)) ∙ ap at (j.place ∙ rw e refl)
           ∙ ap (λ t. judge_in original n t call) (own (place call))
       go false e = let s = judge_unknown_station original n call e in s.1 _ ∙ sym (s.1 _)
 
@@ -207,15 +207,15 @@ module _ (a : Arrays) (ok : well_formed a ≡ true) (q : Request) (room : Room) 
     passed = ok;
     high = (passed a ok).high;
     inside = omega (arith, k, inside);
-    job_fits = λ e. omega (arith, v, job-fits a.count (passed a ok).low a.jobs a.control a.results known q room top x j (sym m ∙ e));
+    job_fits = λ e. omega (arith, v, job_fits_lem a.count (passed a ok).low a.jobs a.control a.results known q room top x j (sym m ∙ e));
     is_newest = w;
     is_order = o;
-    is_shown = λ e. d ∙ shown-all a.count (passed a ok).low a.jobs a.control a.results known q room top x j (sym m ∙ e)
+    is_shown = λ e. d ∙ shown_all a.count (passed a ok).low a.jobs a.control a.results known q room top x j (sym m ∙ e)
         ∙ ap (λ i. shown_in a.count (cell a.results i 0 [])) (sym k);
   }
 
   pub judged : action_of x ≡ judge original a.count (rest_of a) c
-  judged = rest-judged a.count (passed a ok).low a.jobs a.control a.results known q room top x j
+  judged = rest_judged a.count (passed a ok).low a.jobs a.control a.results known q room top x j
 
   -- so carrying it out is the step call
   pub served : {a' : Arrays} {r : Handed} → Carries a x a' r → Hands a c a' r
@@ -229,7 +229,7 @@ module _ (a : Arrays) (ok : well_formed a ≡ true) (q : Request) (room : Room) 
         number = p.number ∙ ap (λ (u : TableAnswer Arrays). u.refusal) s;
         place = p.place ∙ j.place ∙ rw ok refl;
         inside = omega (arith, p.place, inside, (passed a ok).high);
-        few = omega (arith, f.1, judged-few n (passed a ok).low a.jobs a.control a.results known q room top x j (passed a ok).high);
+        few = omega (arith, f.1, judged_few n (passed a ok).low a.jobs a.control a.results known q room top x j (passed a ok).high);
         named = subst (λ k. Named r.entries (get_or a'.results k [])) (sym p.place) f.2;
         room = ap (holds room) f.1 ∙ has_room n (passed a ok).low a.jobs a.control a.results known q room top x j;
         report = sym (ap (λ (u : TableAnswer Arrays). u.report) s) ∙ ap (written q.line room)
@@ -266,28 +266,28 @@ module _ {a a' : Arrays} {c : Call} {r : Handed} (h : Hands a c a' r) where
   pub bytes_fit : (b : ℕ) → c.room ≡ Calls.Buffer b → r.entries * 29 ≤ b
   bytes_fit b e = leb-true (r.entries * 29) b (ap (λ x. holds x r.entries) (sym e) ∙ h.room)
 
-  pub steps-bytes : Shaped a → {buffer buffer' : Lists.List ℕ} {k : ℕ} → c.room ≡ Calls.Buffer (length buffer) → k ≡ r.entries * 29
+  pub steps_bytes : Shaped a → {buffer buffer' : Lists.List ℕ} {k : ℕ} → c.room ≡ Calls.Buffer (length buffer) → k ≡ r.entries * 29
       → buffer' ≡ over (report_lines c.line 1 entries) buffer
       → Steps lent a c (Calls.Bytes buffer) a' (refusal_number r.refusal) k (Calls.Bytes buffer')
-  steps-bytes g {buffer} e w f =
+  steps_bytes g {buffer} e w f =
       let s : (step_of lent a c).report ≡ Calls.Bytes (report_lines c.line 1 entries) = h.report ∙ ap (λ x. written c.line x entries) e in
       steps_of lent (written_held a g) h.table h.number
       (w ∙ sym (result_length c.line r.entries (get_or a'.results r.place [])) ∙ sym (ap size s))
       (ap Calls.Bytes f ∙ sym (ap (λ x. onto x (Calls.Bytes buffer)) s))
 
   -- to a panel
-  steps-records : Shaped a → {panel panel' : Lists.List PanelRecord} → c.room ≡ Calls.Panel (length panel)
+  steps_records : Shaped a → {panel panel' : Lists.List PanelRecord} → c.room ≡ Calls.Panel (length panel)
       → panel' ≡ over (panel_records 1 entries) panel → Steps lent a c (Calls.Records panel) a' (refusal_number r.refusal) r.entries (Calls.Records panel')
-  steps-records g {panel} e f =
+  steps_records g {panel} e f =
       let s : (step_of lent a c).report ≡ Calls.Records (panel_records 1 entries) = h.report ∙ ap (λ x. written c.line x entries) e in
       steps_of lent (written_held a g) h.table h.number (sym (records_length 1 entries ∙ length_tabulate r.entries 0 _) ∙ sym (ap size s))
       (ap Calls.Records f ∙ sym (ap (λ x. onto x (Calls.Records panel)) s))
 
   -- whose records are rows of three numbers
-  pub steps-rows : Shaped a → (panel panel' : Rows) → c.room ≡ Calls.Panel (length panel) → panel' ≡ over (map row_of (panel_records 1 entries)) panel
+  pub steps_rows : Shaped a → (panel panel' : Rows) → c.room ≡ Calls.Panel (length panel) → panel' ≡ over (map row_of (panel_records 1 entries)) panel
       → Steps lent a c (Calls.Records (map record_of panel)) a' (refusal_number r.refusal) r.entries (Calls.Records (map record_of panel'))
-  steps-rows g panel panel' e f =
-      steps-records g (e ∙ ap Calls.Panel (sym (length-map panel record_of))) (ap (map record_of) f ∙ records_read (panel_records 1 entries) panel)
+  steps_rows g panel panel' e f =
+      steps_records g (e ∙ ap Calls.Panel (sym (length-map panel record_of))) (ap (map record_of) f ∙ records_read (panel_records 1 entries) panel)
 
 -- A DIRECT CALL, on tables of any form
 pub steps_directly : (F : Form) {t t' : F.Table} {r r' : Report} {number k : ℕ} (code station job : ℕ) (room : Room) (q : Request)

@@ -44,24 +44,24 @@ Starts chunk at = at ≡ min (18 * read_lines at) (length chunk)
 
 -- the line that starts there
 module _ (chunk : Lists.List ℕ) {at : ℕ} (h : at < length chunk) {l : Lists.List ℕ} (p : l ≡ line_at chunk at) where
-  line-length : length l ≡ min 18 (length chunk - at)
-  line-length = ap length p ∙ length-take 18 (drop at chunk) ∙ ap (min 18) (length-drop at chunk)
+  line_length : length l ≡ min 18 (length chunk - at)
+  line_length = ap length p ∙ length-take 18 (drop at chunk) ∙ ap (min 18) (length-drop at chunk)
 
-  pub line-within : (at + length l ≤ length chunk) × (0 < length l)
-  line-within = (omega (arith, line-length), omega (arith, line-length))
+  pub line_within : (at + length l ≤ length chunk) × (0 < length l)
+  line_within = (omega (arith, line_length), omega (arith, line_length))
 
   module _ (w : Starts chunk at) where
-    line-next : read_lines (at + length l) ≡ read_lines at + 1
-    line-next = omega (arith, line-length, w)
+    line_next : read_lines (at + length l) ≡ read_lines at + 1
+    line_next = omega (arith, line_length, w)
 
-    line-starts : Starts chunk (at + length l)
-    line-starts = omega (arith, line-length, w)
+    line_starts : Starts chunk (at + length l)
+    line_starts = omega (arith, line_length, w)
 
-    line-cut : cut (read_lines (at + length l)) chunk ≡ cut (read_lines at) chunk ++ (l ∷ [])
+    line_cut : cut (read_lines (at + length l)) chunk ≡ cut (read_lines at) chunk ++ (l ∷ [])
     unfolding cut
-    line-cut =
+    line_cut =
         let e : 18 * read_lines at ≡ at = omega (arith, w) in
-        ap (λ k. cut k chunk) line-next ∙ cut_add (read_lines at) 1 chunk ∙ ap (λ k. cut (read_lines at) chunk ++ (take 18 (drop k chunk) ∷ [])) e
+        ap (λ k. cut k chunk) line_next ∙ cut_add (read_lines at) 1 chunk ∙ ap (λ k. cut (read_lines at) chunk ++ (take 18 (drop k chunk) ∷ [])) e
         ∙ ap (λ x. cut (read_lines at) chunk ++ (x ∷ [])) (sym p)
 
 -- THE LOOP
@@ -102,81 +102,81 @@ module _ {s : Session Arrays} {chunk out₀ : Lists.List ℕ} {a : Arrays} {line
   pub as_long : length out ≡ length out₀
   as_long = rw f.area (length_over f.bytes out₀ (omega (arith, f.long, f.room)))
 
-  pub place-within : at ≤ length chunk
-  place-within = omega (arith, f.whole)
+  pub place_within : at ≤ length chunk
+  place_within = omega (arith, f.whole)
 
   -- all lines are served, or there is no room for another
-  pub sofar-end : (length chunk ≤ at) ⊎ (length out - written < 928)
+  pub sofar_end : (length chunk ≤ at) ⊎ (length out - written < 928)
       → Reports s chunk a (record { lines = lines; refusal = Accepted; read = at; written = written }) out₀ out
-  sofar-end h = record {
+  sofar_end h = record {
     whole = f.whole;
     bytes = f.bytes;
     runs = f.runs;
     written = f.long;
     report = f.area;
     goes = f.goes;
-    stops = inr (⊎_elim (λ x. inl (omega (arith, place-within))) (λ x. inr (omega (arith, as_long, f.room))) h);
+    stops = inr (⊎_elim (λ x. inl (omega (arith, place_within))) (λ x. inr (omega (arith, as_long, f.room))) h);
     short = f.short;
     counted = λ _. (f.counted, f.low);
   }
 
   module _ (h : at < length chunk) (free : 928 ≤ length out - written) where
-    pub room-here : written + 928 ≤ length out
-    room-here = omega (arith, as_long, f.room)
+    pub room_here : written + 928 ≤ length out
+    room_here = omega (arith, as_long, f.room)
 
     module _ (ok : well_formed a ≡ true) (l : Lists.List ℕ) (p : l ≡ line_at chunk at) (k : ℕ) (e : k ≡ 928) where
       -- what is put in behind the bytes so far
       put : (x : Lists.List ℕ) → length x ≤ 928 → put_mid written k out (over x (mid_of written k out)) ≡ over (f.bytes ++ x) out₀
-      put x short = rw (f.area, e, f.long) (put_over f.bytes x out₀ 928 short (omega (arith, f.long, as_long, room-here)))
+      put x short = rw (f.area, e, f.long) (put_over f.bytes x out₀ 928 short (omega (arith, f.long, as_long, room_here)))
 
       -- one line more
       runs_on : (o : Served Arrays) → run_lines (tables lent) (session lines Accepted a) (l ∷ []) ≡ o
           → run_lines (tables lent) s (cut (read_lines (at + length l)) chunk) ≡ behind f.bytes o
       runs_on o q =
-          ap (run_lines (tables lent) s) (line-cut chunk h p f.whole)
+          ap (run_lines (tables lent) s) (line_cut chunk h p f.whole)
           ∙ run_append (tables lent) (cut (read_lines at) chunk) (l ∷ []) s
           ∙ ap (λ x. behind x.bytes (run_lines (tables lent) x.session (l ∷ []))) f.runs
           ∙ ap (behind f.bytes) q
 
       goes_on : (j : ℕ) → j < read_lines (at + length l) → Goes s chunk (length out₀) j
       goes_on j b = by_cases (dec_lt j (read_lines at)) (f.goes j)
-          (λ n. let q : j ≡ read_lines at = omega (arith, b, n, line-next chunk h p f.whole) in
-          rw (q, f.runs) (refl, omega (arith, f.long, as_long, room-here)))
+          (λ n. let q : j ≡ read_lines at = omega (arith, b, n, line_next chunk h p f.whole) in
+          rw (q, f.runs) (refl, omega (arith, f.long, as_long, room_here)))
 
       -- a line that is refused for good
-      pub sofar-stop : (r : Refusal) {n : ℕ} {x : Lists.List ℕ} → RefusedAt lines chunk at r → let told = printed (lines + 1) (refusal_number r) [] in
+      pub sofar_stop : (r : Refusal) {n : ℕ} {x : Lists.List ℕ} → RefusedAt lines chunk at r → let told = printed (lines + 1) (refusal_number r) [] in
           n ≡ length told → x ≡ over told (mid_of written k out)
           → Reports s chunk a (record { lines = lines; refusal = r; read = at + length l; written = written + n }) out₀ (put_mid written k out x)
-      sofar-stop r g b c =
+      sofar_stop r g b c =
           let q = ap (next_line lines) p ∙ g.said in
           let told = printed (lines + 1) (refusal_number r) [] in
           let low : length told ≤ 29 = printed_refusal (lines + 1) (refusal_number r) in
           record {
-            whole = line-starts chunk h p f.whole;
+            whole = line_starts chunk h p f.whole;
             bytes = f.bytes ++ told;
             runs = runs_on _ (run_refused (tables lent) (session lines Accepted a) l refl ok r q);
             written = omega (arith, b, f.long, length-append f.bytes told);
             report = rw c (put told (omega (arith, low)));
             goes = goes_on;
             stops = inl (next_refused lines l r q);
-            short = omega (arith, b, low, f.short, line-next chunk h p f.whole);
+            short = omega (arith, b, low, f.short, line_next chunk h p f.whole);
             counted = λ z. absurd (next_refused lines l r q z);
           }
 
       -- a line that is served
-      pub sofar-more : {q : Request} → StepAt lines chunk at q → {a' : Arrays} {n : ℕ} {x : Lists.List ℕ}
+      pub sofar_more : {q : Request} → StepAt lines chunk at q → {a' : Arrays} {n : ℕ} {x : Lists.List ℕ}
           → Prints a (call_of q (Buffer 928)) (mid_of written k out) a' n x → length x ≡ length (mid_of written k out)
           → Sofar s chunk out₀ a' (lines + 1) (written + n) (at + 18) (put_mid written k out x)
-      sofar-more {q} z {a'} {n} {x} g y =
-          let full : length l ≡ 18 = omega (arith, line-length chunk h p, z.within) in
+      sofar_more {q} z {a'} {n} {x} g y =
+          let full : length l ≡ 18 = omega (arith, line_length chunk h p, z.within) in
           let b = shown_of (tables lent) a (call_of q (Buffer 928)) in
-          let mid : length (mid_of written k out) ≡ 928 = length-take-le k (drop written out) (rw length-drop (omega (arith, e, room-here))) ∙ e in
+          let mid : length (mid_of written k out) ≡ 928 = length-take-le k (drop written out) (rw length-drop (omega (arith, e, room_here))) ∙ e in
           let few : length b ≤ 928 = omega (arith, over_short b (mid_of written k out) x g.report y, mid) in
           let made : Sofar s chunk out₀ a' (lines + 1) (written + n) (at + length l) (put_mid written k out x) = record {
-            whole = line-starts chunk h p f.whole;
-            room = omega (arith, g.count, few, as_long, room-here);
-            short = omega (arith, g.count, few, f.short, line-next chunk h p f.whole);
-            counted = omega (arith, f.counted, line-next chunk h p f.whole);
+            whole = line_starts chunk h p f.whole;
+            room = omega (arith, g.count, few, as_long, room_here);
+            short = omega (arith, g.count, few, f.short, line_next chunk h p f.whole);
+            counted = omega (arith, f.counted, line_next chunk h p f.whole);
             low = λ _. omega (arith, z.few);
             bytes = f.bytes ++ b;
             long = omega (arith, g.count, f.long, length-append f.bytes b);

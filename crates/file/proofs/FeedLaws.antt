@@ -85,32 +85,32 @@ module _ {run : Run} {a : Arrays} {last : Bool} {part : Lists.List ℕ} {r : Fed
   abbrev s' : Session Arrays
   s' = run_session r.run a'
 
-  pub feeds-within : r.read ≤ length part
-  feeds-within = omega (arith, f.read)
+  pub feeds_within : r.read ≤ length part
+  feeds_within = omega (arith, f.read)
 
-  pub feeds-inside : r.written ≤ length buffer'
-  feeds-inside = omega (arith, f.written, ap length f.report ∙ length-append f.bytes (drop (length f.bytes) buffer))
+  pub feeds_inside : r.written ≤ length buffer'
+  feeds_inside = omega (arith, f.written, ap length f.report ∙ length-append f.bytes (drop (length f.bytes) buffer))
 
-  pub feeds-shown : take r.written buffer' ≡ f.bytes
-  feeds-shown = rw (f.report, f.written) (take_at f.bytes (drop (length f.bytes) buffer) (length f.bytes) refl)
+  pub feeds_shown : take r.written buffer' ≡ f.bytes
+  feeds_shown = rw (f.report, f.written) (take_at f.bytes (drop (length f.bytes) buffer) (length f.bytes) refl)
 
   -- another could be served
-  pub feeds-more : r.more ≡ true → (refusal_number r.run.refusal ≡ 0) × (f.served < ready s last part)
-  feeds-more m =
+  pub feeds_more : r.more ≡ true → (refusal_number r.run.refusal ≡ 0) × (f.served < ready s last part)
+  feeds_more m =
       let b = and_both (eqb (refusal_number r.run.refusal) 0) (ltb f.served (ready s last part)) (sym f.more ∙ m) in
       (eqb-true _ 0 b.0, ltb-true f.served (ready s last part) b.1)
 
   -- none could be, and none is refused for good
-  feeds-all : r.more ≡ false → refusal_number r.run.refusal ≡ 0 → f.served ≡ ready s last part
-  feeds-all m z =
+  feeds_all : r.more ≡ false → refusal_number r.run.refusal ≡ 0 → f.served ≡ ready s last part
+  feeds_all m z =
       let none : ltb f.served (ready s last part) ≡ false = sym (ap (λ b. b && ltb f.served (ready s last part)) (eq-eqb _ 0 z)) ∙ sym f.more ∙ m in
       omega (arith, f.most, ltb-false f.served (ready s last part) none)
 
   -- whole lines were then, and with room for one there is one
-  pub feeds-on : r.more ≡ true → 928 ≤ length buffer → (0 < r.read) × (r.read ≡ 18 * f.served) × (r.run.lines ≡ run.lines + f.served)
-  feeds-on m room =
-      let l = go last (awaits s) (feeds-more m).1 in
-      (omega (arith, f.read, l, f.stops m, f.short, room), omega (arith, f.read, l), f.counted (feeds-more m).0)
+  pub feeds_on : r.more ≡ true → 928 ≤ length buffer → (0 < r.read) × (r.read ≡ 18 * f.served) × (r.run.lines ≡ run.lines + f.served)
+  feeds_on m room =
+      let l = go last (awaits s) (feeds_more m).1 in
+      (omega (arith, f.read, l, f.stops m, f.short, room), omega (arith, f.read, l), f.counted (feeds_more m).0)
     where
       go : (b w : Bool) → f.served < ready_in w b part → 18 * f.served ≤ length part
       go true true l = omega (arith, length-drop 18 part)
@@ -118,28 +118,28 @@ module _ {run : Run} {a : Arrays} {last : Bool} {part : Lists.List ℕ} {r : Fed
       go false w l = omega arith
 
   -- of a part that is not the last, less than a line is left where no other could be served
-  pub feeds-left : r.more ≡ false → last ≡ false → refusal_number r.run.refusal ≡ 0
+  pub feeds_left : r.more ≡ false → last ≡ false → refusal_number r.run.refusal ≡ 0
       → (length part < r.read + 18) × (r.read ≡ 18 * f.served) × (r.run.lines ≡ run.lines + f.served)
-  feeds-left m e z =
-      let all : f.served ≡ length part / 18 = feeds-all m z ∙ ap (λ b. ready s b part) e in
+  feeds_left m e z =
+      let all : f.served ≡ length part / 18 = feeds_all m z ∙ ap (λ b. ready s b part) e in
       (omega (arith, f.read, all), omega (arith, f.read, all), f.counted z)
 
   -- nothing is served: all stays
-  none-served : f.served ≡ 0 → (s' ≡ s) × (f.bytes ≡ []) × (r.read ≡ 0)
+  none_served : f.served ≡ 0 → (s' ≡ s) × (f.bytes ≡ []) × (r.read ≡ 0)
   unfolding cut
-  none-served z =
+  none_served z =
       let e = sym f.runs ∙ ap (λ k. run_from s (cut k part)) z in
       (ap (λ (o : Served Arrays). o.session) e, ap (λ (o : Served Arrays). o.bytes) e, omega (arith, f.read, z))
 
   -- behind a line no header is awaited
-  opened-then : f.served ≢ 0 → awaits s' ≡ false
-  opened-then d = by_cases (ℕ_discrete (refusal_number r.run.refusal) 0)
+  opened_then : f.served ≢ 0 → awaits s' ≡ false
+  opened_then d = by_cases (ℕ_discrete (refusal_number r.run.refusal) 0)
       (λ z. lines_opened s' (λ e. d (omega (arith, f.counted z, e))))
       (λ n. refused_opened s' n)
 
   -- whole lines were served, or all bytes of the last part
-  served-whole : (18 * f.served ≤ length part) ⊎ ((last ≡ true) × (f.served ≡ ready s true part))
-  served-whole = go last refl f.most
+  served_whole : (18 * f.served ≤ length part) ⊎ ((last ≡ true) × (f.served ≡ ready s true part))
+  served_whole = go last refl f.most
     where
       go : (b : Bool) → last ≡ b → f.served ≤ ready s b part → (18 * f.served ≤ length part) ⊎ ((last ≡ true) × (f.served ≡ ready s true part))
       go false e m = inl (omega arith)
@@ -151,11 +151,11 @@ module _ {run : Run} {a : Arrays} {last : Bool} {part : Lists.List ℕ} {r : Fed
           by false q m l = rw q (omega arith)
 
   -- THE LAW OF A PART: what it prints, and behind that what comes of the bytes left, is what comes of all bytes, whatever comes behind the part
-  pub feeds-rest : (more : Lists.List ℕ) → (last ≡ true → more ≡ []) → ahead s (part ++ more) ≡ behind f.bytes (ahead s' (drop r.read part ++ more))
+  pub feeds_rest : (more : Lists.List ℕ) → (last ≡ true → more ≡ []) → ahead s (part ++ more) ≡ behind f.bytes (ahead s' (drop r.read part ++ more))
   unfolding cut
-  feeds-rest more over = by_cases (ℕ_discrete f.served 0)
-      (λ z. let n = none-served z in rw (n.0, n.1, n.2) refl)
-      (λ d. on d (⊎_elim (whole d) (λ h. by_cases (dec_lt (length part) (18 * f.served)) (all d h) (λ n. whole d (omega arith))) served-whole))
+  feeds_rest more over = by_cases (ℕ_discrete f.served 0)
+      (λ z. let n = none_served z in rw (n.0, n.1, n.2) refl)
+      (λ d. on d (⊎_elim (whole d) (λ h. by_cases (dec_lt (length part) (18 * f.served)) (all d h) (λ n. whole d (omega arith))) served_whole))
     where
       rest : Lists.List ℕ
       rest = drop r.read part ++ more
@@ -177,8 +177,8 @@ module _ {run : Run} {a : Arrays} {last : Bool} {part : Lists.List ℕ} {r : Fed
         where
           count : length (part ++ more) ≡ 18 * f.served + length rest → (w : Bool) → awaits s ≡ w
               → ready s true (part ++ more) ≡ f.served + ready s' true rest
-          count long true q = rw (q, opened-then d) (omega (arith, long, length-drop 18 (part ++ more), d))
-          count long false q = rw (q, opened-then d) (omega (arith, long))
+          count long true q = rw (q, opened_then d) (omega (arith, long, length-drop 18 (part ++ more), d))
+          count long false q = rw (q, opened_then d) (omega (arith, long))
 
       all : f.served ≢ 0 → (last ≡ true) × (f.served ≡ ready s true part) → length part < 18 * f.served → Split
       all d h l =
@@ -187,7 +187,7 @@ module _ {run : Run} {a : Arrays} {last : Bool} {part : Lists.List ℕ} {r : Fed
           ∙ ap (λ k. cut k part) (sym h.1) ∙ sym (ap (λ m. cut f.served part ++ cut (ready s' true m) m) z ∙ none)
         where
           none : cut f.served part ++ cut (ready s' true []) [] ≡ cut f.served part
-          none = rw (opened-then d) (append-nil (cut f.served part))
+          none = rw (opened_then d) (append-nil (cut f.served part))
 
       on : f.served ≢ 0 → Split → ahead s (part ++ more) ≡ behind f.bytes (ahead s' rest)
       on d e = ap (run_from s) e ∙ go f.served d f.runs
@@ -196,28 +196,28 @@ module _ {run : Run} {a : Arrays} {last : Bool} {part : Lists.List ℕ} {r : Fed
               → run_from s (cut k part ++ cut (ready s' true rest) rest) ≡ behind f.bytes (ahead s' rest)
           go zero n q = absurd (n refl)
           go (suc k) n q = run_from_append (take 18 part) (cut k (drop 18 part)) (cut (ready s' true rest) rest) s
-              (ap (λ (o : Served Arrays). awaits o.session) q ∙ opened-then d)
+              (ap (λ (o : Served Arrays). awaits o.session) q ∙ opened_then d)
               ∙ ap (λ (o : Served Arrays). behind o.bytes (run_from o.session (cut (ready s' true rest) rest))) q
 
   -- nothing more can be served: all of the last part was, or a line was refused for good
-  pub feeds-done : (more : Lists.List ℕ) → (last ≡ true → more ≡ []) → r.more ≡ false → (last ≡ true) ⊎ (refusal_number r.run.refusal ≢ 0)
+  pub feeds_done : (more : Lists.List ℕ) → (last ≡ true → more ≡ []) → r.more ≡ false → (last ≡ true) ⊎ (refusal_number r.run.refusal ≢ 0)
       → ahead s' (drop r.read part ++ more) ≡ unmoved s'
   unfolding cut
-  feeds-done more over m = ⊎_elim
+  feeds_done more over m = ⊎_elim
       (λ e. by_cases (ℕ_discrete (refusal_number r.run.refusal) 0) (ended e) (λ d. ahead_none s' d (drop r.read part ++ more)))
       (λ d. ahead_none s' d (drop r.read part ++ more))
     where
       -- the header is one of the lines of the last part
       opened : f.served ≡ ready s true part → awaits s' ≡ false
-      opened all = by_cases (ℕ_discrete f.served 0) (λ n. go (awaits s) refl n all) opened-then
+      opened all = by_cases (ℕ_discrete f.served 0) (λ n. go (awaits s) refl n all) opened_then
         where
           go : (w : Bool) → awaits s ≡ w → f.served ≡ 0 → f.served ≡ cond w (suc (pieces (drop 18 part))) (pieces part) → awaits s' ≡ false
           go true q n all = absurd (omega (arith, all))
-          go false q n all = ap awaits (none-served n).0 ∙ q
+          go false q n all = ap awaits (none_served n).0 ∙ q
 
       ended : last ≡ true → refusal_number r.run.refusal ≡ 0 → ahead s' (drop r.read part ++ more) ≡ unmoved s'
       ended e z =
-          let whole = feeds-all m z ∙ ap (λ b. ready s b part) e in
+          let whole = feeds_all m z ∙ ap (λ b. ready s b part) e in
           let z : drop r.read part ++ more ≡ [] = (λ i. drop_of_length-le part {i = r.read} (long (awaits s) whole) i ++ over e i) in
           ap (ahead s') z ∙ rw (opened whole) refl
         where
@@ -226,10 +226,10 @@ module _ {run : Run} {a : Arrays} {last : Bool} {part : Lists.List ℕ} {r : Fed
           long false h = omega (arith, f.read, h)
 
   -- no more lines can be served
-  feeds-most : (k : ℕ) → k ≤ ready s last part
+  feeds_most : (k : ℕ) → k ≤ ready s last part
       → ((j : ℕ) → j < k → let o = run_from s (cut j part) in (o.refusal ≡ 0) × (length o.bytes + 928 ≤ length buffer))
       → k ≤ f.served
-  feeds-most k b g = by_cases (dec_lt f.served k)
+  feeds_most k b g = by_cases (dec_lt f.served k)
       (λ l. absurd (go l (subst (λ (o : Served Arrays). (o.refusal ≡ 0) × (length o.bytes + 928 ≤ length buffer)) f.runs (g _ l))))
       (λ n. omega (arith, n))
     where
@@ -243,8 +243,8 @@ pub feeds_one : {run : Run} {a : Arrays} {last : Bool} {part : Lists.List ℕ} {
     → Feeds run a last part r a₁ buffer b → Feeds run a last part r' a₂ buffer b'
     → (run_session r.run a₁ ≡ run_session r'.run a₂) × (r.read ≡ r'.read) × (r.written ≡ r'.written) × (r.more ≡ r'.more) × (b ≡ b')
 feeds_one {run} {a} {last} {part} {r} {r'} {a₁} {a₂} {buffer} f g =
-    let few : f.served ≤ g.served = feeds-most g f.served f.most f.goes in
-    let many : g.served ≤ f.served = feeds-most f g.served g.most g.goes in
+    let few : f.served ≤ g.served = feeds_most g f.served f.most f.goes in
+    let many : g.served ≤ f.served = feeds_most f g.served g.most g.goes in
     let same : f.served ≡ g.served = omega (arith, few, many) in
     let e = sym f.runs ∙ ap (λ k. run_from (run_session run a) (cut k part)) same ∙ g.runs in (
       ap (λ o. o.session) e,
@@ -261,15 +261,15 @@ fed_runs : (xs : Lists.List Feeding) (run : Run) (a : Arrays) (rest : Lists.List
 fed_runs [] run a rest final f e = absurd e
 fed_runs (x ∷ []) run a rest final f e =
     let g = f.2 in
-    let q = ap (ahead (run_session run a)) f.0 ∙ feeds-rest g x.behind f.1 ∙ ap (behind g.bytes) (feeds-done g x.behind f.1 e.1 e.2) in (
-      ap (λ (o : Served Arrays). o.bytes) q ∙ ap (λ b. b ++ []) (sym (feeds-shown g)),
+    let q = ap (ahead (run_session run a)) f.0 ∙ feeds_rest g x.behind f.1 ∙ ap (behind g.bytes) (feeds_done g x.behind f.1 e.1 e.2) in (
+      ap (λ (o : Served Arrays). o.bytes) q ∙ ap (λ b. b ++ []) (sym (feeds_shown g)),
       ap (λ (o : Served Arrays). o.refusal) q ∙ ap (λ (u : Run). refusal_number u.refusal) e.0,
     )
 fed_runs (x ∷ (y ∷ xs)) run a rest final f e =
     let g = f.2 in
-    let q = ap (ahead (run_session run a)) f.0 ∙ feeds-rest g x.behind f.1 in
+    let q = ap (ahead (run_session run a)) f.0 ∙ feeds_rest g x.behind f.1 in
     let left = fed_runs (y ∷ xs) x.fed.run x.table (drop x.fed.read x.part ++ x.behind) final f.3 e in (
-      ap (λ (o : Served Arrays). o.bytes) q ∙ (λ i. sym (feeds-shown g) i ++ left.0 i),
+      ap (λ (o : Served Arrays). o.bytes) q ∙ (λ i. sym (feeds_shown g) i ++ left.0 i),
       ap (λ (o : Served Arrays). o.refusal) q ∙ left.1,
     )
 

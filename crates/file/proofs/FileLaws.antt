@@ -96,11 +96,11 @@ module _ {file out₀ : Lists.List ℕ} {run : Run} {a : Arrays} {long at : ℕ}
   g : Feeds run a true (drop at file) r a' buffer buffer'
   g = rw p at fed
 
-  pub part-within : at + r.read ≤ length file
-  part-within = omega (arith, f.within, feeds_within g, length-drop at file)
+  pub part_within : at + r.read ≤ length file
+  part_within = omega (arith, f.within, feeds_within g, length-drop at file)
 
-  pub part-few : run.lines ≤ 1000001 → length buffer' ≡ 4096 → long + length (take r.written buffer') ≤ 1000000000
-  part-few h e = omega (arith, e, f.few, length-take r.written buffer')
+  pub part_few : run.lines ≤ 1000001 → length buffer' ≡ 4096 → long + length (take r.written buffer') ≤ 1000000000
+  part_few h e = omega (arith, e, f.few, length-take r.written buffer')
 
   on : file_run (tables lent) file ≡ behind (f.bytes ++ g.bytes) (ahead (run_session r.run a') (drop r.read (drop at file) ++ []))
   on = f.runs ∙ ap (λ x. behind f.bytes (ahead (run_session run a) x)) (sym (append-nil (drop at file)))
@@ -112,19 +112,19 @@ module _ {file out₀ : Lists.List ℕ} {run : Run} {a : Arrays} {long at : ℕ}
     total : w ≡ length (f.bytes ++ g.bytes)
     total = let n : w ≡ long + length g.bytes = (rw (feeds_shown g) at put).0 in omega (arith, n, f.counted, length-append f.bytes g.bytes)
 
-    put-in : w ≤ length out₀ → out' ≡ over (f.bytes ++ g.bytes) out₀
-    put-in l = (rw (feeds_shown g) at put).1 (omega (arith, f.same))
+    put_in_lem : w ≤ length out₀ → out' ≡ over (f.bytes ++ g.bytes) out₀
+    put_in_lem l = (rw (feeds_shown g) at put).1 (omega (arith, f.same))
         ∙ put_behind f.bytes g.bytes out₀ (f.area (omega (arith, put.0))) f.counted
 
     -- all lines are served, or one is refused for good
-    pub gathered-end : r.more ≡ false → RunsFile file (record { refusal = r.run.refusal; length = w }) out₀ out'
-    gathered-end m =
+    pub gathered_end : r.more ≡ false → RunsFile file (record { refusal = r.run.refusal; length = w }) out₀ out'
+    gathered_end m =
         let e = on ∙ ap (behind (f.bytes ++ g.bytes)) (feeds_done g [] (λ _. refl) m (inl refl)) in
         let b : f.bytes ++ g.bytes ≡ file_report (tables lent) file = sym (append-nil (f.bytes ++ g.bytes)) ∙ sym (ap (λ (x : Served Arrays). x.bytes) e) in
         record {
           refusal = sym (ap (λ (x : Served Arrays). x.refusal) e);
           long = total ∙ ap length b;
-          report = λ l. put-in l ∙ ap (λ (x : Lists.List ℕ). over x out₀) b;
+          report = λ l. put_in_lem l ∙ ap (λ (x : Lists.List ℕ). over x out₀) b;
           short = omega (
             arith,
             put.0,
@@ -145,19 +145,19 @@ module _ {file out₀ : Lists.List ℕ} {run : Run} {a : Arrays} {long at : ℕ}
       step : (0 < r.read) × (r.read ≡ 18 * g.served) × (r.run.lines ≡ run.lines + g.served)
       step = feeds_on g m (omega (arith, room))
 
-      pub part-less : length file - (at + r.read) < length file - at
-      part-less = omega (arith, part-within, step)
+      pub part_less : length file - (at + r.read) < length file - at
+      part_less = omega (arith, part_within, step)
 
-      pub gathered-more : Gathered file out₀ r.run a' w (at + r.read) out'
-      gathered-more = record {
-        within = part-within;
+      pub gathered_more : Gathered file out₀ r.run a' w (at + r.read) out'
+      gathered_more = record {
+        within = part_within;
         going = (feeds_more g m).0;
         placed = omega (arith, f.placed, step);
         few = omega (arith, put.0, ap length (feeds_shown g), g.written, g.short, f.few, step);
         bytes = f.bytes ++ g.bytes;
         counted = total;
         same = q ∙ f.same;
-        area = put-in;
+        area = put_in_lem;
         runs = on ∙ ap (λ x. behind (f.bytes ++ g.bytes) (ahead (run_session r.run a') x)) (append-nil _ ∙ drop-drop r.read at file);
       }
 
@@ -165,8 +165,8 @@ module _ {file out₀ : Lists.List ℕ} {run : Run} {a : Arrays} {long at : ℕ}
 
 module _ {bs : Lists.List ℕ} {r : Ending} {buffer buffer' : Lists.List ℕ} (f : RunsFile bs r buffer buffer') where
   -- it fits, and is written
-  pub file-fits : r.length ≤ length buffer → ReportsFile bs buffer 0 (refusal_number r.refusal) r.length r.length buffer'
-  file-fits h = record {
+  pub file_fits : r.length ≤ length buffer → ReportsFile bs buffer 0 (refusal_number r.refusal) r.length r.length buffer'
+  file_fits h = record {
     number = rw fit refl;
     final = f.refusal;
     count = rw fit f.long;
@@ -178,8 +178,8 @@ module _ {bs : Lists.List ℕ} {r : Ending} {buffer buffer' : Lists.List ℕ} (f
       fit = le-leb (length (file_report (tables lent) bs)) (length buffer) (omega (arith, f.long))
 
   -- it does not fit, whatever it was written to
-  pub file-short : (out : Lists.List ℕ) → length out < r.length → ReportsFile bs out 7 (refusal_number r.refusal) 0 r.length out
-  file-short out h = record { number = rw none refl; final = f.refusal; count = rw none refl; long = f.long; report = rw none refl }
+  pub file_short : (out : Lists.List ℕ) → length out < r.length → ReportsFile bs out 7 (refusal_number r.refusal) 0 r.length out
+  file_short out h = record { number = rw none refl; final = f.refusal; count = rw none refl; long = f.long; report = rw none refl }
     where
       none : leb (length (file_report (tables lent) bs)) (length out) ≡ false
       none = lt-leb (length (file_report (tables lent) bs)) (length out) (omega (arith, f.long))

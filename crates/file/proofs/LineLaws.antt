@@ -71,76 +71,76 @@ module _ {a : Arrays} {order : Lists.List ℕ} (f : Runnable a order) where
   size : Sized original n
   size = original_sized n f.low f.high
 
-  pub run-reached : ReachedTable lent n a
-  run-reached = subst (ReachedTable lent n) (sym f.reached)
+  pub run_reached : ReachedTable lent n a
+  run_reached = subst (ReachedTable lent n) (sym f.reached)
       (table_after lent lent_lawful n size f.calls (fresh_table lent n) (table_fresh lent lent_lawful n size))
 
-  pub run-passes : well_formed a ≡ true
-  run-passes = table_passes lent lent_lawful n size a run-reached
+  pub run_passes : well_formed a ≡ true
+  run_passes = table_passes lent lent_lawful n size a run_reached
 
   -- the table holds a reached state, and a step call leaves the one that the machine does
-  held : state_of a ≡ run-reached.state
-  held = ap state_of run-reached.holds ∙ reached_held lent lent_lawful n size run-reached.reached
+  held : state_of a ≡ run_reached.state
+  held = ap state_of run_reached.holds ∙ reached_held lent lent_lawful n size run_reached.reached
 
-  pub next-state : (c : Call) → state_of (step_of lent a c).table ≡ (step original n (digits original n) (state_of a) c).state
-  next-state c =
-      let r = run-reached in
+  pub next_state : (c : Call) → state_of (step_of lent a c).table ≡ (step original n (digits original n) (state_of a) c).state
+  next_state c =
+      let r = run_reached in
       ap (λ t. state_of (step_of lent t c).table) r.holds
       ∙ ap (λ (u : TableAnswer Arrays). state_of u.table) (reached_written lent lent_lawful n size r.reached c)
       ∙ reached_held lent lent_lawful n size (reached_next lent lent_lawful n size r.reached c)
       ∙ ap (λ (s : State Labels.Label). (step original n (digits original n) s c).state) (sym held)
 
-  pub run-orderly : Orderly n (get_or a.labels 0 [])
-  run-orderly = orderly a run-passes
+  pub run_orderly : Orderly n (get_or a.labels 0 [])
+  run_orderly = orderly a run_passes
 
   -- the order lists the newest station last
-  pub run-newest : get_or order (n - 1) 0 ≡ newest n (stands_in n (get_or a.labels 0 []))
-  run-newest = last_newest n _ order (orderly_total n _ run-orderly) (omega (arith, f.low)) (order_front 32 _ n order f.is_order)
+  pub run_newest : get_or order (n - 1) 0 ≡ newest n (stands_in n (get_or a.labels 0 []))
+  run_newest = last_newest n _ order (orderly_total n _ run_orderly) (omega (arith, f.low)) (order_front 32 _ n order f.is_order)
 
   module _ {q : Request} {x : Task} (j : Judges n a.control a.results q (Buffer 928) (get_or order (n - 1) 0) x) where
     abbrev c : Call
     c = call_of q (Buffer 928)
 
-    pub line-place : x.place < n
-    line-place = Served.inside a run-passes q (Buffer 928) _ x j
+    pub line_place : x.place < n
+    line_place = Served.inside a run_passes q (Buffer 928) _ x j
 
-    pub line-ready : Prepared a x order
-    line-ready = ready a run-passes q (Buffer 928) _ x j order refl refl refl refl (λ _. j.newest ∙ run-newest) (λ _. f.is_order)
+    pub line_ready : Prepared a x order
+    line_ready = ready a run_passes q (Buffer 928) _ x j order refl refl refl refl (λ _. j.newest ∙ run_newest) (λ _. f.is_order)
 
     module _ {a' : Arrays} {h : Handed} (g : Carries a x a' h) where
       hands : Hands a c a' h
-      hands = served a run-passes q (Buffer 928) _ x j g
+      hands = served a run_passes q (Buffer 928) _ x j g
 
-      line-reached : ReachedTable lent n a'
-      line-reached = subst (ReachedTable lent n) (sym hands.table) (table_step lent lent_lawful n size a run-reached c)
+      line_reached : ReachedTable lent n a'
+      line_reached = subst (ReachedTable lent n) (sym hands.table) (table_step lent lent_lawful n size a run_reached c)
 
       same_count : a'.count ≡ n
-      same_count = table_count lent lent_lawful n size a' line-reached
+      same_count = table_count lent lent_lawful n size a' line_reached
 
       -- the labels left are those that the machine leaves
-      line-labels : (state_of a').labels false ≡ relabelled n (digits original n) (state_of a).labels (label_step (action_of x)) false
+      line_labels : (state_of a').labels false ≡ relabelled n (digits original n) (state_of a).labels (label_step (action_of x)) false
       unfolding step
-      line-labels = ap (λ (s : State Labels.Label). s.labels false) (ap state_of hands.table ∙ next-state c)
-          ∙ ap (λ w. relabelled n (digits original n) (state_of a).labels (label_step w) false) (sym (judged a run-passes q (Buffer 928) _ x j))
+      line_labels = ap (λ (s : State Labels.Label). s.labels false) (ap state_of hands.table ∙ next_state c)
+          ∙ ap (λ w. relabelled n (digits original n) (state_of a).labels (label_step w) false) (sym (judged a run_passes q (Buffer 928) _ x j))
 
-      pub line-orderly : Orderly a'.count (get_or a'.labels 0 [])
-      line-orderly = orderly a' (table_passes lent lent_lawful n size a' line-reached)
+      pub line_orderly : Orderly a'.count (get_or a'.labels 0 [])
+      line_orderly = orderly a' (table_passes lent lent_lawful n size a' line_reached)
 
       pub line_before : OrderedBefore a'.count (get_or a'.labels 0 []) x.place order
       line_before = rw same_count (record {
         old = get_or a.labels 0 [];
-        orderly = run-orderly;
-        others = λ i _ d. sym (ap (λ l. l i) line-labels
+        orderly = run_orderly;
+        others = λ i _ d. sym (ap (λ l. l i) line_labels
             ∙ labels_kept n (digits original n) (state_of a).labels (action_of x) i (untouched x.place x.job i d x.action) false);
         listed = f.is_order;
       })
 
       pub line_kept : x.action ≢ Update → order ≡ order_of a'.count (get_or a'.labels 0 [])
       line_kept d = rw same_count
-          (f.is_order ∙ ap (order_by n) (sym (line-labels ∙ labels_same n x.place x.job (state_of a).labels x.action d)))
+          (f.is_order ∙ ap (order_by n) (sym (line_labels ∙ labels_same n x.place x.job (state_of a).labels x.action d)))
 
-      pub line-runnable : {order' : Lists.List ℕ} → order' ≡ order_of a'.count (get_or a'.labels 0 []) → Runnable a' order'
-      line-runnable e = record {
+      pub line_runnable : {order' : Lists.List ℕ} → order' ≡ order_of a'.count (get_or a'.labels 0 []) → Runnable a' order'
+      line_runnable e = record {
         low = omega (arith, same_count, f.low);
         high = omega (arith, same_count, f.high);
         calls = f.calls ++ (c ∷ []);
@@ -149,19 +149,19 @@ module _ {a : Arrays} {order : Lists.List ℕ} (f : Runnable a order) where
         is_order = e;
       }
 
-      pub line-turned : Turns a c a'
+      pub line_turned : Turns a c a'
           (record { action = x.action; newest = get_or order (n - 1) 0; handed = h })
-      line-turned = record {
+      line_turned = record {
         hands = hands;
-        action = (λ i. move_of (g.0.place i) (sym j.job i) x.action) ∙ judged a run-passes q (Buffer 928) _ x j;
-        newest = run-newest;
+        action = (λ i. move_of (g.0.place i) (sym j.job i) x.action) ∙ judged a run_passes q (Buffer 928) _ x j;
+        newest = run_newest;
       }
 
   -- A TURN: what it hands out
   module _ {c : Call} {a' : Arrays} {t : Turn} (g : Turns a c a' t) where
     -- there is room for the report lines of the entries handed out
-    pub turn-fits : c.room ≡ Buffer 928 → (t.handed.entries ≤ 32) × (t.handed.entries * 29 ≤ 928)
-    turn-fits e = (g.hands.few, bytes_fit g.hands 928 e)
+    pub turn_fits : c.room ≡ Buffer 928 → (t.handed.entries ≤ 32) × (t.handed.entries * 29 ≤ 928)
+    turn_fits e = (g.hands.few, bytes_fit g.hands 928 e)
 
     abbrev lines : Lists.List ℕ
     lines = report_lines c.line 1 (entries_in t.handed.entries (get_or a'.results t.handed.place []))
@@ -177,13 +177,13 @@ module _ {a : Arrays} {order : Lists.List ℕ} (f : Runnable a order) where
         ∙ ap (λ r. bytes_of (written c.line r [])) e
       where
         same : arrays_of n (state_of a) ≡ a
-        same = ap (arrays_of n) held ∙ sym run-reached.holds
+        same = ap (arrays_of n) held ∙ sym run_reached.holds
 
     -- what the line prints: its report, or one line with its refusal
-    pub turn-prints : c.room ≡ Buffer 928 → {k w : ℕ} {buffer buffer' buffer'' : Lists.List ℕ}
+    pub turn_prints : c.room ≡ Buffer 928 → {k w : ℕ} {buffer buffer' buffer'' : Lists.List ℕ}
         → let refusal = printed c.line (refusal_number t.handed.refusal) [] in
         w ≡ t.handed.entries * 29 → buffer' ≡ over lines buffer → k ≡ length refusal → buffer'' ≡ over refusal buffer' → Prints a c buffer a' (w + k) buffer''
-    turn-prints room {buffer = buffer} {buffer'} w r e b = by_cases (ℕ_discrete (refusal_number t.handed.refusal) 0)
+    turn_prints room {buffer = buffer} {buffer'} w r e b = by_cases (ℕ_discrete (refusal_number t.handed.refusal) 0)
         (λ z.
         let y : (step_of lent a c).refusal ≡ 0 = sym g.hands.number ∙ z in
         let empty = printed_accepted c.line (refusal_number t.handed.refusal) buffer' z in
@@ -207,18 +207,18 @@ module _ {a : Arrays} {order : Lists.List ℕ} (f : Runnable a order) where
 
 -- the fresh table is one
 module _ (n : ℕ) (low : 2 ≤ n) (high : n ≤ 32) {a : Arrays} (e : a ≡ fresh_table lent n) where
-  fresh-count : a.count ≡ n
-  fresh-count = ap (λ (t : Arrays). t.count) e ∙ lent_lawful.counted n _
+  fresh_count : a.count ≡ n
+  fresh_count = ap (λ (t : Arrays). t.count) e ∙ lent_lawful.counted n _
 
-  pub fresh-orderly : Orderly a.count (get_or a.labels 0 [])
-  fresh-orderly = orderly a (ap well_formed e ∙ table_passes lent lent_lawful n (original_sized n low high) (fresh_table lent n) (table_fresh lent lent_lawful n (original_sized n low high)))
+  pub fresh_orderly : Orderly a.count (get_or a.labels 0 [])
+  fresh_orderly = orderly a (ap well_formed e ∙ table_passes lent lent_lawful n (original_sized n low high) (fresh_table lent n) (table_fresh lent lent_lawful n (original_sized n low high)))
 
-  pub fresh-runnable : {order : Lists.List ℕ} → order ≡ order_of a.count (get_or a.labels 0 []) → Runnable a order
+  pub fresh_runnable : {order : Lists.List ℕ} → order ≡ order_of a.count (get_or a.labels 0 []) → Runnable a order
   unfolding after
-  fresh-runnable o = record {
-    low = omega (arith, fresh-count, low);
-    high = omega (arith, fresh-count, high);
+  fresh_runnable o = record {
+    low = omega (arith, fresh_count, low);
+    high = omega (arith, fresh_count, high);
     calls = [];
-    reached = e ∙ ap (fresh_table lent) (sym fresh-count);
+    reached = e ∙ ap (fresh_table lent) (sym fresh_count);
     is_order = o;
   }

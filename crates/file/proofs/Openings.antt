@@ -79,17 +79,17 @@ module _ (run : Run) (a : Arrays) (last : Bool) (part : Lists.List ℕ) (going :
   pub waiting : awaits (run_session run a) ≡ true
   waiting = rw (eq-eqb _ 0 going, eq-eqb _ 0 first) refl
 
-  pub some-ready : (ltb (length part) 18 && not last) ≡ false → 0 < ready (run_session run a) last part
-  some-ready = go last
+  pub some_ready : (ltb (length part) 18 && not last) ≡ false → 0 < ready (run_session run a) last part
+  some_ready = go last
     where
       go : (b : Bool) → (ltb (length part) 18 && not b) ≡ false → 0 < ready (run_session run a) b part
       go true t = rw waiting (omega arith)
       go false t = omega (arith, ltb-false (length part) 18 (sym (and-true (ltb (length part) 18)) ∙ t))
 
-  pub opened-header : {l : Lists.List ℕ} {n : ℕ} {a₁ : Arrays} → l ≡ take 18 part → header_read original l ≡ Stations n → a₁ ≡ fresh_table lent n
+  pub opened_header : {l : Lists.List ℕ} {n : ℕ} {a₁ : Arrays} → l ≡ take 18 part → header_read original l ≡ Stations n → a₁ ≡ fresh_table lent n
       → Opened run a part 1 18 a₁
   unfolding cut
-  opened-header {l} {n} {a₁} q h fresh = record {
+  opened_header {l} {n} {a₁} q h fresh = record {
     going = going;
     header = 1;
     waits = inr (refl, waiting);
@@ -111,9 +111,9 @@ module _ (run : Run) (a : Arrays) (last : Bool) (part buffer : Lists.List ℕ) w
   abbrev kept : Fed
   kept = record { run = run; read = 0; written = 0; more = false }
 
-  pub feeds-none : (eqb (refusal_number run.refusal) 0 && ltb 0 (ready (run_session run a) last part)) ≡ false → Feeds run a last part kept a buffer buffer
+  pub feeds_none : (eqb (refusal_number run.refusal) 0 && ltb 0 (ready (run_session run a) last part)) ≡ false → Feeds run a last part kept a buffer buffer
   unfolding cut
-  feeds-none e = record {
+  feeds_none e = record {
     served = 0;
     most = omega arith;
     read = omega arith;
@@ -131,12 +131,12 @@ module _ (run : Run) (a : Arrays) (last : Bool) (part buffer : Lists.List ℕ) w
   -- a header that is refused
   module _ (wait : awaits (run_session run a) ≡ true) (some : 0 < ready (run_session run a) last part) (room : 928 ≤ length buffer)
       (fresh : awaits (run_session run a) ≡ true → a ≡ fresh_table lent 2) where
-    pub feeds-refused : {x : Refusal} {l : Lists.List ℕ} {w : ℕ} {buffer' : Lists.List ℕ} → header_read original (take 18 part) ≡ Headers.Refused x → l ≡ take 18 part
+    pub feeds_refused : {x : Refusal} {l : Lists.List ℕ} {w : ℕ} {buffer' : Lists.List ℕ} → header_read original (take 18 part) ≡ Headers.Refused x → l ≡ take 18 part
         → let told = printed 1 (refusal_number x) [] in w ≡ length told → buffer' ≡ over told buffer
         → Feeds run a last part (record { run = record { lines = 0; count = run.count; refusal = x }; read = length l; written = w; more = false }) a
         buffer buffer'
     unfolding cut run_lines
-    feeds-refused {x} h e p q =
+    feeds_refused {x} h e p q =
         let told = printed 1 (refusal_number x) [] in
         let d = header_refused original (take 18 part) x h in
         record {
@@ -168,8 +168,8 @@ module _ {run : Run} {a : Arrays} {part : Lists.List ℕ} {lines at : ℕ} {a₁
   abbrev h : ℕ
   h = f.header
 
-  pub lines-within : (at ≤ end) × (end ≤ length part)
-  lines-within = (go last isEnd, end_within last (length part) isEnd)
+  pub lines_within : (at ≤ end) × (end ≤ length part)
+  lines_within = (go last isEnd, end_within last (length part) isEnd)
     where
       go : (b : Bool) → end ≡ cond b (length part) (18 * (length part / 18)) → at ≤ end
       go true q = omega (arith, f.within)
@@ -197,10 +197,10 @@ module _ {run : Run} {a : Arrays} {part : Lists.List ℕ} {lines at : ℕ} {a₁
         go false q = inr (length part / 18, q)
 
     long : length chunk ≡ end - at
-    long = ap length e ∙ length-take (end - at) (drop at part) ∙ omega (arith, length-drop at part, lines-within)
+    long = ap length e ∙ length-take (end - at) (drop at part) ∙ omega (arith, length-drop at part, lines_within)
 
-    pub read-within : at + p.read ≤ end
-    read-within = omega (arith, g.whole, long, lines-within)
+    pub read_within : at + p.read ≤ end
+    read_within = omega (arith, g.whole, long, lines_within)
 
     -- the first lines are those of the part
     lines_same : (j : ℕ) → j ≤ k → cut j (drop at part) ≡ cut j chunk
@@ -220,14 +220,14 @@ module _ {run : Run} {a : Arrays} {part : Lists.List ℕ} {lines at : ℕ} {a₁
     more_same = by_cases (dec_lt (at + p.read) end)
         (λ l. lt-ltb _ _ l ∙ sym (lt-ltb (h + k) (ready (run_session run a) last part) (omega (arith, due, g.whole, long))))
         (λ l. le-ltb (at + p.read) end (omega (arith, l))
-        ∙ sym (le-ltb (h + k) (ready (run_session run a) last part) (omega (arith, due, l, lines-within))))
+        ∙ sym (le-ltb (h + k) (ready (run_session run a) last part) (omega (arith, due, l, lines_within))))
 
-    pub feeds-lines : (n : ℕ) → 928 ≤ length buffer → Feeds run a last part (fed_of n at p end) a' buffer buffer'
+    pub feeds_lines : (n : ℕ) → 928 ≤ length buffer → Feeds run a last part (fed_of n at p end) a' buffer buffer'
     unfolding cut
-    feeds-lines n room = record {
+    feeds_lines n room = record {
       served = h + k;
       most = omega (arith, due, g.whole, long);
-      read = ⊎_elim (λ q. omega (arith, g.whole, long, q, f.place, lines-within)) (λ q. omega (arith, g.whole, long, q.1, f.place, lines-within)) ends;
+      read = ⊎_elim (λ q. omega (arith, g.whole, long, q, f.place, lines_within)) (λ q. omega (arith, g.whole, long, q.1, f.place, lines_within)) ends;
       bytes = g.bytes;
       runs = f.runs k ∙ ap (run_lines (tables lent) (session lines Accepted a₁)) (lines_same k (omega arith)) ∙ g.runs;
       written = g.written;
@@ -257,8 +257,8 @@ module _ {run : Run} {a : Arrays} {part : Lists.List ℕ} {lines at : ℕ} {a₁
             (⊎_elim (λ q. absurd (omega (arith, q, long, ltb-true (at + p.read) end t.1))) (λ l. l)) g.stops
 
     -- and the run that is left
-    pub underway-lines : (n : ℕ) {order : Lists.List ℕ} → Runnable a' order → Underway (record { lines = p.lines; count = n; refusal = p.refusal }) a' order
-    underway-lines n x = record {
+    pub underway_lines : (n : ℕ) {order : Lists.List ℕ} → Runnable a' order → Underway (record { lines = p.lines; count = n; refusal = p.refusal }) a' order
+    underway_lines n x = record {
       runnable = x;
       few = λ z. (g.counted z).1 f.few.1;
       fresh = λ w. absurd (true≢false (sym w ∙ opened));

@@ -50,8 +50,8 @@ ending_on lines part more (inr none) =
 
 module _ {lines : ℕ} (w : Within (Lines lines)) (part : Lists.List ℕ) {s : Survey} (f : Surveys lines part s) where
   -- a part with a final refusal
-  pub part-refused : refusal_number s.refusal ≢ 0 → ReadsPart (Lines lines) part (Refused s.refusal)
-  part-refused d = record { same = same; within = tt; fewer = omega arith }
+  pub part_refused : refusal_number s.refusal ≢ 0 → ReadsPart (Lines lines) part (Refused s.refusal)
+  part_refused d = record { same = same; within = tt; fewer = omega arith }
     where
       same : (more : Lists.List ℕ) → Cut part more → ahead_read (Lines lines) (part ++ more) ≡ s.refusal
       same more h =
@@ -68,16 +68,16 @@ module _ {lines : ℕ} (w : Within (Lines lines)) (part : Lists.List ℕ) {s : S
     counted : (s.steps ≡ pieces part) × (lines + pieces part ≤ 1000001)
     counted = let u = all_lines part lines w.1 none in (f.steps ∙ u.0, u.1)
 
-    pub part-counted : lines + s.steps ≤ 1000001
-    part-counted = omega (arith, counted)
+    pub part_counted : lines + s.steps ≤ 1000001
+    part_counted = omega (arith, counted)
 
     -- the lines of both are those of the part and those of the rest
-    pieces-on : (more : Lists.List ℕ) → Cut part more → pieces (part ++ more) ≡ pieces part + pieces more
-    pieces-on more (inl (k, e)) = rw (length-append part more) (omega arith)
-    pieces-on more (inr e) = rw (e, append-nil part) (omega arith)
+    pieces_on : (more : Lists.List ℕ) → Cut part more → pieces (part ++ more) ≡ pieces part + pieces more
+    pieces_on more (inl (k, e)) = rw (length-append part more) (omega arith)
+    pieces_on more (inr e) = rw (e, append-nil part) (omega arith)
 
-    pub part-passed : ReadsPart (Lines lines) part (Lines (lines + s.steps))
-    part-passed = record { same = same; within = (omega (arith, w.0), part-counted); fewer = omega (arith, counted) }
+    pub part_passed : ReadsPart (Lines lines) part (Lines (lines + s.steps))
+    part_passed = record { same = same; within = (omega (arith, w.0), part_counted); fewer = omega (arith, counted) }
       where
         same : (more : Lists.List ℕ) → Cut part more → ahead_read (Lines lines) (part ++ more) ≡ ahead_read (Lines (lines + s.steps)) more
         same more h = rw e (go (eqb (refusal_number (ending k (lines_of more))) 0) refl)
@@ -95,10 +95,10 @@ module _ {lines : ℕ} (w : Within (Lines lines)) (part : Lists.List ℕ) {s : S
             go true q =
                 let z' = eqb-true _ 0 q in
                 let all = all_lines (part ++ more) lines w.1 (ap refusal_number e ∙ z') in
-                let rest = all_lines more k part-counted z' in
+                let rest = all_lines more k part_counted z' in
                 ap (λ j. surveyed (ending k (lines_of more)) j Accepted)
                 (let c : lines - 1 + length (step_calls original lines (lines_of (part ++ more))) ≡ k - 1 + length (step_calls original k (lines_of more))
-                = omega (arith, all.0, rest.0, counted, pieces-on more h, w.0) in c)
+                = omega (arith, all.0, rest.0, counted, pieces_on more h, w.0) in c)
 
 -- THE FIRST PART, unless it is empty
 module _ (part : Lists.List ℕ) (some : 0 < length part) {l : Lists.List ℕ} (p : l ≡ take 18 part) where
@@ -111,13 +111,13 @@ module _ (part : Lists.List ℕ) (some : 0 < length part) {l : Lists.List ℕ} (
   behind more (inl (k, e)) = drop-append-le 18 part more (omega arith)
   behind more (inr e) = ap (λ b. drop 18 (part ++ b)) e ∙ ap (drop 18) (append-nil part) ∙ sym (append-nil (drop 18 part)) ∙ ap (λ b. drop 18 part ++ b) (sym e)
 
-  cut-behind : (more : Lists.List ℕ) → Cut part more → Cut (drop 18 part) more
-  cut-behind more (inl (k, e)) = inl (k - 1, omega (arith, length-drop 18 part))
-  cut-behind more (inr e) = inr e
+  cut_behind : (more : Lists.List ℕ) → Cut part more → Cut (drop 18 part) more
+  cut_behind more (inl (k, e)) = inl (k - 1, omega (arith, length-drop 18 part))
+  cut_behind more (inr e) = inr e
 
-  pub first-refused : {r : Refusal} → header_read original l ≡ Headers.Refused r → ReadsPart Start part (Refused r)
+  pub first_refused : {r : Refusal} → header_read original l ≡ Headers.Refused r → ReadsPart Start part (Refused r)
   unfolding reading_refusal
-  first-refused {r} e = record { same = same; within = tt; fewer = omega arith }
+  first_refused {r} e = record { same = same; within = tt; fewer = omega arith }
     where
       same : (more : Lists.List ℕ) → Cut part more → ahead_read Start (part ++ more) ≡ r
       same more h = (surveyed_header (part ++ more) (sym (first more h)) e (length (file_calls original (part ++ more))) Accepted).0
@@ -139,7 +139,7 @@ module _ (part : Lists.List ℕ) (some : 0 < length part) {l : Lists.List ℕ} (
           let whole = ap (header_read original) (first more h) ∙ e in
           let bs = drop 18 (part ++ more) in
           rw whole (ap (λ j. surveyed (ending 1 (lines_of bs)) j Accepted) (sym (zero-add (length (step_calls original 1 (lines_of bs)))))
-          ∙ ap (ahead_read (Lines 1)) (sym joined) ∙ f.same more (rw (← left) at (cut-behind more h)))
+          ∙ ap (ahead_read (Lines 1)) (sym joined) ∙ f.same more (rw (← left) at (cut_behind more h)))
 
 -- an empty part, and one behind a final refusal
 pub first_none : (part : Lists.List ℕ) → length part ≡ 0 → ReadsPart Start part Start
@@ -217,8 +217,8 @@ too_long part before count h long {r} e ends = record {
 
 module _ {part : Lists.List ℕ} {reading : Reading} (f : Sofar part reading) where
   -- nothing that follows changes what is told
-  pub sofar-settled : is_settled reading ≡ true → {r : Refusal} → r ≡ ahead_read reading [] → TooLong part r
-  sofar-settled s {r} e =
+  pub sofar_settled : is_settled reading ≡ true → {r : Refusal} → r ≡ ahead_read reading [] → TooLong part r
+  sofar_settled s {r} e =
       let all : take (length part) part ≡ part = take_all (length part) part (omega arith) in
       too_long part f.before (length part) (omega arith) (omega (arith, f.full))
       (e ∙ sym (f.same []) ∙ ap reading_refusal (append-nil (f.before ++ part)) ∙ ap (λ b. reading_refusal (f.before ++ b)) (sym all))
@@ -229,8 +229,8 @@ module _ {part : Lists.List ℕ} {reading : Reading} (f : Sofar part reading) wh
       stays (Lines lines) s more = absurd (true≢false (sym s))
       stays (Refused r) s more = refl
 
-  pub sofar-left : is_settled reading ≡ false → 0 < lines_left reading
-  sofar-left s = go reading s f.within
+  pub sofar_left : is_settled reading ≡ false → 0 < lines_left reading
+  sofar_left s = go reading s f.within
     where
       go : (w : Reading) → is_settled w ≡ false → Within w → 0 < lines_left w
       go Start s h = omega arith
@@ -243,15 +243,15 @@ module _ {part : Lists.List ℕ} {reading : Reading} (f : Sofar part reading) wh
     next more c = ap reading_refusal (append_assoc (f.before ++ part) (take k part') more) ∙ f.same (take k part' ++ more) ∙ g.same more c
 
     -- it is the last
-    pub sofar-ends : k < length part' → {r : Refusal} → r ≡ ahead_read reading' [] → TooLong part' r
-    sofar-ends short e =
+    pub sofar_ends : k < length part' → {r : Refusal} → r ≡ ahead_read reading' [] → TooLong part' r
+    sofar_ends short e =
         let bs = f.before ++ part in
         too_long part' bs k h (rw (length-append f.before part) (omega (arith, f.full)))
         (e ∙ sym (next [] (inr refl)) ∙ ap reading_refusal (append-nil (bs ++ take k part'))) (inl short)
 
     -- it is full
-    pub sofar-more : length part' ≡ 73764 → length part' ≤ k → Sofar part' reading'
-    sofar-more e l =
+    pub sofar_more : length part' ≡ 73764 → length part' ≤ k → Sofar part' reading'
+    sofar_more e l =
         let all : take k part' ≡ part' = take_all k part' (omega arith) in
         record {
           before = f.before ++ part;
@@ -260,8 +260,8 @@ module _ {part : Lists.List ℕ} {reading : Reading} (f : Sofar part reading) wh
           within = g.within;
         }
 
-    pub sofar-fewer : length part' ≡ 73764 → length part' ≤ k → is_settled reading ≡ false → lines_left reading' < lines_left reading
-    sofar-fewer e l s = omega (arith, g.fewer, sofar-left s, length-take-le k part' h)
+    pub sofar_fewer : length part' ≡ 73764 → length part' ≤ k → is_settled reading ≡ false → lines_left reading' < lines_left reading
+    sofar_fewer e l s = omega (arith, g.fewer, sofar_left s, length-take-le k part' h)
 
 -- A WHOLE FILE lies within the buffer
 pub whole_inside : (part : Lists.List ℕ) (i : Intake) (k : ℕ) → Taken part i → i ≡ Intakes.Whole k → (k ≤ length part) × (k ≡ length (take k part))

@@ -79,8 +79,8 @@ take_behind k n l h g =
 module _ {t t' : Table} {order order' : Lists.List ℕ} {c : Call} {log : Lists.List ℕ} {used : ℕ} {r : NumberedTurn}
     (g : Turnsᵘ t order c log used t' order' r) where
   -- its number does not fit
-  pub run-unfit : (buffer : Lists.List ℕ) → r.fits ≡ false → RunsCall t c log used t' buffer (record { fits = false; used = used; written = 0 })
-  run-unfit buffer e = record {
+  pub run_unfit : (buffer : Lists.List ℕ) → r.fits ≡ false → RunsCall t c log used t' buffer (record { fits = false; used = used; written = 0 })
+  run_unfit buffer e = record {
     fits = sym e ∙ g.fits;
     state = λ y. absurd (tf y refl);
     numbers = λ y. absurd (tf y refl);
@@ -154,24 +154,24 @@ module _ {c₀ : Progress} {t₀ : Table} {file list buffer₀ part : Lists.List
   abbrev behind : Lists.List ℕ → Bool
   behind report = right original t.count (stateᵘ t) (numbers_left c list) report (calls_left c file)
 
-  due-length : length due ≡ c.written - c.shown
-  due-length = simp (length-take, length-drop) (omega (arith, g.bytes, g.room))
+  due_length : length due ≡ c.written - c.shown
+  due_length = simp (length-take, length-drop) (omega (arith, g.bytes, g.room))
 
-  from-here : (more : Lists.List ℕ) → ahead_log c₀ t₀ file list buffer₀ (part ++ more) ≡ (at_front due (rest ++ more) && behind (drop (length due) (rest ++ more)))
-  from-here more = f.same more ∙ rw f.going refl
+  from_here : (more : Lists.List ℕ) → ahead_log c₀ t₀ file list buffer₀ (part ++ more) ≡ (at_front due (rest ++ more) && behind (drop (length due) (rest ++ more)))
+  from_here more = f.same more ∙ rw f.going refl
 
   -- the check ends here, and the log is wrong
   wrong : {c' : Progress} → c'.right ≡ false → ((more : Lists.List ℕ) → (at_front due (rest ++ more) && behind (drop (length due) (rest ++ more))) ≡ false)
       → {t' : Table} {buffer' : Lists.List ℕ} → FeedsReport c₀ t₀ file list buffer₀ part c' t' buffer'
   wrong e h = record {
-    same = λ more. from-here more ∙ h more ∙ sym (rw e refl);
+    same = λ more. from_here more ∙ h more ∙ sym (rw e refl);
     drained = λ y. absurd (tf y e);
     fewer = λ y. absurd (tf y e);
   }
 
   -- THE PART IS USED UP, and something is still to be shown
-  pub sofar-waits : c.shown < c.written → length part ≤ read → FeedsReport c₀ t₀ file list buffer₀ part c t buffer
-  sofar-waits h l =
+  pub sofar_waits : c.shown < c.written → length part ≤ read → FeedsReport c₀ t₀ file list buffer₀ part c t buffer
+  sofar_waits h l =
       let none : drop read part ≡ [] = drop_of_length-le part l in
       record {
         same = λ more. f.same more ∙ ap (λ x. ahead_log c t file list buffer (x ++ more)) none;
@@ -188,35 +188,35 @@ module _ {c₀ : Progress} {t₀ : Table} {file list buffer₀ part : Lists.List
     front = take-take k (c.written - c.shown) (drop c.shown buffer) h
 
     split : (more : Lists.List ℕ) → at_front due (rest ++ more) ≡ (at_front (take k (drop c.shown buffer)) rest && at_front (drop k due) (drop k rest ++ more))
-    split more = front_part due rest more k (omega (arith, due-length)) (omega (arith, length-drop read part))
+    split more = front_part due rest more k (omega (arith, due_length)) (omega (arith, length-drop read part))
         ∙ ap (λ x. at_front x rest && at_front (drop k due) (drop k rest ++ more)) front
 
-    pub sofar-differs : {c' : Progress} → c'.right ≡ false → at_front (take k (drop c.shown buffer)) rest ≡ false
+    pub sofar_differs : {c' : Progress} → c'.right ≡ false → at_front (take k (drop c.shown buffer)) rest ≡ false
         → {t' : Table} {buffer' : Lists.List ℕ} → FeedsReport c₀ t₀ file list buffer₀ part c' t' buffer'
-    sofar-differs e d = wrong e (λ more. rw (split more, d) refl)
+    sofar_differs e d = wrong e (λ more. rw (split more, d) refl)
 
     left : drop k due ≡ pending next buffer
     left = take_behind k (c.written - c.shown) (drop c.shown buffer) h (omega (arith, g.bytes, g.room, length-drop c.shown buffer))
         ∙ ap₂ (λ i x. take i x) (let e : c.written - c.shown - k ≡ c.written - (c.shown + k) = omega arith in e) (drop-drop k c.shown buffer)
 
-    pub sofar-shown : 0 < k → at_front (take k (drop c.shown buffer)) rest ≡ true → Sofar c₀ t₀ file list buffer₀ part next t buffer (read + k)
-    sofar-shown some d = record {
+    pub sofar_shown : 0 < k → at_front (take k (drop c.shown buffer)) rest ≡ true → Sofar c₀ t₀ file list buffer₀ part next t buffer (read + k)
+    sofar_shown some d = record {
       within = omega (arith, f.within);
       going = refl;
       same = λ more.
-          let fewer : length due ≡ k + length (drop k due) = omega (arith, length-drop k due, due-length) in
+          let fewer : length due ≡ k + length (drop k due) = omega (arith, length-drop k due, due_length) in
           let gone : drop (length due) (rest ++ more) ≡ drop (length (drop k due)) (drop k rest ++ more)
           = ap (λ i. drop i (rest ++ more)) fewer ∙ sym (drop-drop (length (drop k due)) k (rest ++ more))
           ∙ ap (drop (length (drop k due))) (drop-append-le k rest more (omega (arith, length-drop read part))) in
-          from-here more
+          from_here more
           ∙ ap (λ b. b && behind (drop (length due) (rest ++ more))) (split more ∙ ap (λ b. b && at_front (drop k due) (drop k rest ++ more)) d)
           ∙ ap (λ x. at_front (drop k due) (drop k rest ++ more) && behind x) gone
           ∙ ap₂ (λ x y. at_front x (y ++ more) && behind (drop (length x) (y ++ more))) left (drop-drop k read part);
       less = omega (arith, f.less);
     }
 
-    pub next-checking : Checking next t order file list buffer
-    next-checking = record {
+    pub next_checking : Checking next t order file list buffer
+    next_checking = record {
       runnable = g.runnable;
       numbers = g.numbers;
       place = g.place;
@@ -229,26 +229,26 @@ module _ {c₀ : Progress} {t₀ : Table} {file list buffer₀ part : Lists.List
     nothing : due ≡ []
     nothing = let e : c.written - c.shown ≡ 0 = omega arith in rw e refl
 
-    steps-only : (more : Lists.List ℕ) → (at_front due (rest ++ more) && behind (drop (length due) (rest ++ more))) ≡ behind (rest ++ more)
+    steps_only : (more : Lists.List ℕ) → (at_front due (rest ++ more) && behind (drop (length due) (rest ++ more))) ≡ behind (rest ++ more)
     unfolding at_front
-    steps-only more = rw nothing refl
+    steps_only more = rw nothing refl
 
     -- no step is left, so the report must end with the part
-    pub sofar-ends : calls_left c file ≡ [] → FeedsReport c₀ t₀ file list buffer₀ part (here c (eqb read (length part))) t buffer
+    pub sofar_ends : calls_left c file ≡ [] → FeedsReport c₀ t₀ file list buffer₀ part (here c (eqb read (length part))) t buffer
     unfolding right at_front
-    sofar-ends e = go (eqb read (length part)) refl
+    sofar_ends e = go (eqb read (length part)) refl
       where
         go : (b : Bool) → eqb read (length part) ≡ b → FeedsReport c₀ t₀ file list buffer₀ part (here c b) t buffer
         go true d =
             let all : drop read part ≡ [] = drop_of_length-le part {i = read} (omega (arith, eqb-true read (length part) d)) in
             record {
-              same = λ more. from-here more ∙ ap (λ x. at_front due (x ++ more) && behind (drop (length due) (x ++ more))) all;
+              same = λ more. from_here more ∙ ap (λ x. at_front due (x ++ more) && behind (drop (length due) (x ++ more))) all;
               drained = λ y z. e;
               fewer = λ y. omega (arith, f.less, f.within, eqb-true read (length part) d);
             }
         go false d =
             let some : read < length part = omega (arith, f.within, eqb-false read (length part) d) in
-            wrong refl (λ more. steps-only more ∙ ap (right original t.count (stateᵘ t) (numbers_left c list) (rest ++ more)) e
+            wrong refl (λ more. steps_only more ∙ ap (right original t.count (stateᵘ t) (numbers_left c list) (rest ++ more)) e
             ∙ ap (λ b. eqb (length (numbers_left c list)) 0 && b)
             (ne_eqb (length (rest ++ more)) 0 (λ z. omega (arith, length-append rest more, length-drop read part, z)))
             ∙ and-false (eqb (length (numbers_left c list)) 0))
@@ -269,16 +269,16 @@ module _ {c₀ : Progress} {t₀ : Table} {file list buffer₀ part : Lists.List
       calls = calls_from (c.lines + 1) file (c.at + 18)
 
       -- the test of the steps left begins with this one
-      step-first : (report : Lists.List ℕ) → behind report
+      step_first : (report : Lists.List ℕ) → behind report
           ≡ (fits && (at_front bytes report
           && right original t.count (answeredᵘ t call (numbers_left c list)).state (drop (snaps_of original t.count (stateᵘ t) call) (numbers_left c list))
           (drop (length bytes) report) calls))
       unfolding right
-      step-first report = ap (right original t.count (stateᵘ t) (numbers_left c list) report) (calls_step c.lines file c.at g.place.0 s).0
+      step_first report = ap (right original t.count (stateᵘ t) (numbers_left c list) report) (calls_step c.lines file c.at g.place.0 s).0
 
-      pub sofar-unfit : {c' : Progress} → c'.right ≡ false → r.fits ≡ false → {t' : Table} {buffer' : Lists.List ℕ}
+      pub sofar_unfit : {c' : Progress} → c'.right ≡ false → r.fits ≡ false → {t' : Table} {buffer' : Lists.List ℕ}
           → FeedsReport c₀ t₀ file list buffer₀ part c' t' buffer'
-      sofar-unfit e d = wrong e (λ more. steps-only more ∙ step-first (rest ++ more) ∙ rw (sym u.fits ∙ d) refl)
+      sofar_unfit e d = wrong e (λ more. steps_only more ∙ step_first (rest ++ more) ∙ rw (sym u.fits ∙ d) refl)
 
       module _ (d : r.fits ≡ true) (n : t'.count ≡ t.count) where
         abbrev then : Progress
@@ -287,21 +287,21 @@ module _ {c₀ : Progress} {t₀ : Table} {file list buffer₀ part : Lists.List
         written : pending then buffer' ≡ bytes
         written = let all : r.written - 0 ≡ r.written = omega arith in ap (λ i. take i buffer') all ∙ (u.bytes d).0
 
-        pub sofar-step : Sofar c₀ t₀ file list buffer₀ part then t' buffer' read
-        sofar-step = record {
+        pub sofar_step : Sofar c₀ t₀ file list buffer₀ part then t' buffer' read
+        sofar_step = record {
           within = f.within;
           going = refl;
           same = λ more.
               let ns = drop-drop (snaps_of original t.count (stateᵘ t) call) c.used (take c.count list)
               ∙ ap (λ i. drop i (take c.count list)) (sym (u.numbers d).0) in
-              from-here more ∙ steps-only more ∙ step-first (rest ++ more) ∙ rw (sym u.fits ∙ d) refl
+              from_here more ∙ steps_only more ∙ step_first (rest ++ more) ∙ rw (sym u.fits ∙ d) refl
               ∙ (λ i. at_front (sym written i) (rest ++ more)
               && right original (sym n i) (sym (u.state d) i) (ns i) (drop (length (sym written i)) (rest ++ more)) calls);
           less = omega (arith, f.less, (u.bytes d).1, s.within);
         }
 
-        pub step-checking : {order' : Lists.List ℕ} → Runnableᵘ t' order' → length buffer' ≡ 928 → Checking then t' order' file list buffer'
-        step-checking o l = record {
+        pub step_checking : {order' : Lists.List ℕ} → Runnableᵘ t' order' → length buffer' ≡ 928 → Checking then t' order' file list buffer'
+        step_checking o l = record {
           runnable = o;
           numbers = (omega (arith, (u.numbers d).1, length-take c.count list), g.numbers.1);
           place = (s.within, omega (arith, s.few));

@@ -55,9 +55,9 @@ header_refuses bs p e = let h = surveyed_header bs p e (length (file_calls origi
 -- behind an accepted one
 module _ (bs : Lists.List ℕ) {l : Lists.List ℕ} (p : l ≡ take 18 bs) {n : ℕ} (e : header_read original l ≡ Stations n) {rest : Lists.List ℕ}
     (q : rest ≡ drop (length l) bs) {s : Survey} (f : Surveys 1 rest s) {r : Refusal} (g : r ≡ surveyed s.refusal s.steps Accepted) where
-  pub lines-told : r ≡ reading_refusal bs
+  pub lines_told : r ≡ reading_refusal bs
   unfolding reading_refusal
-  lines-told = g ∙ (λ i. surveyed (final_told bs p e q f i) (steps_told bs p e q f i) Accepted)
+  lines_told = g ∙ (λ i. surveyed (final_told bs p e q f i) (steps_told bs p e q f i) Accepted)
 
   -- from the fresh table, with some numbers of a list
   module _ (z : refusal_number r ≡ 0) (list : Lists.List ℕ) (count : ℕ) (whole : Bool) where
@@ -67,11 +67,11 @@ module _ (bs : Lists.List ℕ) {l : Lists.List ℕ} (p : l ≡ take 18 bs) {n : 
     abbrev ns : Lists.List ℕ
     ns = take count list
 
-    pub lines-begun : {t : Table} {order : Lists.List ℕ} (buffer : Lists.List ℕ) → t.count ≡ n → stateᵘ t ≡ fresh 0 → Runnableᵘ t order → count ≤ length list → length l ≤ length bs → length buffer ≡ 928
+    pub lines_begun : {t : Table} {order : Lists.List ℕ} (buffer : Lists.List ℕ) → t.count ≡ n → stateᵘ t ≡ fresh 0 → Runnableᵘ t order → count ≤ length list → length l ≤ length bs → length buffer ≡ 928
         → StartsCheck bs (λ report. (whole ≡ true) × RightLog bs ns report) begun t order list buffer
     unfolding at_front
-    lines-begun {t} {order} buffer c h o k m b = record {
-      accepted = ap refusal_number (sym lines-told) ∙ z;
+    lines_begun {t} {order} buffer c h o k m b = record {
+      accepted = ap refusal_number (sym lines_told) ∙ z;
       exactly = λ report.
           let exact = right_exactly original n (file_calls original bs) ns report in
           let same : ahead_log begun t bs list buffer report ≡ (whole && right original n (fresh 0) ns report (file_calls original bs))
@@ -98,24 +98,24 @@ module _ (bs : Lists.List ℕ) {l : Lists.List ℕ} (p : l ≡ take 18 bs) {n : 
 -- more numbers than that
 module _ (bs : Lists.List ℕ) {numbers list list' : Lists.List ℕ} {whole : Bool} {count : ℕ} (f : NumbersRead numbers list whole count list')
     (size : length list ≡ 4096) where
-  right-file : refusal_number (reading_refusal bs) ≡ 0 → (report : Lists.List ℕ)
+  right_file : refusal_number (reading_refusal bs) ≡ 0 → (report : Lists.List ℕ)
       → ((whole ≡ true) × RightLog bs (take count list') report) ↔ RightFile bs numbers report
-  right-file z report = (
+  right_file z report = (
     (λ h. record { given = take count list'; lines = read_whole f h.0; log = h.1 }),
     (λ R.
         let back = read_back f R.given (omega (arith, (log_bounds R.log z).0, size)) R.lines in
         (back.0, subst (λ ns. RightLog bs ns report) (sym back.2) R.log)),
   )
 
-  pub begins-file : {given : ℕ} → given ≡ count → (v j k : Rows) (s : Planes) (order buffer : Lists.List ℕ) (b : Begun)
+  pub begins_file : {given : ℕ} → given ≡ count → (v j k : Rows) (s : Planes) (order buffer : Lists.List ℕ) (b : Begun)
       → Begins bs (take given list') whole v j k s order list' buffer b → BeginsFile bs numbers v j k s order list' buffer b
-  begins-file e v j k s order buffer (Refused r) h = h
-  begins-file e v j k s order buffer (Running c) h = record {
+  begins_file e v j k s order buffer (Refused r) h = h
+  begins_file e v j k s order buffer (Running c) h = record {
     accepted = h.accepted;
     exactly = λ report.
         let a = subst (λ i. (ahead_log c (table c.stations v j k s) bs list' buffer report ≡ true) ↔ ((whole ≡ true) × RightLog bs (take i list') report)) e
         (h.exactly report) in
-        let b = right-file h.accepted report in
+        let b = right_file h.accepted report in
         ((λ y. b.0 (a.0 y)), λ R. a.1 (b.1 R));
     checking = h.checking;
   }
@@ -141,17 +141,17 @@ module _ (bs list : Lists.List ℕ) where
   abbrev ahead_of : Stage → Lists.List ℕ → Bool
   ahead_of s report = ahead_log s.check s.table bs list s.buffer report
 
-  parts-fed : (ps : Lists.List (Lists.List ℕ)) (s s' : Stage) → FedBy s ps s' → ahead_of s (joined ps) ≡ ahead_of s' []
-  parts-fed [] s s' e = ap (λ x. ahead_of x []) e
-  parts-fed (p ∷ ps) s s' (next, f, g) = f.same (joined ps) ∙ parts-fed ps next s' g
+  parts_fed : (ps : Lists.List (Lists.List ℕ)) (s s' : Stage) → FedBy s ps s' → ahead_of s (joined ps) ≡ ahead_of s' []
+  parts_fed [] s s' e = ap (λ x. ahead_of x []) e
+  parts_fed (p ∷ ps) s s' (next, f, g) = f.same (joined ps) ∙ parts_fed ps next s' g
 
   -- yes exactly if the log is right, however its report is cut into parts
-  pub log-told : {Right : Lists.List ℕ → Type 0} (s s' : Stage) {order order' : Lists.List ℕ}
+  pub log_told : {Right : Lists.List ℕ → Type 0} (s s' : Stage) {order order' : Lists.List ℕ}
       → StartsCheck bs Right s.check s.table order list s.buffer → (ps : Lists.List (Lists.List ℕ)) → FedBy s ps s'
       → Checking s'.check s'.table order' bs list s'.buffer → Drained s'.check bs → {yes : Bool} → Finishes s'.check yes
       → (yes ≡ true) ↔ Right (joined ps)
-  log-told s s' {order' = order'} b ps f g d {yes} e =
-      let same : yes ≡ ahead_of s (joined ps) = e.told s'.table order' bs list s'.buffer g d ∙ sym (parts-fed ps s s' f) in
+  log_told s s' {order' = order'} b ps f g d {yes} e =
+      let same : yes ≡ ahead_of s (joined ps) = e.told s'.table order' bs list s'.buffer g d ∙ sym (parts_fed ps s s' f) in
       let exact = b.exactly (joined ps) in
       ((λ y. exact.0 (sym same ∙ y)), λ R. same ∙ exact.1 R)
 
@@ -162,7 +162,7 @@ pub log_checked : {bs list report : Lists.List ℕ} {c : Progress} {t : Table} {
     → ChecksLog bs list report 0 yes
 log_checked {bs} {list} {report} {c} {t} {buffer = buffer} {c'} {t'} {buffer' = buffer'} b f g e =
     let all = take_all (length list) list (omega arith) in
-    let w = log-told bs list (record { check = c; table = t; buffer = buffer }) (record { check = c'; table = t'; buffer = buffer' }) b (report ∷ [])
+    let w = log_told bs list (record { check = c; table = t; buffer = buffer }) (record { check = c'; table = t'; buffer = buffer' }) b (report ∷ [])
     (record { check = c'; table = t'; buffer = buffer' }, f, refl) g f.drained e in
     let whole = append-nil report in record {
       number = sym b.accepted;

@@ -43,9 +43,9 @@ line_long bs v e = go (ltb (length bs) 12) refl
 
 -- a number is read exactly where its line stands at the front
 module _ (bs : List ℕ) (v : ℕ) where
-  read-line : number_read bs ≡ Value v → NumberLine (take 12 bs) v
+  read_line : number_read bs ≡ Value v → NumberLine (take 12 bs) v
   unfolding number_read number_line
-  read-line e = go (eqb (get_or bs 11 0) 10) refl e
+  read_line e = go (eqb (get_or bs 11 0) 10) refl e
     where
       long : 12 ≤ length bs
       long = line_long bs v e
@@ -73,8 +73,8 @@ module _ (bs : List ℕ) (v : ℕ) where
       wide : length (take 11 bs) ≡ 11
       wide = ap length front ∙ length_column 11 v
 
-  pub line-iff : (number_read bs ≡ Value v) ↔ NumberLine (take 12 bs) v
-  line-iff = (read-line, line_read)
+  pub line_iff : (number_read bs ≡ Value v) ↔ NumberLine (take 12 bs) v
+  line_iff = (read_line, line_read)
 
 -- SEVERAL LINES
 pub lines_none : (bs : List ℕ) → lines_read 0 bs ≡ []
@@ -111,8 +111,8 @@ read_start bs list = record {
 
 module _ {bs list₀ list : List ℕ} {count at : ℕ} (f : ReadSoFar bs list₀ list count at) where
   -- the line that is read lies within the bytes
-  pub read-within : (v : ℕ) → number_read (drop at bs) ≡ Value v → at + 12 ≤ length bs
-  read-within v e = omega (arith, line_long (drop at bs) v e, length-drop at bs, f.within)
+  pub read_within : (v : ℕ) → number_read (drop at bs) ≡ Value v → at + 12 ≤ length bs
+  read_within v e = omega (arith, line_long (drop at bs) v e, length-drop at bs, f.within)
 
   -- one line more
   pub read_more : (v : ℕ) → count < length list₀ → number_read (drop at bs) ≡ Value v → ReadSoFar bs list₀ (set list count v) (count + 1) (at + 12)
@@ -120,7 +120,7 @@ module _ {bs list₀ list : List ℕ} {count at : ℕ} (f : ReadSoFar bs list₀
     size = length-set list count v ∙ f.size;
     room = omega arith;
     place = omega (arith, f.place);
-    within = read-within v e;
+    within = read_within v e;
     read = f.read ∙ ap (λ t. take count list ++ t) next ∙ sym (append_assoc (take count list) (v ∷ []) (lines_read (length list₀ - (count + 1)) (drop (at + 12) bs)))
         ∙ ap (λ t. t ++ lines_read (length list₀ - (count + 1)) (drop (at + 12) bs)) (sym more);
     left = drop-set-lt (count + 1) list count v (omega arith) ∙ sym (drop-drop 1 count list) ∙ ap (drop 1) f.left ∙ drop-drop 1 count list₀;
@@ -138,8 +138,8 @@ module _ {bs list₀ list : List ℕ} {count at : ℕ} (f : ReadSoFar bs list₀
 
   -- the end: no more is to be read
   module _ {all : Bool} {k : ℕ} (p : all ≡ eqb at (length bs)) (q : k ≡ count) where
-    read-end : lines_read (length list₀ - count) (drop at bs) ≡ [] → NumbersRead bs list₀ all k list
-    read-end e = record {
+    read_end : lines_read (length list₀ - count) (drop at bs) ≡ [] → NumbersRead bs list₀ all k list
+    read_end e = record {
       counted = q ∙ sym (ap length found ∙ long);
       room = omega (arith, q, f.room);
       left = sym (take-append-drop count list) ∙ ap₂ ◌++◌ (sym found) (f.left ∙ ap (λ k. drop k list₀) (sym (ap length found ∙ long)));
@@ -152,11 +152,11 @@ module _ {bs list₀ list : List ℕ} {count at : ℕ} (f : ReadSoFar bs list₀
         long : length (take count list) ≡ count
         long = length-take-le count list (omega (arith, f.size, f.room))
 
-    pub read-full : length list₀ ≤ count → NumbersRead bs list₀ all k list
-    read-full h = read-end (let none : length list₀ - count ≡ 0 = omega arith in ap (λ k. lines_read k (drop at bs)) none ∙ lines_none (drop at bs))
+    pub read_full : length list₀ ≤ count → NumbersRead bs list₀ all k list
+    read_full h = read_end (let none : length list₀ - count ≡ 0 = omega arith in ap (λ k. lines_read k (drop at bs)) none ∙ lines_none (drop at bs))
 
-    pub read-bad : number_read (drop at bs) ≡ Bad → NumbersRead bs list₀ all k list
-    read-bad e = read-end (lines_bad (length list₀ - count) (drop at bs) e)
+    pub read_bad : number_read (drop at bs) ≡ Bad → NumbersRead bs list₀ all k list
+    read_bad e = read_end (lines_bad (length list₀ - count) (drop at bs) e)
 
 -- WHAT READING SAYS OF THE BYTES
 
@@ -179,7 +179,7 @@ lines_front (suc k) bs = go (lines_front k (drop 12 bs)) (number_read bs) refl
     go later Bad e = rw (lines_bad (suc k) bs e) (record { lines = refl; fit = none_fit })
     go later (Value v) e =
         let rest = lines_read k (drop 12 bs) in
-        let here = (line-iff bs v).0 e in
+        let here = (line_iff bs v).0 e in
         let split : suc (length rest) * 12 ≡ 12 + length rest * 12 = omega arith in
         rw (lines_more k bs v e) (record {
           lines = ap (λ j. take j bs) split ∙ take-add 12 (length rest * 12) bs ∙ ap₂ ◌++◌ here.line later.lines;
@@ -194,26 +194,26 @@ lines_back zero (v ∷ ns) h f = absurd (omega arith)
 lines_back (suc k) (v ∷ ns) h f =
     let rest = number_lines ns in
     let line = number_line v in
-    lines_more k (line ++ rest) v ((line-iff (line ++ rest) v).1 (record { line = take_at line rest 12 (length_number v); fits = f 0 }))
+    lines_more k (line ++ rest) v ((line_iff (line ++ rest) v).1 (record { line = take_at line rest 12 (length_number v); fits = f 0 }))
     ∙ ap (λ t. v ∷ lines_read k t) (drop_at line rest 12 (length_number v))
     ∙ ap (λ t. v ∷ t) (lines_back k ns (omega arith) (λ i. f (suc i)))
 
 module _ {bs list : List ℕ} {all : Bool} {count : ℕ} {list' : List ℕ} (f : NumbersRead bs list all count list') where
-  read-front : take count list' ≡ lines_read (length list) bs
-  read-front = ap (take count) f.left ∙ take_at (lines_read (length list) bs) _ count (sym f.counted)
+  read_front : take count list' ≡ lines_read (length list) bs
+  read_front = ap (take count) f.left ∙ take_at (lines_read (length list) bs) _ count (sym f.counted)
 
-  pub read-lines : NumberLines (take (count * 12) bs) (take count list')
-  read-lines = rw (read-front, f.counted) (lines_front (length list) bs)
+  pub read_lines : NumberLines (take (count * 12) bs) (take count list')
+  read_lines = rw (read_front, f.counted) (lines_front (length list) bs)
 
   -- whole bytes are the lines of the numbers read
   pub read_whole : all ≡ true → NumberLines bs (take count list')
   read_whole e =
       let long : count * 12 ≡ length bs = eqb-true (count * 12) (length bs) (sym f.whole ∙ e) in
-      subst (λ l. NumberLines l (take count list')) (take_all (count * 12) bs (omega arith)) read-lines
+      subst (λ l. NumberLines l (take count list')) (take_all (count * 12) bs (omega arith)) read_lines
 
   -- and the lines of any numbers for which there is room are whole, and are read back
   pub read_back : (ns : List ℕ) → length ns ≤ length list → NumberLines bs ns → (all ≡ true) × (count ≡ length ns) × (take count list' ≡ ns)
-  read_back ns h g = (f.whole ∙ eq-eqb (count * 12) (length bs) long, counts, read-front ∙ found)
+  read_back ns h g = (f.whole ∙ eq-eqb (count * 12) (length bs) long, counts, read_front ∙ found)
     where
       found : lines_read (length list) bs ≡ ns
       found = ap (lines_read (length list)) g.lines ∙ lines_back (length list) ns h g.fit

@@ -31,9 +31,9 @@ use Rattle.numbering.specs.Files.{refused_by, numbering_refusal, file_numbers, N
 
 module _ (bs list : Lists.List ℕ) where
   -- A FILE THAT IS REFUSED
-  refused-file : (r : Refusal) → numbering_refusal bs (length list) ≡ r → refusal_number r ≢ 0 → NumbersFile bs list (refusal_number r) 0 list
+  refused_file : (r : Refusal) → numbering_refusal bs (length list) ≡ r → refusal_number r ≢ 0 → NumbersFile bs list (refusal_number r) 0 list
   unfolding file_numbers
-  refused-file r e d = record {
+  refused_file r e d = record {
     number = ap refusal_number (sym e);
     count = ap length none;
     left = ap (λ ns. over ns list) none;
@@ -45,10 +45,10 @@ module _ (bs list : Lists.List ℕ) where
       none = rw (e, ne_eqb (refusal_number r) 0 d) refl
 
   -- by its header
-  pub header-refuses : {l : Lists.List ℕ} → l ≡ take 18 bs → {r : Refusal} → header_read original l ≡ Headers.Refused r → NumbersFile bs list (refusal_number r) 0 list
+  pub header_refuses : {l : Lists.List ℕ} → l ≡ take 18 bs → {r : Refusal} → header_read original l ≡ Headers.Refused r → NumbersFile bs list (refusal_number r) 0 list
   unfolding numbering_refusal
-  header-refuses p {r} e = let h = surveyed_header bs p e (length (file_calls original bs)) (cond (ltb (length list) (snap_calls (file_calls original bs))) ListTooShort Accepted) in
-      refused-file r h.0 h.1
+  header_refuses p {r} e = let h = surveyed_header bs p e (length (file_calls original bs)) (cond (ltb (length list) (snap_calls (file_calls original bs))) ListTooShort Accepted) in
+      refused_file r h.0 h.1
 
   -- BEHIND AN ACCEPTED HEADER
   module _ {l : Lists.List ℕ} (p : l ≡ take 18 bs) {n : ℕ} (e : header_read original l ≡ Stations n) {rest : Lists.List ℕ} (q : rest ≡ drop (length l) bs)
@@ -57,8 +57,8 @@ module _ (bs list : Lists.List ℕ) where
     unfolding numbering_refusal
     told = sym (g ∙ (λ i. refused_by (final_told bs p e q f i) (steps_told bs p e q f i) (snaps_told bs p e q f i) (length list)))
 
-    pub lines-refuse : refusal_number r ≢ 0 → NumbersFile bs list (refusal_number r) 0 list
-    lines-refuse d = refused-file r told d
+    pub lines_refuse : refusal_number r ≢ 0 → NumbersFile bs list (refusal_number r) 0 list
+    lines_refuse d = refused_file r told d
 
     module _ (z : refusal_number r ≡ 0) where
       -- no line is refused for good, and there is room for a number for each line of step 3
@@ -71,32 +71,32 @@ module _ (bs list : Lists.List ℕ) where
           enough true u w = absurd (omega arith)
           enough false u w = ltb-false (length list) s.snaps u
 
-      pub lines-room : snap_calls (step_calls original 1 (lines_of rest)) ≤ length list
-      lines-room = omega (arith, passed.1, f.snaps)
+      pub lines_room : snap_calls (step_calls original 1 (lines_of rest)) ≤ length list
+      lines_room = omega (arith, passed.1, f.snaps)
 
-      pub lines-number : {k : ℕ} {list' : Lists.List ℕ} → let ns = numbers_of original n (step_calls original 1 (lines_of rest)) in
+      pub lines_number : {k : ℕ} {list' : Lists.List ℕ} → let ns = numbers_of original n (step_calls original 1 (lines_of rest)) in
           k ≡ length ns → list' ≡ over ns list → NumbersFile bs list (refusal_number r) k list'
       unfolding file_numbers
-      lines-number {k} {list'} u v = record {
+      lines_number {k} {list'} u v = record {
         number = ap refusal_number (sym told);
         count = u ∙ ap length chosen;
         left = v ∙ ap (λ ns. over ns list) chosen;
         refused = λ d. absurd (d z);
         served = λ _. (
           n,
-          accepted-header,
+          accepted_header,
           subst (FileNumbers lent bs n) (ap (numbers_of original n) (sym (calls_told bs p e q)) ∙ chosen)
-              (file_numbers_lem lent lent_lawful refl bs n accepted-header
-              (sym (ap (λ h. refusal_number (final_after h (step_lines bs))) accepted-header)
+              (file_numbers_lem lent lent_lawful refl bs n accepted_header
+              (sym (ap (λ h. refusal_number (final_after h (step_lines bs))) accepted_header)
               ∙ sym (ap refusal_number (final_told bs p e q f)) ∙ passed.0)),
         );
       }
         where
-          accepted-header : header_read original (take 18 bs) ≡ Stations n
-          accepted-header = header_told bs p e q
+          accepted_header : header_read original (take 18 bs) ≡ Stations n
+          accepted_header = header_told bs p e q
 
           chosen : numbers_of original n (step_calls original 1 (lines_of rest)) ≡ file_numbers bs (length list)
-          chosen = ap (numbers_of original n) (calls_told bs p e q) ∙ rw (told, eq-eqb (refusal_number r) 0 z, accepted-header) refl
+          chosen = ap (numbers_of original n) (calls_told bs p e q) ∙ rw (told, eq-eqb (refusal_number r) 0 z, accepted_header) refl
 
 -- a list that keeps its length has room for the numbers written
 pub numbers_fit : {bs list list' : Lists.List ℕ} {refusal written : ℕ} → NumbersFile bs list refusal written list' → length list' ≡ length list

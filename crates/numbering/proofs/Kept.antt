@@ -46,13 +46,13 @@ module _ (f : ℕ → ℕ) (l : List ℕ) (i : ℕ) (h : i < length l) where
   stored v = ap (λ t. set t i v) split ∙ set_at (map f (take i l)) (get_or l i 0) (drop (suc i) l) v i front
 
   -- it goes through f
-  pub mapped-more : set (mapped f i l) i (f (get_or l i 0)) ≡ mapped f (i + 1) l
-  mapped-more = stored (f (get_or l i 0))
+  pub mapped_more : set (mapped f i l) i (f (get_or l i 0)) ≡ mapped f (i + 1) l
+  mapped_more = stored (f (get_or l i 0))
       ∙ rw (add-one i, take-suc l i 0 h, map-append f (take i l)) (sym (append_snoc (map f (take i l)) (f (get_or l i 0)) (drop (suc i) l)))
 
   -- as one more is given
-  given-more : (v : ℕ) → set (mapped f i l) i v ≡ (map f (take i l) ++ v ∷ []) ++ drop (i + 1) l
-  given-more v = stored v ∙ rw (add-one i) (sym (append_snoc (map f (take i l)) v (drop (suc i) l)))
+  given_more : (v : ℕ) → set (mapped f i l) i v ≡ (map f (take i l) ++ v ∷ []) ++ drop (i + 1) l
+  given_more v = stored v ∙ rw (add-one i) (sym (append_snoc (map f (take i l)) v (drop (suc i) l)))
 
 -- THE PLANES
 
@@ -81,33 +81,33 @@ none_given {count = count} {list = list} e = record {
 
 module _ {count : ℕ} {list : List ℕ} (h : count < length list) (N : Labelling ℕ) where
   -- a station gets the number of a slot
-  slot-given : (k : ℕ) (p : Slot) {numbers' : Rows} {list' : List ℕ} → Planes.beside numbers' ≡ put (through (shift p) N) k (number p)
+  slot_given : (k : ℕ) (p : Slot) {numbers' : Rows} {list' : List ℕ} → Planes.beside numbers' ≡ put (through (shift p) N) k (number p)
       → list' ≡ set (mapped (shift p) count list) count (number p) → Renumbered (placed N k p) 1 count list numbers' (count + 1) list'
-  slot-given k p e d = record { beside = e; counted = refl; given = d ∙ given-more (shift p) list count h (number p) }
+  slot_given k p e d = record { beside = e; counted = refl; given = d ∙ given_more (shift p) list count h (number p) }
 
-  pub shared-given : (k : ℕ) {v : ℕ} {s : Declared.Slot} {numbers' : Rows} {list' : List ℕ} → s ≡ Shared v → Planes.beside numbers' ≡ put N k v
+  pub shared_given : (k : ℕ) {v : ℕ} {s : Declared.Slot} {numbers' : Rows} {list' : List ℕ} → s ≡ Shared v → Planes.beside numbers' ≡ put N k v
       → list' ≡ set list count v → Renumbered (placed N k (slot_for s)) 1 count list numbers' (count + 1) list'
-  shared-given k {v} {s} {numbers'} {list'} e p q = subst (λ t. Renumbered (placed N k (slot_for t)) 1 count list numbers' (count + 1) list') (sym e)
-      (slot-given k (Slot.shared v) p (q ∙ ap (λ l. set l count v) (sym (mapped_same count list))))
+  shared_given k {v} {s} {numbers'} {list'} e p q = subst (λ t. Renumbered (placed N k (slot_for t)) 1 count list numbers' (count + 1) list') (sym e)
+      (slot_given k (Slot.shared v) p (q ∙ ap (λ l. set l count v) (sym (mapped_same count list))))
 
-  pub after-given : (k : ℕ) {c : ℕ} {s : Declared.Slot} {M : Labelling ℕ} {numbers' : Rows} {list₁ list' : List ℕ} → s ≡ After c
+  pub after_given : (k : ℕ) {c : ℕ} {s : Declared.Slot} {M : Labelling ℕ} {numbers' : Rows} {list₁ list' : List ℕ} → s ≡ After c
       → M ≡ through (bump c) N → Planes.beside numbers' ≡ put M k (c + 1)
       → list₁ ≡ mapped (bump c) count list → list' ≡ set list₁ count (c + 1) → Renumbered (placed N k (slot_for s)) 1 count list numbers' (count + 1) list'
-  after-given k {c} {s} {M} {numbers'} {list₁} {list'} e p q u v =
+  after_given k {c} {s} {M} {numbers'} {list₁} {list'} e p q u v =
       subst (λ t. Renumbered (placed N k (slot_for t)) 1 count list numbers' (count + 1) list') (sym e)
-      (slot-given k (Slot.after c) (q ∙ ap₂ (λ M x. put M k x) p (add-one c)) (v ∙ ap₂ (λ l x. set l count x) u (add-one c)))
+      (slot_given k (Slot.after c) (q ∙ ap₂ (λ M x. put M k x) p (add-one c)) (v ∙ ap₂ (λ l x. set l count x) u (add-one c)))
 
   -- a snap for a label by station k of n, where z is the newest: by the newest itself, and by another
   module _ (n : ℕ) (rows : Rows) (z k : ℕ) {numbers' : Rows} where
-    pub newest-snapped : k ≡ z → Planes.beside numbers' ≡ N
+    pub newest_snapped : k ≡ z → Planes.beside numbers' ≡ N
         → Renumbered (renumber_in n rows z N (snap k)) 1 count list numbers' (count + 1) (set list count 0)
-    newest-snapped e d = rw (eq-eqb k z e) (record {
+    newest_snapped e d = rw (eq-eqb k z e) (record {
       beside = d;
       counted = refl;
-      given = ap (λ l. set l count 0) (sym (mapped_same count list)) ∙ given-more (λ x. x) list count h 0;
+      given = ap (λ l. set l count 0) (sym (mapped_same count list)) ∙ given_more (λ x. x) list count h 0;
     })
 
-    pub other-snapped : {p : Slot} {list' : List ℕ} → k ≢ z → p ≡ slot_in n rows (N true) (N false z) k
+    pub other_snapped : {p : Slot} {list' : List ℕ} → k ≢ z → p ≡ slot_in n rows (N true) (N false z) k
         → Renumbered (placed N k p) 1 count list numbers' (count + 1) list'
         → Renumbered (renumber_in n rows z N (snap k)) 1 count list numbers' (count + 1) list'
-    other-snapped d e r = rw (ne_eqb k z d, ← e) r
+    other_snapped d e r = rw (ne_eqb k z d, ← e) r

@@ -58,25 +58,25 @@ module _ {a : Arrays} {order : Lists.List ℕ} (f : Runnable a order) {c : Call}
   same_step : label_step (move_of t.handed.place 0 t.action) ≡ asked
   same_step = step_any t.handed.place c.job t.action ∙ ap label_step g.action
 
-  pub call-place : t.handed.place < n
-  call-place = omega (arith, g.hands.place ∙ ap (λ b. cond b (place_of n c.station) 0) (run_passes f), place_below n c.station f.low)
+  pub call_place : t.handed.place < n
+  call_place = omega (arith, g.hands.place ∙ ap (λ b. cond b (place_of n c.station) 0) (run_passes f), place_below n c.station f.low)
 
-  pub call-newest : t.newest < n
-  call-newest = omega (arith, g.newest, newest_station a (run_passes f))
+  pub call_newest : t.newest < n
+  call_newest = omega (arith, g.newest, newest_station a (run_passes f))
 
-  pub call-valid : a'.count ≡ n → (i : ℕ) → i < n → Valid (n - 1) (held pending i)
-  call-valid e i l p h = label_digits a' (run_passes f') true i p (omega arith) (omega arith)
+  pub call_valid : a'.count ≡ n → (i : ℕ) → i < n → Valid (n - 1) (held pending i)
+  call_valid e i l p h = label_digits a' (run_passes f') true i p (omega arith) (omega arith)
 
   -- a snap for a label is of step 3
-  pub call-three : t.action ≡ SnapLabel → c.code ≡ 3
-  call-three e = go (eqb c.code 3) refl
+  pub call_three : t.action ≡ SnapLabel → c.code ≡ 3
+  call_three e = go (eqb c.code 3) refl
     where
-      snap-here : label_snap asked ≡ 1
-      snap-here = ap label_snap (sym same_step) ∙ ap (λ m. label_snap (label_step (move_of t.handed.place 0 m))) e
+      snap_here : label_snap asked ≡ 1
+      snap_here = ap label_snap (sym same_step) ∙ ap (λ m. label_snap (label_step (move_of t.handed.place 0 m))) e
 
       go : (b : Bool) → eqb c.code 3 ≡ b → c.code ≡ 3
       go true q = eqb-true c.code 3 q
-      go false q = absurd (omega (arith, snap-here, snaps_by_3 original refl n (rest_of a) c, ap one q))
+      go false q = absurd (omega (arith, snap_here, snaps_by_3 original refl n (rest_of a) c, ap one q))
 
   -- the rows of pending labels are those after the snap
   snapped : (k : ℕ) → asked ≡ snap k → Snapped n (state_of a).labels pending t.newest k
@@ -89,23 +89,23 @@ module _ {a : Arrays} {order : Lists.List ℕ} (f : Runnable a order) {c : Call}
   plain : (k : ℕ) → asked ≡ whole k → ⊥
   plain k e = tf (subst (Inside original n) e (inside original n (rest_of a) c)).1 refl
 
-  room-here : (count : ℕ) (list : Lists.List ℕ) → count ≤ length list → (c.code ≡ 3 → count < length list) → count + label_snap asked ≤ length list
-  room-here count list low room = go (eqb c.code 3) refl
+  room_here : (count : ℕ) (list : Lists.List ℕ) → count ≤ length list → (c.code ≡ 3 → count < length list) → count + label_snap asked ≤ length list
+  room_here count list low room = go (eqb c.code 3) refl
     where
       go : (b : Bool) → eqb c.code 3 ≡ b → count + label_snap asked ≤ length list
       go true q = omega (arith, room (eqb-true c.code 3 q), snaps_by_3 original refl n (rest_of a) c, ap one q)
       go false q = omega (arith, snaps_by_3 original refl n (rest_of a) c, ap one q)
 
   -- what the code makes of the numbers is what the call makes of them
-  pub call-numbered : {numbers : Rows} {count : ℕ} {list : Lists.List ℕ} → count ≤ length list → (c.code ≡ 3 → count < length list)
+  pub call_numbered : {numbers : Rows} {count : ℕ} {list : Lists.List ℕ} → count ≤ length list → (c.code ≡ 3 → count < length list)
       → Counted count numbers list → {numbers' : Rows} {count' : ℕ} {list' : Lists.List ℕ} → let w = label_step (move_of t.handed.place 0 t.action) in
       Renumbered (renumber_in n pending t.newest (Planes.beside numbers) w) (label_snap w) count list numbers' count' list'
       → NumbersCall a c numbers count list a' numbers' count' list'
-  call-numbered {numbers} {count} {list} low room k {numbers'} {count'} {list'} r = record {
+  call_numbered {numbers} {count} {list} low room k {numbers'} {count'} {list'} r = record {
     table = g.hands.table;
     renumbered = subst (λ e. Renumbered e (label_snap asked) count list numbers' count' list')
         (sym (renumber_is n (state_of a).labels pending t.newest N asked (omega (arith, f.low)) snapped plain)) r';
-    counted = counted_kept k n pending t.newest asked r' (room-here count list low room);
+    counted = counted_kept k n pending t.newest asked r' (room_here count list low room);
   }
     where
       N : Labelling ℕ
@@ -142,9 +142,9 @@ sofar_start n low high rest list room {a} e {numbers} z = record {
 module _ {n : ℕ} {rest list₀ : Lists.List ℕ} {a : Arrays} {numbers : Rows} {count lines at : ℕ} {list : Lists.List ℕ}
     (f : Sofar n rest list₀ a numbers count lines at list) where
   -- no line is left
-  pub sofar-end : calls_from lines rest at ≡ [] → let ns = numbers_of original n (calls_from 1 rest 0) in (count ≡ length ns) × (list ≡ over ns list₀)
+  pub sofar_end : calls_from lines rest at ≡ [] → let ns = numbers_of original n (calls_from 1 rest 0) in (count ≡ length ns) × (list ≡ over ns list₀)
   unfolding renumbered
-  sofar-end e = (
+  sofar_end e = (
     omega (arith, ap length found, long),
     sym (take-append-drop count list) ∙ (λ i. sym found i ++ f.kept i)
         ∙ ap (λ k. numbers_of original n (calls_from 1 rest 0) ++ drop k list₀) (sym (ap length found ∙ long)),
@@ -173,12 +173,12 @@ module _ {n : ℕ} {rest list₀ : Lists.List ℕ} {a : Arrays} {numbers : Rows}
     pub step_room : (count ≤ length list) × (q.code ≡ 3 → count < length list) × (count ≤ 1000000)
     step_room = (omega (arith, f.room), (λ c. omega (arith, f.room, counts, ap one (eq-eqb q.code 3 c))), omega (arith, f.few))
 
-    pub sofar-more : a.count ≡ n → {a' : Arrays} {numbers' : Rows} {count' : ℕ} {list' : Lists.List ℕ}
+    pub sofar_more : a.count ≡ n → {a' : Arrays} {numbers' : Rows} {count' : ℕ} {list' : Lists.List ℕ}
         → NumbersCall a call numbers count list a' numbers' count' list'
         → state_of (step_of lent a call).table ≡ (step original n (digits original n) (state_of a) call).state
         → Sofar n rest list₀ a' numbers' count' (lines + 1) (at + 18) list'
     unfolding renumbered snaps_of
-    sofar-more same_count {a'} {numbers'} {count'} {list'} g t = record {
+    sofar_more same_count {a'} {numbers'} {count'} {list'} g t = record {
       within = e.within;
       few = (omega (arith, r.counted, f.few.0, once, one_few (eqb q.code 3)), omega (arith, e.few));
       counted = g.counted;

@@ -34,6 +34,6 @@ numbered_log {bs} {list} {list'} {written} f =
     let s = f.served refl in
     let ns = file_numbers bs (length list) in
     let z = sym (ap (λ h. refusal_number (final_after h (step_lines bs))) s.1) ∙ served_final bs (length list) (sym f.number) in
-    let written-here : take written list' ≡ ns = ap (take written) f.left ∙ take_at ns (drop (length ns) list) written (sym f.count) in
-    subst (λ x. RightLog bs x (scan_lines (file_report (tables lent) bs))) (sym written-here)
+    let written_here : take written list' ≡ ns = ap (take written) f.left ∙ take_at ns (drop (length ns) list) written (sym f.count) in
+    subst (λ x. RightLog bs x (scan_lines (file_report (tables lent) bs))) (sym written_here)
     (subst (RightLog bs ns) (sym (lists_struck lent lent_lawful bs s.0 s.1 z)) (right_log refl s.1 s.2))

@@ -48,20 +48,20 @@ pub record Snapped (n : ℕ) (l : Labelling Label) (rows : Rows) (z k : ℕ) : T
 
 module _ (n : ℕ) (l : Labelling Label) (rows : Rows) (z : ℕ) where
   -- so they do if they hold what the machine makes pending
-  pub snapped-after : (k : ℕ) → k < n → z ≡ newest n (stands (digits original n) l)
+  pub snapped_after : (k : ℕ) → k < n → z ≡ newest n (stands (digits original n) l)
       → ((i : ℕ) → i < n → held rows i ≡ relabelled n (digits original n) l (snap k) true i) → Snapped n l rows z k
   unfolding relabelled pending_after
-  snapped-after k h e after = record {
+  snapped_after k h e after = record {
     newest = e;
     others = λ i u d. after i u ∙ rw (here_no d) refl;
     own = λ d. after k h ∙ rw (here_yes k, ← e, here_no d) refl;
   }
 
-  pub renumber-is : (N : Labelling ℕ) (w : LabelStep) → 1 ≤ n → ((k : ℕ) → w ≡ snap k → Snapped n l rows z k) → ((k : ℕ) → w ≡ whole k → ⊥)
+  pub renumber_is : (N : Labelling ℕ) (w : LabelStep) → 1 ≤ n → ((k : ℕ) → w ≡ snap k → Snapped n l rows z k) → ((k : ℕ) → w ≡ whole k → ⊥)
       → renumber n (digits original n) (slot_of (n - 1)) l N w ≡ renumber_in n rows z N w
   unfolding renumber
-  renumber-is N stay h s d = refl
-  renumber-is N (snap k) h s d =
+  renumber_is N stay h s d = refl
+  renumber_is N (snap k) h s d =
       let t = s k refl in
       rw (← t.newest) (by_here
       (λ b. cond b (beside_only N) (placed N k (slot_of (n - 1) (l true) (N true) (N false z) k (new_label (n - 1) 1 (l false) z k)))
@@ -69,8 +69,8 @@ module _ (n : ℕ) (l : Labelling Label) (rows : Rows) (z : ℕ) where
       (λ _. refl)
       (λ d. ap (placed N k) (slot_same (n - 1) (l true) (held rows) (N true) (N false z) k _ (λ i u v. sym (t.others i (omega arith) v))
       ∙ ap (slot_of (n - 1) (held rows) (N true) (N false z) k) (sym (t.own d)))))
-  renumber-is N (update k) h s d = refl
-  renumber-is N (whole k) h s d = absurd (d k refl)
+  renumber_is N (update k) h s d = refl
+  renumber_is N (whole k) h s d = absurd (d k refl)
 
 -- NUMBERS UP TO b
 
@@ -88,9 +88,9 @@ low_only : {N : Labelling ℕ} {b b' : ℕ} → b ≤ b' → ((x : Bool) (i : �
 low_only l h = record { shift = λ x u. omega arith; beside = λ x i. omega (arith, h x i); number = omega arith }
 
 module _ {N : Labelling ℕ} {b : ℕ} (low : (x : Bool) (i : ℕ) → N x i ≤ b) (n : ℕ) (rows : Rows) (z : ℕ) where
-  pub slot-low : (k : ℕ) {p : Slot} → p ≡ slot_in n rows (N true) (N false z) k → number p ≤ suc b
+  pub slot_low : (k : ℕ) {p : Slot} → p ≡ slot_in n rows (N true) (N false z) k → number p ≤ suc b
   unfolding slot_of
-  slot-low k e = rw e (go (leb i (n - 1)))
+  slot_low k e = rw e (go (leb i (n - 1)))
     where
       i : ℕ
       i = first_from (suc (n - 1)) 0 (other_agrees (held rows) (held rows k) k (n - 1))
@@ -99,9 +99,9 @@ module _ {N : Labelling ℕ} {b : ℕ} (low : (x : Bool) (i : ℕ) → N x i ≤
       go true = omega (arith, low true i)
       go false = omega (arith, highest_least (lower n rows k) (N true) (N false z) (suc (n - 1)) b (low false z) (λ j _ _. low true j))
 
-  low-after : (w : LabelStep) → Low (renumber_in n rows z N w) b (b + label_snap w)
-  low-after stay = low_only (omega arith) low
-  low-after (snap k) = go (eqb k z)
+  low_after : (w : LabelStep) → Low (renumber_in n rows z N w) b (b + label_snap w)
+  low_after stay = low_only (omega arith) low
+  low_after (snap k) = go (eqb k z)
     where
       p : Slot
       p = slot_in n rows (N true) (N false z) k
@@ -111,11 +111,11 @@ module _ {N : Labelling ℕ} {b : ℕ} (low : (x : Bool) (i : ℕ) → N x i ≤
       go false = record {
         shift = λ x h. omega (arith, shift_slow p x);
         beside = λ x i. by_put (λ d. cond d (number p) (shift p (N x i)) ≤ b + 1) x k i
-            (λ _. omega (arith, slot-low k refl)) (omega (arith, shift_slow p (N x i), low x i));
-        number = omega (arith, slot-low k refl);
+            (λ _. omega (arith, slot_low k refl)) (omega (arith, shift_slow p (N x i), low x i));
+        number = omega (arith, slot_low k refl);
       }
-  low-after (update k) = low_only (omega arith) (λ x i. low (x || eqb i k) i)
-  low-after (whole k) = low_only (omega arith) low
+  low_after (update k) = low_only (omega arith) (λ x i. low (x || eqb i k) i)
+  low_after (whole k) = low_only (omega arith) low
 
 -- no number grows past the count
 pub counted_kept : {count : ℕ} {numbers : Rows} {list : List ℕ} → Counted count numbers list
@@ -140,7 +140,7 @@ counted_kept {count} {numbers} {list} s n rows z w {numbers'} {count'} {list'} r
     e = renumber_in n rows z (Planes.beside numbers) w
 
     l : Low e count (count + ℓ)
-    l = low-after s.beside n rows z w
+    l = low_after s.beside n rows z w
 
     upto : ℕ → Type 0
     upto v = v ≤ count + ℓ
@@ -151,15 +151,15 @@ counted_kept {count} {numbers} {list} s n rows z w {numbers'} {count'} {list'} r
     front : List ℕ
     front = map e.shift old ++ replicate ℓ e.number
 
-    old-length : length old ≡ count
-    old-length = length-take-le count list (omega arith)
+    old_length : length old ≡ count
+    old_length = length-take-le count list (omega arith)
 
     front_length : length front ≡ count + ℓ
     front_length = length-append (map e.shift old) (replicate ℓ e.number)
-        ∙ ap₂ ◌+◌ (length-map old e.shift ∙ old-length) (length-replicate ℓ e.number)
+        ∙ ap₂ ◌+◌ (length-map old e.shift ∙ old_length) (length-replicate ℓ e.number)
 
     each : All upto front
     each = all_append upto (map e.shift old) (replicate ℓ e.number)
         (all_map (λ v. v ≤ count) upto e.shift l.shift old
-        (each_all (λ v. v ≤ count) old 0 (λ i u. rw (get_or-take count list i 0 (omega (arith, old-length))) (s.given i (omega (arith, old-length))))))
+        (each_all (λ v. v ≤ count) old 0 (λ i u. rw (get_or-take count list i 0 (omega (arith, old_length))) (s.given i (omega (arith, old_length))))))
         (all_replicate upto ℓ e.number (λ _. l.number))

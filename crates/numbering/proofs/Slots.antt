@@ -19,15 +19,15 @@ use Rattle.numbering.specs.Clauses.{slot_in}
 
 -- the higher of two, if the test says so, as the code finds it
 module _ (h number : ℕ) where
-  pub higher-low : (b : Bool) → number ≤ h → h ≡ cond b (max number h) h
-  higher-low true l = omega arith
-  higher-low false l = refl
+  pub higher_low : (b : Bool) → number ≤ h → h ≡ cond b (max number h) h
+  higher_low true l = omega arith
+  higher_low false l = refl
 
-  pub higher-yes : {b : Bool} → b ≡ true → h < number → number ≡ cond b (max number h) h
-  higher-yes e l = rw e (omega arith)
+  pub higher_yes : {b : Bool} → b ≡ true → h < number → number ≡ cond b (max number h) h
+  higher_yes e l = rw e (omega arith)
 
-  pub higher-no : {b : Bool} → b ≡ false → h ≡ cond b (max number h) h
-  higher-no e = rw e refl
+  pub higher_no : {b : Bool} → b ≡ false → h ≡ cond b (max number h) h
+  higher_no e = rw e refl
 
 -- station j is another than k, and its label is below k's
 abbrev pub lower : ℕ → Rows → ℕ → ℕ → Bool
@@ -42,48 +42,48 @@ module _ (n : ℕ) (rows : Rows) (u : ℕ → ℕ) (top k : ℕ) where
   abbrev m : ℕ
   m = n - 1
 
-  pub searched-first : Searched n rows u top k 0 top
+  pub searched_first : Searched n rows u top k 0 top
   unfolding highest
-  searched-first = record { none = λ q l. absurd (omega arith); most = refl }
+  searched_first = record { none = λ q l. absurd (omega arith); most = refl }
 
   module _ {i h : ℕ} (s : Searched n rows u top k i h) where
     -- station k itself is left out
-    pub searched-own : i ≡ k → {h' : ℕ} → h' ≡ h → Searched n rows u top k (i + 1) h'
+    pub searched_own : i ≡ k → {h' : ℕ} → h' ≡ h → Searched n rows u top k (i + 1) h'
     unfolding highest
-    searched-own e q = record {
+    searched_own e q = record {
       none = below_more _ _ s.none (left_no _ (ap not (eq-eqb i k e)));
       most = q ∙ s.most ∙ rw (add-one i, eq-eqb i k e) refl;
     }
 
     -- another, by where its label first differs
     module _ (d : i ≢ k) {p : ℕ} (e : p ≡ first_difference m (held rows i) (held rows k)) where
-      agrees-is : agrees m (held rows i) (held rows k) ≡ leb m p
-      agrees-is = agrees_upto m (held rows i) (held rows k) m (omega arith) ∙ ap (leb m) (sym e)
+      agrees_is : agrees m (held rows i) (held rows k) ≡ leb m p
+      agrees_is = agrees_upto m (held rows i) (held rows k) m (omega arith) ∙ ap (leb m) (sym e)
 
-      pub apart-inside : p ≢ m → p < m
-      apart-inside a = omega (arith, (difference_first m (held rows i) (held rows k)).upto)
+      pub apart_inside : p ≢ m → p < m
+      apart_inside a = omega (arith, (difference_first m (held rows i) (held rows k)).upto)
 
-      pub searched-other : p ≢ m → {h' : ℕ} → h' ≡ cond (below (held rows i p) (held rows k p)) (max (u i) h) h → Searched n rows u top k (i + 1) h'
+      pub searched_other : p ≢ m → {h' : ℕ} → h' ≡ cond (below (held rows i p) (held rows k p)) (max (u i) h) h → Searched n rows u top k (i + 1) h'
       unfolding highest label_below
-      searched-other a {h'} q =
-          let l = apart-inside a in
+      searched_other a {h'} q =
+          let l = apart_inside a in
           record {
-            none = below_more _ _ s.none (right_no (not (eqb i k)) (agrees-is ∙ lt-leb m p l));
+            none = below_more _ _ s.none (right_no (not (eqb i k)) (agrees_is ∙ lt-leb m p l));
             most = q ∙ rw (add-one i, ne_eqb i k d, ← e, lt-ltb p m l) (ap (λ x. cond (below (held rows i p) (held rows k p)) (max (u i) x) x) s.most);
           }
 
       -- it has the very label
-      pub slot-shared : i < n → p ≡ m → Slot.shared (u i) ≡ slot_in n rows u top k
+      pub slot_shared : i < n → p ≡ m → Slot.shared (u i) ≡ slot_in n rows u top k
       unfolding slot_of
-      slot-shared l a =
+      slot_shared l a =
           let f : first_from (suc m) 0 (other_agrees (held rows) (held rows k) k m) ≡ i = sym (first_is (suc m) _ i (omega arith) s.none
-          (λ _. both (ap not (ne_eqb i k d)) (agrees-is ∙ le-leb m p (omega arith)))) in
+          (λ _. both (ap not (ne_eqb i k d)) (agrees_is ∙ le-leb m p (omega arith)))) in
           rw (f, le-leb i m (omega arith)) refl
 
     -- no station has it
-    pub slot-after : 1 ≤ n → i ≡ n → Slot.after h ≡ slot_in n rows u top k
+    pub slot_after : 1 ≤ n → i ≡ n → Slot.after h ≡ slot_in n rows u top k
     unfolding slot_of
-    slot-after l e =
+    slot_after l e =
         let f : first_from (suc m) 0 (other_agrees (held rows) (held rows k) k m) ≡ suc m = sym (first_is (suc m) _ (suc m) (omega arith)
         (λ q v. s.none q (omega arith)) (λ v. absurd (omega arith))) in
         let t : suc m ≡ i = omega arith in

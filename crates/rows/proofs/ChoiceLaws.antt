@@ -57,13 +57,13 @@ module _ (n k : ℕ) (s : ℕ → ℕ) where
   unfoldable fewer : ℕ → ℕ
   fewer p = count n (λ j. not (eqb j k) && ltb (s j) p)
 
-  fewer-none : 0 ≡ fewer 0
+  fewer_none : 0 ≡ fewer 0
   unfolding fewer
-  fewer-none = sym (count_none n _ (λ j l. right_no (not (eqb j k)) (le-ltb (s j) 0 (omega arith))))
+  fewer_none = sym (count_none n _ (λ j l. right_no (not (eqb j k)) (le-ltb (s j) 0 (omega arith))))
 
-  fewer-more : (p : ℕ) → fewer p + count n (λ j. not (eqb j k) && eqb (s j) p) ≡ fewer (p + 1)
+  fewer_more : (p : ℕ) → fewer p + count n (λ j. not (eqb j k) && eqb (s j) p) ≡ fewer (p + 1)
   unfolding fewer
-  fewer-more p = count_sum n _ _ _ (λ j l. less_or_same (not (eqb j k)) (s j) p)
+  fewer_more p = count_sum n _ _ _ (λ j l. less_or_same (not (eqb j k)) (s j) p)
 
   -- the test of the level, told by how many share at most p digits
   abbrev pub enough : ℕ → Bool
@@ -73,28 +73,28 @@ module _ (n k : ℕ) (s : ℕ → ℕ) where
   unfolding fewer
   parts p l = ap (λ (c : ℕ). c + 1) (count_sum n _ _ _ (λ j l. more_or_less (not (eqb j k)) (s j) p)) ∙ count_others n k l
 
-  enough-yes : (p : ℕ) → k < n → fewer (p + 1) ≤ p → enough p ≡ true
-  enough-yes p l h = le-leb (n - 1 - p) (count n (λ j. not (eqb j k) && leb (suc p) (s j))) (omega (arith, parts p l))
+  enough_yes : (p : ℕ) → k < n → fewer (p + 1) ≤ p → enough p ≡ true
+  enough_yes p l h = le-leb (n - 1 - p) (count n (λ j. not (eqb j k) && leb (suc p) (s j))) (omega (arith, parts p l))
 
-  enough-no : (p : ℕ) → k < n → p < fewer (p + 1) → enough p ≡ false
-  enough-no p l h = lt-leb (n - 1 - p) (count n (λ j. not (eqb j k) && leb (suc p) (s j))) (omega (arith, parts p l))
+  enough_no : (p : ℕ) → k < n → p < fewer (p + 1) → enough p ≡ false
+  enough_no p l h = lt-leb (n - 1 - p) (count n (λ j. not (eqb j k) && leb (suc p) (s j))) (omega (arith, parts p l))
 
   -- the same from the list of those that share exactly q digits, for each q
   module _ (w : ℕ) (r : List ℕ) (e : (q : ℕ) → q < w → get_or r q 0 ≡ count n (λ j. not (eqb j k) && eqb (s j) q)) (l : k < n) where
-    upto-fewer : (p : ℕ) → p ≤ w → upto r p ≡ fewer p
+    upto_fewer : (p : ℕ) → p ≤ w → upto r p ≡ fewer p
     unfolding upto
-    upto-fewer zero h = fewer-none
-    upto-fewer (suc p) h = ap₂ (λ (a b : ℕ). a + b) (upto-fewer p (omega arith)) (e p (omega arith)) ∙ fewer-more p ∙ ap fewer (add-one p)
+    upto_fewer zero h = fewer_none
+    upto_fewer (suc p) h = ap₂ (λ (a b : ℕ). a + b) (upto_fewer p (omega arith)) (e p (omega arith)) ∙ fewer_more p ∙ ap fewer (add-one p)
 
-    pub upto-small : (p : ℕ) → p ≤ w → upto r p ≤ n
+    pub upto_small : (p : ℕ) → p ≤ w → upto r p ≤ n
     unfolding fewer
-    upto-small p h = rw (upto-fewer p h) (count_bound n _)
+    upto_small p h = rw (upto_fewer p h) (count_bound n _)
 
     -- the level: the first position that is not below the number of those that share at most as many digits
-    pub level-is : (p : ℕ) → p ≤ n - 1 → n ≤ w → ((q : ℕ) → q < p → q < upto r (q + 1)) → (p < n - 1 → upto r (p + 1) ≤ p) → p ≡ first_from (n - 1) 0 enough
-    level-is p h f early found = first_is (n - 1) enough p h
-        (λ q b. enough-no q l (rw (upto-fewer (q + 1) (omega arith)) at (early q b)))
-        (λ b. enough-yes p l (rw (upto-fewer (p + 1) (omega arith)) at (found b)))
+    pub level_is : (p : ℕ) → p ≤ n - 1 → n ≤ w → ((q : ℕ) → q < p → q < upto r (q + 1)) → (p < n - 1 → upto r (p + 1) ≤ p) → p ≡ first_from (n - 1) 0 enough
+    level_is p h f early found = first_is (n - 1) enough p h
+        (λ q b. enough_no q l (rw (upto_fewer (q + 1) (omega arith)) at (early q b)))
+        (λ b. enough_yes p l (rw (upto_fewer (p + 1) (omega arith)) at (found b)))
 
 -- THE LABELS
 
@@ -111,22 +111,22 @@ module _ (w n : ℕ) (t : ℕ → Label) (z k : ℕ) (xs : List ℕ) (e : xs ≡
   shared_at : (j : ℕ) → j < n → get_or xs j 0 ≡ first_difference (n - 1) (t j) (t z)
   shared_at j l = ap (λ (r : List ℕ). get_or r j 0) e ∙ filled_in w _ 0 0 n j l h
 
-  pub shared-small : (j : ℕ) → j < n → get_or xs j 0 < w
-  shared-small j l = omega (arith, shared_at j l, (difference_first (n - 1) (t j) (t z)).upto)
+  pub shared_small : (j : ℕ) → j < n → get_or xs j 0 < w
+  shared_small j l = omega (arith, shared_at j l, (difference_first (n - 1) (t j) (t z)).upto)
 
   module _ (p : ℕ) (q : p ≡ first_from (n - 1) 0 (enough n k (λ j. get_or xs j 0))) (l : k < n) where
-    pub level-found : p ≡ level (n - 1) t (t z) k
-    level-found = q ∙ level_shared n t (t z) (λ j. get_or xs j 0) k (omega arith) shared_at
+    pub level_found : p ≡ level (n - 1) t (t z) k
+    level_found = q ∙ level_shared n t (t z) (λ j. get_or xs j 0) k (omega arith) shared_at
 
-    pub level-inside : z < n → z ≢ k → p < n - 1
-    level-inside lz d = rw level-found (level_spec (n - 1) t (t z) k z (omega arith) (omega arith) d refl).inside
+    pub level_inside : z < n → z ≢ k → p < n - 1
+    level_inside lz d = rw level_found (level_spec (n - 1) t (t z) k z (omega arith) (omega arith) d refl).inside
 
 -- the pending label, by whether station k is the newest, z
 module _ (n : ℕ) (rows : List (List ℕ)) (k : ℕ) (own : List ℕ) (z : ℕ) (e : z ≡ newest n (stands_in n rows)) where
-  pub pending-kept : k ≡ z → own ≡ pending_in n rows k own
+  pub pending_kept : k ≡ z → own ≡ pending_in n rows k own
   unfolding pending_in
-  pending-kept d = rw (eq-eqb k (newest n (stands_in n rows)) (d ∙ e)) refl
+  pending_kept d = rw (eq-eqb k (newest n (stands_in n rows)) (d ∙ e)) refl
 
-  pub pending-new : k ≢ z → row 31 (new_label (n - 1) 1 (held rows) z k) ≡ pending_in n rows k own
+  pub pending_new : k ≢ z → row 31 (new_label (n - 1) 1 (held rows) z k) ≡ pending_in n rows k own
   unfolding pending_in
-  pending-new d = rw (← e, ne_eqb k z d) refl
+  pending_new d = rw (← e, ne_eqb k z d) refl

@@ -60,8 +60,8 @@ module _ {n : ℕ} {rows : List (List ℕ)} (o : Orderly n rows) where
     }
 
   -- of all n stations
-  pub leads-all : {k z c : ℕ} → k ≡ n → Leads n rows k z c → (z ≡ newest n (stands_in n rows)) × (c ≡ holders n m t z)
-  leads-all {k} {z} {c} e l = (
+  pub leads_all : {k z c : ℕ} → k ≡ n → Leads n rows k z c → (z ≡ newest n (stands_in n rows)) × (c ≡ holders n m t z)
+  leads_all {k} {z} {c} e l = (
     newest_only n (stands_in n rows) order z (omega (arith, l.inside)) (λ i h. l.last i (omega arith)),
     l.counted ∙ ap (λ x. holders x m t z) e,
   )

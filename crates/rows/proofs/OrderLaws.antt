@@ -17,7 +17,7 @@ use Rattle.basics.proofs.Facts.{First, first, all_at, each_all, ordered_all, ord
 use Rattle.basics.proofs.Passing.{without, without_all}
 use Rattle.label.proofs.RowLaws.{ringless}
 use Rattle.label.proofs.Total.{Total, total, newest_only, one_way, other_way, Sorted, ordered_sorted, without_sorted, without_at, without_alike, put_back}
-use Rattle.rows.specs.Held.{held, stands_in, Orderly, OrderedBefore, left_out, taken_out, place_among}
+use Rattle.rows.specs.Held.{held, stands_in, Orderly, OrderedBefore, left_out_lem, taken_out_lem, place_among}
 
 -- LISTS
 
@@ -44,84 +44,84 @@ inserted_at b i (j ∷ l) (suc q) h early found =
 
 -- putting in, in an array of which l is the front
 module _ {A : Type 0} where
-  pub put-stored : (l rest : List A) (p : ℕ) (y v : A) → p ≤ length l → set (put_in p y l ++ rest) p v ≡ put_in p v l ++ rest
-  put-stored l rest p y v h =
+  pub put_stored : (l rest : List A) (p : ℕ) (y v : A) → p ≤ length l → set (put_in p y l ++ rest) p v ≡ put_in p v l ++ rest
+  put_stored l rest p y v h =
       ap (λ (r : List A). set r p v) (append_assoc (take p l) (y ∷ drop p l) rest) ∙ set_at (take p l) y (drop p l ++ rest) v p (length-take-le p l h)
       ∙ sym (append_assoc (take p l) (v ∷ drop p l) rest)
 
   -- an element put in behind itself, or ahead
-  put-twice : (l : List A) (p : ℕ) (d : A) → p < length l → put_in (suc p) (get_or l p d) l ≡ put_in p (get_or l p d) l
-  put-twice l p d h = rw (take-suc l p d h, append_assoc, drop-cons l p d h) refl
+  put_twice : (l : List A) (p : ℕ) (d : A) → p < length l → put_in (suc p) (get_or l p d) l ≡ put_in p (get_or l p d) l
+  put_twice l p d h = rw (take-suc l p d h, append_assoc, drop-cons l p d h) refl
 
   -- the elements from place q to k moved on by one, from the last down: at p the array is l with the element at p put in once more
-  abbrev pub shiftedTo : List A → ℕ → ℕ → A → List A
-  shiftedTo l k p x = put_in p x (take k l) ++ drop (k + 1) l
+  abbrev pub shifted_to : List A → ℕ → ℕ → A → List A
+  shifted_to l k p x = put_in p x (take k l) ++ drop (k + 1) l
 
   module _ (l : List A) (k : ℕ) (d : A) (h : k < length l) where
     front : length (take k l) ≡ k
     front = length-take-le k l (omega arith)
 
-    pub shift-starts : l ≡ shiftedTo l k k (get_or l k d)
-    shift-starts = split_at l k d h ∙ sym (rw (
+    pub shift_starts : l ≡ shifted_to l k k (get_or l k d)
+    shift_starts = split_at l k d h ∙ sym (rw (
       take_all k (take k l) (omega (arith, front)),
       drop_of_length-le (take k l) {i = k} (omega (arith, front)),
       append_assoc,
       add-one,
     ) refl)
 
-    read-front : (p : ℕ) (y : A) → p < k → get_or (shiftedTo l k (suc p) y) p d ≡ get_or (take k l) p d
-    read-front p y v =
+    read_front : (p : ℕ) (y : A) → p < k → get_or (shifted_to l k (suc p) y) p d ≡ get_or (take k l) p d
+    read_front p y v =
         let t : p < length (take (suc p) (take k l)) = omega (arith, length-take-le (suc p) (take k l) (omega (arith, front))) in
         rw append_assoc (get_or-append (take (suc p) (take k l)) _ d p t ∙ get_or-take (suc p) (take k l) p d (omega arith))
 
-    pub shift-turns : (p : ℕ) (r : List A) → r ≡ shiftedTo l k p (get_or l p d) → 1 ≤ p → p ≤ k
-        → set r p (get_or r (p - 1) d) ≡ shiftedTo l k (p - 1) (get_or l (p - 1) d)
-    shift-turns zero r e u v = absurd (omega arith)
-    shift-turns (suc p) r e u v =
+    pub shift_turns : (p : ℕ) (r : List A) → r ≡ shifted_to l k p (get_or l p d) → 1 ≤ p → p ≤ k
+        → set r p (get_or r (p - 1) d) ≡ shifted_to l k (p - 1) (get_or l (p - 1) d)
+    shift_turns zero r e u v = absurd (omega arith)
+    shift_turns (suc p) r e u v =
         let q : suc p - 1 ≡ p = omega arith in
-        let a : get_or r p d ≡ get_or (take k l) p d = ap (λ (x : List A). get_or x p d) e ∙ read-front p (get_or l (suc p) d) v in
-        rw (q, a, e, ← get_or-take k l p d v) (put-stored (take k l) (drop (k + 1) l) (suc p) (get_or l (suc p) d) (get_or (take k l) p d) (omega (arith, front))
-        ∙ ap (λ (x : List A). x ++ drop (k + 1) l) (put-twice (take k l) p d (omega (arith, front))))
+        let a : get_or r p d ≡ get_or (take k l) p d = ap (λ (x : List A). get_or x p d) e ∙ read_front p (get_or l (suc p) d) v in
+        rw (q, a, e, ← get_or-take k l p d v) (put_stored (take k l) (drop (k + 1) l) (suc p) (get_or l (suc p) d) (get_or (take k l) p d) (omega (arith, front))
+        ∙ ap (λ (x : List A). x ++ drop (k + 1) l) (put_twice (take k l) p d (omega (arith, front))))
 
-    pub shift-ends : (q : ℕ) (x : A) (r : List A) → r ≡ shiftedTo l k q (get_or l q d) → q ≤ k → set r q x ≡ shiftedTo l k q x
-    shift-ends q x r e v = rw e (put-stored (take k l) (drop (k + 1) l) q (get_or l q d) x (omega (arith, front)))
+    pub shift_ends : (q : ℕ) (x : A) (r : List A) → r ≡ shifted_to l k q (get_or l q d) → q ≤ k → set r q x ≡ shifted_to l k q x
+    shift_ends q x r e v = rw e (put_stored (take k l) (drop (k + 1) l) q (get_or l q d) x (omega (arith, front)))
 
 module _ {A : Type 0} where
-  leftOut-next : (l : List A) (q : ℕ) (x : A) → left_out (suc q) (x ∷ l) ≡ x ∷ left_out q l
-  leftOut-next l q x = let e : suc q + 1 ≡ suc (q + 1) = omega arith in rw e refl
+  left_out_next : (l : List A) (q : ℕ) (x : A) → left_out_lem (suc q) (x ∷ l) ≡ x ∷ left_out_lem q l
+  left_out_next l q x = let e : suc q + 1 ≡ suc (q + 1) = omega arith in rw e refl
 
   -- the one behind place p is copied there, and is left out in its place
-  moves : (l : List A) (p : ℕ) (d : A) → suc p < length l → left_out (suc p) (set l p (get_or l (suc p) d)) ≡ left_out p l
+  moves : (l : List A) (p : ℕ) (d : A) → suc p < length l → left_out_lem (suc p) (set l p (get_or l (suc p) d)) ≡ left_out_lem p l
   moves [] p d h = absurd (omega arith)
   moves (x ∷ l) zero d h = sym (drop-cons l 0 d (omega arith))
   moves (x ∷ l) (suc p) d h =
-      leftOut-next (set l p (get_or l (suc p) d)) (suc p) x ∙ ap (λ r. x ∷ r) (moves l p d (omega arith)) ∙ sym (leftOut-next l p x)
+      left_out_next (set l p (get_or l (suc p) d)) (suc p) x ∙ ap (λ r. x ∷ r) (moves l p d (omega arith)) ∙ sym (left_out_next l p x)
 
-  pub leftOut-moves : (l : List A) (p : ℕ) (d : A) → p + 1 < length l → left_out (p + 1) (set l p (get_or l (p + 1) d)) ≡ left_out p l
-  leftOut-moves l p d h = rw (← add-one p) at (moves l p d (omega arith))
+  pub left_out_moves : (l : List A) (p : ℕ) (d : A) → p + 1 < length l → left_out_lem (p + 1) (set l p (get_or l (p + 1) d)) ≡ left_out_lem p l
+  left_out_moves l p d h = rw (← add-one p) at (moves l p d (omega arith))
 
   -- what stands past place p is as it was: so is the array with the one at place q taken out
-  pub past-kept : (l l₀ : List A) (p : ℕ) (v : A) → drop p l ≡ drop p l₀ → drop (p + 1) (set l p v) ≡ drop (p + 1) l₀
-  past-kept l l₀ p v e = drop-set-lt (p + 1) l p v (omega arith) ∙ sym (drop-drop 1 p l) ∙ ap (drop 1) e ∙ drop-drop 1 p l₀
+  pub past_kept : (l l₀ : List A) (p : ℕ) (v : A) → drop p l ≡ drop p l₀ → drop (p + 1) (set l p v) ≡ drop (p + 1) l₀
+  past_kept l l₀ p v e = drop-set-lt (p + 1) l p v (omega arith) ∙ sym (drop-drop 1 p l) ∙ ap (drop 1) e ∙ drop-drop 1 p l₀
 
-  pub taken_out_lem : (l l₀ : List A) (p q : ℕ) → p ≤ length l → left_out p l ≡ left_out q l₀ → drop p l ≡ drop p l₀ → l ≡ taken_out p q l₀
+  pub taken_out_lem : (l l₀ : List A) (p q : ℕ) → p ≤ length l → left_out_lem p l ≡ left_out_lem q l₀ → drop p l ≡ drop p l₀ → l ≡ taken_out_lem p q l₀
   taken_out_lem l l₀ p q h e f = sym (take-append-drop p l)
       ∙ ap₂ (λ a b. a ++ b) (sym (take_at (take p l) (drop (p + 1) l) p (length-take-le p l h)) ∙ ap (take p) e) f
 
-  leftOut-front : (l rest : List A) (q : ℕ) → q < length l → left_out q (l ++ rest) ≡ left_out q l ++ rest
-  leftOut-front l rest q h = rw (take-append-le q l rest (omega arith), drop-append-le (q + 1) l rest (omega arith), append_assoc) refl
+  left_out_front : (l rest : List A) (q : ℕ) → q < length l → left_out_lem q (l ++ rest) ≡ left_out_lem q l ++ rest
+  left_out_front l rest q h = rw (take-append-le q l rest (omega arith), drop-append-le (q + 1) l rest (omega arith), append_assoc) refl
 
 -- the stations s in the first m places of an array
 module _ (m : ℕ) (l s : List ℕ) (e : take m l ≡ s) (long : length s ≡ m) where
-  front-all : (P : ℕ → Type 0) → All P s → (p : ℕ) → p < m → P (get_or l p 0)
-  front-all P a p h = rw (← get_or-take m l p 0 h, e) (all_at P s 0 a p (omega arith))
+  front_all : (P : ℕ → Type 0) → All P s → (p : ℕ) → p < m → P (get_or l p 0)
+  front_all P a p h = rw (← get_or-take m l p 0 h, e) (all_at P s 0 a p (omega arith))
 
-  front-sorted : (b : ℕ → ℕ → Bool) → Sorted b s → (p q : ℕ) → p < q → q < m → b (get_or l p 0) (get_or l q 0) ≡ true
-  front-sorted b a p q h u = rw (← get_or-take m l p 0 (omega arith), ← get_or-take m l q 0 u, e) (sorted_at b s a p q h (omega arith))
+  front_sorted : (b : ℕ → ℕ → Bool) → Sorted b s → (p q : ℕ) → p < q → q < m → b (get_or l p 0) (get_or l q 0) ≡ true
+  front_sorted b a p q h u = rw (← get_or-take m l p 0 (omega arith), ← get_or-take m l q 0 u, e) (sorted_at b s a p q h (omega arith))
 
 -- each of the first k stations in order, at the front of an array, is one of them
 pub listed_below : (b : ℕ → ℕ → Bool) (k : ℕ) (l : List ℕ) → take k l ≡ ordered k b → (p : ℕ) → p < k → get_or l p 0 < k
-listed_below b k l e = front-all k l (ordered k b) e (ordered_length b k) (λ i. i < k) (ordered_all (λ i. i < k) b k (λ i u. u))
+listed_below b k l e = front_all k l (ordered k b) e (ordered_length b k) (λ i. i < k) (ordered_all (λ i. i < k) b k (λ i u. u))
 
 -- A TOTAL ORDER
 
@@ -135,16 +135,16 @@ Other n k i = (i < n) × (i ≢ k)
 -- the place of station k among the others in the first m places of an array
 module _ {n : ℕ} {b : ℕ → ℕ → Bool} (o : Total n b) (k : ℕ) (lk : k < n) (m : ℕ) (l : List ℕ)
     (others : (p : ℕ) → p < m → Other n k (get_or l p 0)) where
-  pub put-in : m ≤ length l → (q : ℕ) → q ≤ m → ((p : ℕ) → p < q → b (get_or l p 0) k ≡ true) → ((p : ℕ) → q ≤ p → p < m → b k (get_or l p 0) ≡ true)
+  pub put_in_lem : m ≤ length l → (q : ℕ) → q ≤ m → ((p : ℕ) → p < q → b (get_or l p 0) k ≡ true) → ((p : ℕ) → q ≤ p → p < m → b k (get_or l p 0) ≡ true)
       → inserted b k (take m l) ≡ put_in q k (take m l)
-  put-in long q h early late = inserted_at b k (take m l) q (omega (arith, length-take-le m l long))
+  put_in_lem long q h early late = inserted_at b k (take m l) q (omega (arith, length-take-le m l long))
       (λ p u. rw (get_or-take m l p 0 (omega arith)) (one_way o (get_or l p 0) k (others p (omega arith)).0 lk (early p u)))
       (λ u. let v : q < m = omega (arith, length-take-le m l long) in rw (get_or-take m l q 0 v) (late q (omega arith) v))
 
   -- they stand there oldest first: where one stands before station k, so do all earlier; where it does not, station k stands before it and all later
   module _ (sorted : (p q : ℕ) → p < q → q < m → b (get_or l p 0) (get_or l q 0) ≡ true) where
-    pub before-front : (p : ℕ) {x : Bool} → p < m → x ≡ b (get_or l p 0) k → x ≡ true → (q : ℕ) → q < p + 1 → b (get_or l q 0) k ≡ true
-    before-front p h w x q v = let u = sym w ∙ x in by_cases (ℕ_discrete q p) (λ f. rw f u)
+    pub before_front : (p : ℕ) {x : Bool} → p < m → x ≡ b (get_or l p 0) k → x ≡ true → (q : ℕ) → q < p + 1 → b (get_or l q 0) k ≡ true
+    before_front p h w x q v = let u = sym w ∙ x in by_cases (ℕ_discrete q p) (λ f. rw f u)
         (λ f. o.trans (get_or l q 0) (get_or l p 0) k (others q (omega arith)).0 (others p h).0 lk (sorted q p (omega arith) h) u)
 
     pub before_back : (p : ℕ) {x : Bool} → p < m → x ≡ b (get_or l p 0) k → x ≡ false → (q : ℕ) → p ≤ q → q < m → b k (get_or l q 0) ≡ true
@@ -164,28 +164,28 @@ abbrev pub order_in : ℕ → (ℕ → ℕ → Bool) → ℕ → List ℕ
 order_in w b k = ordered k b ++ replicate (w - k) 0
 
 module _ (w : ℕ) (b : ℕ → ℕ → Bool) (k : ℕ) (l : List ℕ) (e : l ≡ order_in w b k) where
-  pub order-front : take k l ≡ ordered k b
-  order-front = rw e (take_at (ordered k b) (replicate (w - k) 0) k (ordered_length b k))
+  pub order_front : take k l ≡ ordered k b
+  order_front = rw e (take_at (ordered k b) (replicate (w - k) 0) k (ordered_length b k))
 
-  pub order-long : k ≤ w → length l ≡ w
-  order-long h = rw (e, length-append, ordered_length, length-replicate) (omega arith)
+  pub order_long : k ≤ w → length l ≡ w
+  order_long h = rw (e, length-append, ordered_length, length-replicate) (omega arith)
 
   -- what is listed is other than station k, and stands there oldest first
-  pub order-others : (n : ℕ) → k < n → (p : ℕ) → p < k → Other n k (get_or l p 0)
-  order-others n h = front-all k l (ordered k b) order-front (ordered_length b k) (Other n k)
+  pub order_others : (n : ℕ) → k < n → (p : ℕ) → p < k → Other n k (get_or l p 0)
+  order_others n h = front_all k l (ordered k b) order_front (ordered_length b k) (Other n k)
       (ordered_all (Other n k) b k (λ i u. (omega arith, λ f. omega arith)))
 
-  pub order-sorted : {n : ℕ} → Total n b → k < n → (p q : ℕ) → p < q → q < k → b (get_or l p 0) (get_or l q 0) ≡ true
-  order-sorted {n} o h = front-sorted k l (ordered k b) order-front (ordered_length b k) b (ordered_sorted n b o k (omega arith))
+  pub order_sorted : {n : ℕ} → Total n b → k < n → (p q : ℕ) → p < q → q < k → b (get_or l p 0) (get_or l q 0) ≡ true
+  order_sorted {n} o h = front_sorted k l (ordered k b) order_front (ordered_length b k) b (ordered_sorted n b o k (omega arith))
 
-  order-rest : k < w → drop (k + 1) l ≡ replicate (w - (k + 1)) 0
-  order-rest h = rw (e, replicate_more {A = ℕ} w k 0 h) (ap (λ (i : ℕ). drop (i + 1) (ordered k b ++ 0 ∷ replicate (w - (k + 1)) 0)) (sym (ordered_length b k))
+  order_rest : k < w → drop (k + 1) l ≡ replicate (w - (k + 1)) 0
+  order_rest h = rw (e, replicate_more {A = ℕ} w k 0 h) (ap (λ (i : ℕ). drop (i + 1) (ordered k b ++ 0 ∷ replicate (w - (k + 1)) 0)) (sym (ordered_length b k))
       ∙ drop-append-add (ordered k b) (0 ∷ replicate (w - (k + 1)) 0) 1)
 
-  pub order-turns : (q : ℕ) (r : List ℕ) → r ≡ put_in q k (take k l) ++ drop (k + 1) l → inserted b k (take k l) ≡ put_in q k (take k l) → k < w
+  pub order_turns : (q : ℕ) (r : List ℕ) → r ≡ put_in q k (take k l) ++ drop (k + 1) l → inserted b k (take k l) ≡ put_in q k (take k l) → k < w
       → r ≡ order_in w b (k + 1)
   unfolding ordered
-  order-turns q r f g h = f ∙ rw (← g, order-front, order-rest h, add-one k, ordered) refl
+  order_turns q r f g h = f ∙ rw (← g, order_front, order_rest h, add-one k, ordered) refl
 
 -- ONE STATION PUT ELSEWHERE: an array of w places lists n stations as they stood before station k alone came to stand elsewhere
 
@@ -224,14 +224,14 @@ module _ {w n k : ℕ} {b : ℕ → ℕ → Bool} {l : List ℕ} (d : Displaced 
   abbrev zeros : List ℕ
   zeros = replicate (w - n) 0
 
-  old-long : length old ≡ n
-  old-long = ordered_length d.before n
+  old_long : length old ≡ n
+  old_long = ordered_length d.before n
 
-  pub listed-long : length l ≡ w
-  listed-long = order-long w d.before n l d.listed d.high
+  pub listed_long : length l ≡ w
+  listed_long = order_long w d.before n l d.listed d.high
 
   read : (p : ℕ) → p < n → get_or l p 0 ≡ get_or old p 0
-  read p h = rw (← get_or-take n l p 0 h, order-front w d.before n l d.listed) refl
+  read p h = rw (← get_or-take n l p 0 h, order_front w d.before n l d.listed) refl
 
   -- its place there
   abbrev p : ℕ
@@ -243,56 +243,56 @@ module _ {w n k : ℕ} {b : ℕ → ℕ → Bool} {l : List ℕ} (d : Displaced 
   pub place_found : p < n
   place_found = by_cases (dec_lt p n) (λ h. h)
       (λ h. absurd (ordered_each (λ j. j ≢ k) d.before n (each_all (λ j. j ≢ k) old 0
-      (λ q u. rw (← read q (omega (arith, old-long))) (eqb-false _ k (place.earlier q (omega arith) (omega (arith, old-long)))))) k d.inside refl))
+      (λ q u. rw (← read q (omega (arith, old_long))) (eqb-false _ k (place.earlier q (omega arith) (omega (arith, old_long)))))) k d.inside refl))
 
-  left_out_lem : left_out p l ≡ others ++ zeros
+  left_out_lem : left_out_lem p l ≡ others ++ zeros
   left_out_lem =
-      let h : p < length old = omega (arith, place_found, old-long) in
+      let h : p < length old = omega (arith, place_found, old_long) in
       let here = sym (read p place_found) ∙ eqb-true _ k (place.found (omega (arith, place_found))) in
-      let out : without k old ≡ left_out p old
+      let out : without k old ≡ left_out_lem p old
       = rw (add-one p) (without_at d.then k d.inside old (ordered_sorted n d.before d.then n (omega arith)) p 0 h here) in
-      ap (left_out p) d.listed ∙ leftOut-front old zeros p h
+      ap (left_out_lem p) d.listed ∙ left_out_front old zeros p h
       ∙ ap (λ r. r ++ zeros) (sym out ∙ without_alike n d.before b d.then d.now k d.alike n (omega arith))
 
   back : inserted b k others ≡ ordered n b
   back = put_back d.now k d.inside (ordered n b) (ordered_all (λ j. j < n) b n (λ j u. u)) (ordered_sorted n b d.now n (omega arith))
       (λ a. ordered_each (λ j. j ≢ k) b n a k d.inside refl)
 
-  others-long : length others ≡ m
-  others-long = omega (arith, inserted_length b k others, ap length back, ordered_length b n)
+  others_long : length others ≡ m
+  others_long = omega (arith, inserted_length b k others, ap length back, ordered_length b n)
 
   -- k taken out: r lists the others in the first n - 1 places
-  module _ (r : List ℕ) (e : r ≡ taken_out m p l) where
+  module _ (r : List ℕ) (e : r ≡ taken_out_lem m p l) where
     moved_up : r ≡ others ++ drop m l
-    moved_up = e ∙ ap (λ t. t ++ drop m l) (ap (take m) left_out_lem ∙ take_at others zeros m others-long)
+    moved_up = e ∙ ap (λ t. t ++ drop m l) (ap (take m) left_out_lem ∙ take_at others zeros m others_long)
 
-    pub others-room : m < length r
-    others-room = rw moved_up (omega (arith, length-append others (drop m l), others-long, length-drop m l, listed-long, d.inside, d.high))
+    pub others_room : m < length r
+    others_room = rw moved_up (omega (arith, length-append others (drop m l), others_long, length-drop m l, listed_long, d.inside, d.high))
 
-    others-front : take m r ≡ others
-    others-front = ap (take m) moved_up ∙ take_at others (drop m l) m others-long
+    others_front : take m r ≡ others
+    others_front = ap (take m) moved_up ∙ take_at others (drop m l) m others_long
 
     rest : drop (m + 1) r ≡ zeros
     rest =
         let f : m + 1 ≡ n = omega (arith, d.inside) in
-        ap (drop (m + 1)) moved_up ∙ ap (λ i. drop (i + 1) (others ++ drop m l)) (sym others-long) ∙ drop-append-add others (drop m l) 1
-        ∙ drop-drop 1 m l ∙ ap (λ i. drop i l) f ∙ ap (drop n) d.listed ∙ drop_at old zeros n old-long
+        ap (drop (m + 1)) moved_up ∙ ap (λ i. drop (i + 1) (others ++ drop m l)) (sym others_long) ∙ drop-append-add others (drop m l) 1
+        ∙ drop-drop 1 m l ∙ ap (λ i. drop i l) f ∙ ap (drop n) d.listed ∙ drop_at old zeros n old_long
 
-    pub others-listed : (q : ℕ) → q < m → Other n k (get_or r q 0)
-    others-listed = front-all m r others others-front others-long (Other n k)
+    pub others_listed : (q : ℕ) → q < m → Other n k (get_or r q 0)
+    others_listed = front_all m r others others_front others_long (Other n k)
         (without_all (λ j. j < n) (Other n k) k (λ j u v. (u, v)) (ordered n b) (ordered_all (λ j. j < n) b n (λ j u. u)))
 
-    pub others-sorted : (q q' : ℕ) → q < q' → q' < m → b (get_or r q 0) (get_or r q' 0) ≡ true
-    others-sorted = front-sorted m r others others-front others-long b
+    pub others_sorted : (q q' : ℕ) → q < q' → q' < m → b (get_or r q 0) (get_or r q' 0) ≡ true
+    others_sorted = front_sorted m r others others_front others_long b
         (without_sorted b k (ordered n b) (ordered_sorted n b d.now n (omega arith)))
 
     -- and put in at place q, where it stands now
-    pub put-again : (q : ℕ) (r' : List ℕ) → q ≤ m → ((p : ℕ) → p < q → b (get_or r p 0) k ≡ true)
+    pub put_again : (q : ℕ) (r' : List ℕ) → q ≤ m → ((p : ℕ) → p < q → b (get_or r p 0) k ≡ true)
         → ((p : ℕ) → q ≤ p → p < m → b k (get_or r p 0) ≡ true) → r' ≡ put_in q k (take m r) ++ drop (m + 1) r → r' ≡ order_in w b n
-    put-again q r' h early late f = f ∙ rw (
-      ← put-in d.now k d.inside m r others-listed (omega (arith, others-room)) q h early late,
+    put_again q r' h early late f = f ∙ rw (
+      ← put_in_lem d.now k d.inside m r others_listed (omega (arith, others_room)) q h early late,
       rest,
-      others-front,
+      others_front,
       back,
     ) refl
 

@@ -26,8 +26,8 @@ use Rattle.moves.specs.Moves.{refusal_number}
 use Rattle.moves.specs.declared.Refusal.{Refusal}
 use Rattle.moves.specs.declared.Refusal.TheVariants.{Accepted, TooManyLines}
 use Rattle.schedule.specs.Tables.{Tables, tables}
-use Rattle.schedule.specs.Lines.{line_read, next_line, header_said, header_read, line_call}
-use Rattle.schedule.specs.Sessions.{Session, session, Served, ended, step_line}
+use Rattle.schedule.specs.Lines.{line_read_lem, next_line, header_said, header_read, line_call}
+use Rattle.schedule.specs.Sessions.{Session, session, Served, ended, step_line_lem}
 use Rattle.schedule.specs.Files.{step_lines, refusal_line, printed, run_lines, file_report}
 use Rattle.schedule.specs.Scans.{scan_lines}
 use Rattle.schedule.specs.Before.{as_states, Followed, ScansAsBefore}
@@ -52,10 +52,10 @@ abbrev shown : Call → Machine.Answer Labels.Label → Lists.List ℕ
 shown c a = printed c.line a.refusal (bytes_of a.report)
 
 -- a line that is a step when it follows others is one by itself
-read_step : (lines : ℕ) (l : Lists.List ℕ) (station code job : ℕ) → next_line lines l ≡ Step station code job → line_read l ≡ Step station code job
+read_step : (lines : ℕ) (l : Lists.List ℕ) (station code job : ℕ) → next_line lines l ≡ Step station code job → line_read_lem l ≡ Step station code job
 read_step lines l station code job = go (ltb 1000000 lines)
   where
-    go : (b : Bool) → cond b (Refused TooManyLines) (line_read l) ≡ Step station code job → line_read l ≡ Step station code job
+    go : (b : Bool) → cond b (Refused TooManyLines) (line_read_lem l) ≡ Step station code job → line_read_lem l ≡ Step station code job
     go true e = let z : ◌≡◌ {A = ℕ} 0 1 = cc in absurd (omega arith)
     go false e = e
 
@@ -63,10 +63,10 @@ module _ (n : ℕ) where
   abbrev answered : Bool → State Labels.Label → Call → Machine.Answer Labels.Label
   answered y s c = step (board_of y) n (digits original n) s c
 
-  shown-whole : (y : Bool) (s : State Labels.Label) (lines station code job : ℕ) → let c = line_call original lines station code job in
+  shown_whole : (y : Bool) (s : State Labels.Label) (lines station code job : ℕ) → let c = line_call original lines station code job in
       let x = shown c (answered y s c) in Strikes x (scan_lines x)
   unfolding step
-  shown-whole y s lines station code job = go (eqb a.refusal 0)
+  shown_whole y s lines station code job = go (eqb a.refusal 0)
     where
       a : Machine.Answer Labels.Label
       a = answered y s (line_call original lines station code job)
@@ -77,8 +77,8 @@ module _ (n : ℕ) where
 
   -- THE RUN OF LINES on a board of states, from the state s on
 
-  abbrev reportFrom : Bool → ℕ → State Labels.Label → Lists.List (Lists.List ℕ) → Lists.List ℕ
-  reportFrom y lines s ls = (run_lines (tables (as_states (board_of y))) (session lines Accepted (stated n s)) ls).bytes
+  abbrev report_from : Bool → ℕ → State Labels.Label → Lists.List (Lists.List ℕ) → Lists.List ℕ
+  report_from y lines s ls = (run_lines (tables (as_states (board_of y))) (session lines Accepted (stated n s)) ls).bytes
 
   module _ (y : Bool) (lines : ℕ) (s : State Labels.Label) (l : Lists.List ℕ) (ls : Lists.List (Lists.List ℕ)) where
     abbrev F : Form
@@ -87,42 +87,42 @@ module _ (n : ℕ) where
     abbrev start : Session Stated
     start = session lines Accepted (stated n s)
 
-    line_read_lem : (w : Line) → next_line lines l ≡ w → let o = step_line (tables F) start w in
-        reportFrom y lines s (l ∷ ls) ≡ printed (lines + 1) o.refusal o.bytes ++ (run_lines (tables F) o.session ls).bytes
+    line_read_lem : (w : Line) → next_line lines l ≡ w → let o = step_line_lem (tables F) start w in
+        report_from y lines s (l ∷ ls) ≡ printed (lines + 1) o.refusal o.bytes ++ (run_lines (tables F) o.session ls).bytes
     line_read_lem w e = ap (λ (o : Served Stated). o.bytes) (run_on (tables F) start l ls refl)
         ∙ ap (λ (o : Served Stated). printed (lines + 1) o.refusal o.bytes ++ (run_lines (tables F) o.session ls).bytes)
         (serve_next (tables F) start l refl refl w e)
 
-    line_refused : (r : Refusal) → next_line lines l ≡ Refused r → reportFrom y lines s (l ∷ ls) ≡ printed (lines + 1) (refusal_number r) []
+    line_refused : (r : Refusal) → next_line lines l ≡ Refused r → report_from y lines s (l ∷ ls) ≡ printed (lines + 1) (refusal_number r) []
     line_refused r e = line_read_lem (Refused r) e
         ∙ ap (λ (o : Served Stated). printed (lines + 1) (refusal_number r) [] ++ o.bytes) (final_run (tables F) (ended start r) ls (next_refused lines l r e))
         ∙ append-nil (printed (lines + 1) (refusal_number r) [])
 
     line_step : (station code job : ℕ) → next_line lines l ≡ Step station code job → let c = line_call original lines station code job in
-        (a : Machine.Answer Labels.Label) → answered y s c ≡ a → reportFrom y lines s (l ∷ ls) ≡ shown c a ++ reportFrom y (lines + 1) a.state ls
+        (a : Machine.Answer Labels.Label) → answered y s c ≡ a → report_from y lines s (l ∷ ls) ≡ shown c a ++ report_from y (lines + 1) a.state ls
     line_step station code job e a h =
         let c = line_call original lines station code job in
         line_read_lem (Step station code job) e
         ∙ ap (λ (u : TableAnswer Stated). printed (lines + 1) u.refusal (bytes_of u.report)
         ++ (run_lines (tables F) (session (lines + 1) Accepted u.table) ls).bytes) (step_written F (stated n s) c refl)
-        ∙ ap (λ (a : Machine.Answer Labels.Label). shown c a ++ reportFrom y (lines + 1) a.state ls) h
+        ∙ ap (λ (a : Machine.Answer Labels.Label). shown c a ++ report_from y (lines + 1) a.state ls) h
 
   -- BOTH BOARDS have the same scans of some lines, the original one from the state s and document 01's from s'
   abbrev Agree : ℕ → State Labels.Label → State Labels.Label → Lists.List (Lists.List ℕ) → Type 0
-  Agree lines s s' ls = scan_lines (reportFrom false lines s ls) ≡ scan_lines (reportFrom true lines s' ls)
+  Agree lines s s' ls = scan_lines (report_from false lines s ls) ≡ scan_lines (report_from true lines s' ls)
 
   module _ (lines : ℕ) (l : Lists.List ℕ) (ls : Lists.List (Lists.List ℕ)) where
-    agree-refused : (s s' : State Labels.Label) (r : Refusal) → next_line lines l ≡ Refused r → Agree lines s s' (l ∷ ls)
-    agree-refused s s' r e = ap scan_lines (line_refused false lines s l ls r e ∙ sym (line_refused true lines s' l ls r e))
+    agree_refused : (s s' : State Labels.Label) (r : Refusal) → next_line lines l ≡ Refused r → Agree lines s s' (l ∷ ls)
+    agree_refused s s' r e = ap scan_lines (line_refused false lines s l ls r e ∙ sym (line_refused true lines s' l ls r e))
 
     -- a call that both boards answer alike
     agree_same : (s : State Labels.Label) (station code job : ℕ) → next_line lines l ≡ Step station code job → let c = line_call original lines station code job in
         answered true s c ≡ answered false s c → ((s' : State Labels.Label) → Agree (lines + 1) s' s' ls) → Agree lines s s (l ∷ ls)
     agree_same s station code job e h same =
         ap scan_lines (line_step false lines s l ls station code job e a refl)
-        ∙ scans_behind (reportFrom false (lines + 1) a.state ls) whole
+        ∙ scans_behind (report_from false (lines + 1) a.state ls) whole
         ∙ ap (λ y. scan_lines (shown c a) ++ y) (same a.state)
-        ∙ sym (scans_behind (reportFrom true (lines + 1) a.state ls) whole)
+        ∙ sym (scans_behind (report_from true (lines + 1) a.state ls) whole)
         ∙ sym (ap scan_lines (line_step true lines s l ls station code job e a h))
       where
         c : Call
@@ -132,21 +132,21 @@ module _ (n : ℕ) where
         a = answered false s c
 
         whole : Strikes (shown c a) (scan_lines (shown c a))
-        whole = shown-whole false s lines station code job
+        whole = shown_whole false s lines station code job
 
     -- the begin of a scan prints nothing
-    agree-begin : (s : State Labels.Label) (station code job : ℕ) → next_line lines l ≡ Step station code job
+    agree_begin : (s : State Labels.Label) (station code job : ℕ) → next_line lines l ≡ Step station code job
         → (x : Scans n (digits original n) s (line_call original lines station code job)) → Agree (lines + 1) x.scanned x.begun ls → Agree lines s s (l ∷ ls)
     unfolding report_lines
-    agree-begin s station code job e x rest =
+    agree_begin s station code job e x rest =
         ap scan_lines (line_step false lines s l ls station code job e _ x.scans) ∙ rest
         ∙ sym (ap scan_lines (line_step true lines s l ls station code job e _ x.begins))
 
     -- the line after it is refused by 4 where the scan is done, and prints nothing where its snap is due; past the last line allowed both refuse it by 12
-    agree-snap : (s : State Labels.Label) (c : Call) (x : Scans n (digits original n) s c) → line_read l ≡ Step c.station 3 0
+    agree_snap : (s : State Labels.Label) (c : Call) (x : Scans n (digits original n) s c) → line_read_lem l ≡ Step c.station 3 0
         → Agree (lines + 1) x.scanned x.scanned ls → Agree lines x.scanned x.begun (l ∷ ls)
     unfolding report_lines
-    agree-snap s c x e rest = go (ltb 1000000 lines) refl
+    agree_snap s c x e rest = go (ltb 1000000 lines) refl
       where
         d : Call
         d = line_call original lines c.station 3 0
@@ -155,10 +155,10 @@ module _ (n : ℕ) where
         snap = record { code = refl; station = refl; job = refl }
 
         report : Lists.List ℕ
-        report = reportFrom false (lines + 1) x.scanned ls
+        report = report_from false (lines + 1) x.scanned ls
 
         go : (b : Bool) → ltb 1000000 lines ≡ b → Agree lines x.scanned x.begun (l ∷ ls)
-        go true b = agree-refused x.scanned x.begun TooManyLines (rw b refl)
+        go true b = agree_refused x.scanned x.begun TooManyLines (rw b refl)
         go false b =
             let next : next_line lines l ≡ Step c.station 3 0 = rw b e in
             ap scan_lines (line_step false lines x.scanned l ls c.station 3 0 next _ (x.turned d snap))
@@ -167,29 +167,29 @@ module _ (n : ℕ) where
             ∙ sym (ap scan_lines (line_step true lines x.begun l ls c.station 3 0 next _ (x.snaps d snap)))
 
     -- any line, where the lines after it agree from one state, and from the two that the begin of a scan leaves
-    agree-line : (s : State Labels.Label) → ((s' : State Labels.Label) → Agree (lines + 1) s' s' ls)
-        → ((c : Call) → line_read l ≡ Step c.station 2 c.job → (x : Scans n (digits original n) s c) → Agree (lines + 1) x.scanned x.begun ls)
+    agree_line : (s : State Labels.Label) → ((s' : State Labels.Label) → Agree (lines + 1) s' s' ls)
+        → ((c : Call) → line_read_lem l ≡ Step c.station 2 c.job → (x : Scans n (digits original n) s c) → Agree (lines + 1) x.scanned x.begun ls)
         → Agree lines s s (l ∷ ls)
-    agree-line s same begun = go (next_line lines l) refl
+    agree_line s same begun = go (next_line lines l) refl
       where
         step_line_lem : (station code job : ℕ) → next_line lines l ≡ Step station code job → let c = line_call original lines station code job in
             (answered true s c ≡ answered false s c) ⊎ Scans n (digits original n) s c → Agree lines s s (l ∷ ls)
         step_line_lem station code job e (inl h) = agree_same s station code job e h same
         step_line_lem station code job e (inr x) =
-            let read : line_read l ≡ Step station 2 job = read_step lines l station code job e ∙ ap (λ k. Step station k job) x.code in
-            agree-begin s station code job e x (begun (line_call original lines station code job) read x)
+            let read : line_read_lem l ≡ Step station 2 job = read_step lines l station code job e ∙ ap (λ k. Step station k job) x.code in
+            agree_begin s station code job e x (begun (line_call original lines station code job) read x)
 
         go : (w : Line) → next_line lines l ≡ w → Agree lines s s (l ∷ ls)
-        go (Refused r) e = agree-refused s s r e
+        go (Refused r) e = agree_refused s s r e
         go (Step station code job) e = step_line_lem station code job e (same_or_scans n (digits original n) s (line_call original lines station code job))
 
   -- ALL LINES, by one or by two
   agree : (ls : Lists.List (Lists.List ℕ)) → Followed ls → (lines : ℕ) (s : State Labels.Label) → Agree lines s s ls
   unfolding run_lines
   agree [] f lines s = refl
-  agree (l ∷ []) f lines s = agree-line lines l [] s (agree [] tt (lines + 1)) (λ c e x. absurd (f.0 c.station c.job e))
-  agree (l ∷ (m ∷ ms)) f lines s = agree-line lines l (m ∷ ms) s (agree (m ∷ ms) f.1 (lines + 1))
-      (λ c e x. agree-snap (lines + 1) m ms s c x (f.0 c.station c.job e) (agree ms f.1.1 (lines + 1 + 1) x.scanned))
+  agree (l ∷ []) f lines s = agree_line lines l [] s (agree [] tt (lines + 1)) (λ c e x. absurd (f.0 c.station c.job e))
+  agree (l ∷ (m ∷ ms)) f lines s = agree_line lines l (m ∷ ms) s (agree (m ∷ ms) f.1 (lines + 1))
+      (λ c e x. agree_snap (lines + 1) m ms s c x (f.0 c.station c.job e) (agree ms f.1.1 (lines + 1 + 1) x.scanned))
 
 pub as_states_lawful : Lawful (as_states original)
 as_states_lawful = record { proper = original_proper; counted = λ n s. refl; held = λ n z s r. refl; passes = λ n z s r. refl }
@@ -212,7 +212,7 @@ scans_as_before F L same bs f = ap scan_lines (same_report F (as_states original
     said (Step station code job) = refl
 
     also : {h : Header} → header_read original (take 18 bs) ≡ h → header_read apart (take 18 bs) ≡ h
-    also e = unfold header_read in said (line_read (take 18 bs)) ∙ unfold header_read in e
+    also e = unfold header_read in said (line_read_lem (take 18 bs)) ∙ unfold header_read in e
 
     go : (h : Header) → header_read original (take 18 bs) ≡ h → scan_lines (file_report now bs) ≡ scan_lines (file_report before bs)
     go (Headers.Refused r) e = ap scans (file_refused now bs r e) ∙ sym (ap scans (file_refused before bs r (also e)))

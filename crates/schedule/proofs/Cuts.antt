@@ -21,27 +21,27 @@ pub behind_twice : {T : Type 0} (a b : Lists.List ℕ) (o : Served T) → behind
 behind_twice a b o = ap (λ x. record { session = o.session; refusal = o.refusal; bytes = x }) (sym (append_assoc a b o.bytes))
 
 module _ (T : Tables) where
-  run-final : (s : Session T.Table) (ls : Lists.List (Lists.List ℕ)) → is_final s ≡ true → run_lines T s ls ≡ unmoved s
-  run-final s ls e = final_run T s ls (λ z. true≢false (sym e ∙ rw (eq-eqb (refusal_number s.refusal) 0 z) refl))
+  run_final : (s : Session T.Table) (ls : Lists.List (Lists.List ℕ)) → is_final s ≡ true → run_lines T s ls ≡ unmoved s
+  run_final s ls e = final_run T s ls (λ z. true≢false (sym e ∙ rw (eq-eqb (refusal_number s.refusal) 0 z) refl))
 
   -- the run of the lines ms behind an outcome
-  abbrev pub runOn : Served T.Table → Lists.List (Lists.List ℕ) → Served T.Table
-  runOn o ms = behind o.bytes (run_lines T o.session ms)
+  abbrev pub run_further : Served T.Table → Lists.List (Lists.List ℕ) → Served T.Table
+  run_further o ms = behind o.bytes (run_lines T o.session ms)
 
-  pub run-append : (ls ms : Lists.List (Lists.List ℕ)) (s : Session T.Table) → run_lines T s (ls ++ ms) ≡ runOn (run_lines T s ls) ms
+  pub run_append : (ls ms : Lists.List (Lists.List ℕ)) (s : Session T.Table) → run_lines T s (ls ++ ms) ≡ run_further (run_lines T s ls) ms
   unfolding run_lines
-  run-append [] ms s = refl
-  run-append (l ∷ ls) ms s = go (is_final s) refl (run-append ls ms)
+  run_append [] ms s = refl
+  run_append (l ∷ ls) ms s = go (is_final s) refl (run_append ls ms)
     where
-      go : (b : Bool) → is_final s ≡ b → ((s' : Session T.Table) → run_lines T s' (ls ++ ms) ≡ runOn (run_lines T s' ls) ms)
-          → run_lines T s (l ∷ (ls ++ ms)) ≡ runOn (run_lines T s (l ∷ ls)) ms
-      go true e ih = run-final s (l ∷ (ls ++ ms)) e ∙ sym (rw (run-final s (l ∷ ls) e) (run-final s ms e))
+      go : (b : Bool) → is_final s ≡ b → ((s' : Session T.Table) → run_lines T s' (ls ++ ms) ≡ run_further (run_lines T s' ls) ms)
+          → run_lines T s (l ∷ (ls ++ ms)) ≡ run_further (run_lines T s (l ∷ ls)) ms
+      go true e ih = run_final s (l ∷ (ls ++ ms)) e ∙ sym (rw (run_final s (l ∷ ls) e) (run_final s ms e))
       go false e ih =
           let o = serve_of T s l in
           let p = printed (s.lines + 1) o.refusal o.bytes in
           let r = run_lines T o.session ls in
           run_on T s l (ls ++ ms) e ∙ ap (behind p) (ih o.session) ∙ behind_twice p r.bytes (run_lines T r.session ms)
-          ∙ sym (ap (λ x. runOn x ms) (run_on T s l ls e))
+          ∙ sym (ap (λ x. run_further x ms) (run_on T s l ls e))
 
 -- BYTES IN TWO GROUPS, the first of whole lines
 

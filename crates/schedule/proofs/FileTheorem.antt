@@ -80,9 +80,9 @@ module _ {T : Tables} {n : ℕ} (K : Lead T n) (look : TableAnswer T.Table → S
           ∙ ap (λ i. (here ++ others) ++ printed i (refusal_number (ending (s.lines + 1) ls)) []) line
 
   -- A FILE whose header is accepted
-  pub file-played : (bs : Lists.List ℕ) → header_read T.board (take 18 bs) ≡ Stations n
+  pub file_played : (bs : Lists.List ℕ) → header_read T.board (take 18 bs) ≡ Stations n
       → file_report T bs ≡ printed_calls (file_calls T.board bs) (map look (run_table T.step (T.fresh n) (file_calls T.board bs))) ++ end_printed T.board 1 (step_lines bs)
-  file-played bs e = ap (λ (o : Served T.Table). o.bytes) (file_served T bs n e)
+  file_played bs e = ap (λ (o : Served T.Table). o.bytes) (file_served T bs n e)
       ∙ played (step_lines bs) (session 1 Accepted (T.fresh n)) (fresh_live K 1)
 
 -- ROOM: a step line has that for all processes of 32 stations
@@ -101,28 +101,28 @@ lines_roomy B lines (l ∷ ls) = go (next_line lines l) (lines_roomy B (lines + 
 
 module _ (F : Form) (L : Lawful F) (n : ℕ) (z : Sized F.board n) where
   -- so none is refused by 7
-  pub never-short : (cs : Lists.List Call) → All (λ c. c.room ≡ Buffer (line_room F.board)) cs → (t : F.Table) → ReachedTable F n t
+  pub never_short : (cs : Lists.List Call) → All (λ c. c.room ≡ Buffer (line_room F.board)) cs → (t : F.Table) → ReachedTable F n t
       → All (λ a. a.refusal ≢ 7) (run_table (step_of F) t cs)
   unfolding run_table
-  never-short [] h t r = tt
-  never-short (c ∷ cs) h t r =
+  never_short [] h t r = tt
+  never_short (c ∷ cs) h t r =
       let f = table_refusals F L n z t r c in
-      (λ e. tf (enough f.0.shown f.1) (f.2.short e), never-short cs h.1 (step_of F t c).table (table_step F L n z t r c))
+      (λ e. tf (enough f.0.shown f.1) (f.2.short e), never_short cs h.1 (step_of F t c).table (table_step F L n z t r c))
     where
       enough : (k : ℕ) → k ≤ n → holds c.room k ≡ true
       enough k l = ap (λ r. holds r k) h.0 ∙ le-leb (k * 29) (line_room F.board) (omega (arith, z.high))
 
   -- what is printed, as it is seen
-  file-seen : (bs : Lists.List ℕ) → header_read F.board (take 18 bs) ≡ Stations n → let cs = file_calls F.board bs in
+  file_seen : (bs : Lists.List ℕ) → header_read F.board (take 18 bs) ≡ Stations n → let cs = file_calls F.board bs in
       file_report (tables F) bs ≡ printed_calls cs (map (seen_in F) (run_table (step_of F) (fresh_table F n) cs)) ++ end_printed F.board 1 (step_lines bs)
-  file-seen = file-played (lead F L n z) (seen_in F) (λ a. refl) (λ a. refl)
+  file_seen = file_played (lead F L n z) (seen_in F) (λ a. refl) (λ a. refl)
 
 -- DEMAND 3 OF A FILE, for every list of bytes whose header is accepted
 pub file_demand : (F : Form) → Lawful F → (bs : Lists.List ℕ) (n : ℕ) → header_read F.board (take 18 bs) ≡ Stations n → FileDemand F bs n
 file_demand F L bs n e = record {
   demand = d;
-  report = file-seen F L n z bs e ∙ ap (λ x. printed_calls cs x ++ end_printed F.board 1 (step_lines bs)) d.same;
-  never7 = never-short F L n z cs (lines_roomy F.board 1 (step_lines bs)) (fresh_table F n) (table_fresh F L n z);
+  report = file_seen F L n z bs e ∙ ap (λ x. printed_calls cs x ++ end_printed F.board 1 (step_lines bs)) d.same;
+  never7 = never_short F L n z cs (lines_roomy F.board 1 (step_lines bs)) (fresh_table F n) (table_fresh F L n z);
 }
   where
     z : Sized F.board n
@@ -146,9 +146,9 @@ same_report F G L M same bs = go (header_read F.board (take 18 bs)) refl
       where
         refused : (F : Form) → header_read F.board (take 18 bs) ≡ Headers.Refused r → file_report (tables F) bs ≡ refusal_line 1 (refusal_number r)
         refused F e = ap (λ (o : Served F.Table). o.bytes) (file_refused (tables F) bs r e)
-    go (Stations n) e = file-seen F L n z bs e ∙ ap (shown F.board) (same_seen F G L M same n z (file_calls F.board bs))
+    go (Stations n) e = file_seen F L n z bs e ∙ ap (shown F.board) (same_seen F G L M same n z (file_calls F.board bs))
         ∙ ap (λ B. shown B (map (seen_in G) (run_table (step_of G) (fresh_table G n) (file_calls B bs)))) same
-        ∙ sym (file-seen G M n (header_stations G.board (take 18 bs) (proper_some M.proper) n (also e)) bs (also e))
+        ∙ sym (file_seen G M n (header_stations G.board (take 18 bs) (proper_some M.proper) n (also e)) bs (also e))
       where
         z : Sized F.board n
         z = header_stations F.board (take 18 bs) (proper_some L.proper) n e

@@ -95,9 +95,9 @@ known_small x h = ⊎_elim
 
 module _ (F : Form) (L : Lawful F) (n : ℕ) (z : Sized F.board n) where
   -- of what a call prints, the lines of scans are what it writes
-  strikes-call : (t : F.Table) → ReachedTable F n t → (c : Call) → let a = step_of F t c in
+  strikes_call : (t : F.Table) → ReachedTable F n t → (c : Call) → let a = step_of F t c in
       Strikes (printed c.line a.refusal (bytes_of a.report)) (bytes_of a.report)
-  strikes-call t r c = go (eqb x 0) refl
+  strikes_call t r c = go (eqb x 0) refl
     where
       x : ℕ
       x = (step_of F t c).refusal
@@ -117,16 +117,16 @@ module _ (F : Form) (L : Lawful F) (n : ℕ) (z : Sized F.board n) where
           let s = strikes_line c.line x 0 0 0 (known_small x (table_refusals F L n z t r c).2.known) in
           rw (none (eqb-false x 0 e)) (rw e at s)
 
-  strikes-calls : (cs : Lists.List Call) (t : F.Table) → ReachedTable F n t
+  strikes_calls : (cs : Lists.List Call) (t : F.Table) → ReachedTable F n t
       → Strikes (printed_calls cs (map (seen_in F) (run_table (step_of F) t cs))) (lists (map (λ a. a.report) (run_table (step_of F) t cs)))
   unfolding printed_calls run_table lists
-  strikes-calls [] t r = strikes_none
-  strikes-calls (c ∷ cs) t r = strikes_append (strikes-call t r c) (strikes-calls cs (step_of F t c).table (table_step F L n z t r c))
+  strikes_calls [] t r = strikes_none
+  strikes_calls (c ∷ cs) t r = strikes_append (strikes_call t r c) (strikes_calls cs (step_of F t c).table (table_step F L n z t r c))
 
 -- THE REPORT OF A FILE all of whose lines are steps, without the lines of refusals
 pub lists_struck : (F : Form) → Lawful F → (bs : Lists.List ℕ) (n : ℕ) → header_read F.board (take 18 bs) ≡ Stations n
     → refusal_number (ending 1 (step_lines bs)) ≡ 0 → scan_lines (file_report (tables F) bs) ≡ file_lists F n bs
-lists_struck F L bs n e z = ap scan_lines report ∙ strikes_all (strikes-calls F L n size cs (fresh_table F n) (table_fresh F L n size))
+lists_struck F L bs n e z = ap scan_lines report ∙ strikes_all (strikes_calls F L n size cs (fresh_table F n) (table_fresh F L n size))
   where
     size : Sized F.board n
     size = header_stations F.board (take 18 bs) (proper_some L.proper) n e

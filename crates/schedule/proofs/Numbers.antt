@@ -33,12 +33,12 @@ use Rattle.schedule.specs.declared.Header.TheVariants.{Stations}
 
 module _ {T : Tables} {n : ℕ} (K : Lead T n) where
   -- the run of the lines ends with the refusal that reading them tells
-  run-ending : (ls : Lists.List (Lists.List ℕ)) (s : Session T.Table) → Live K s
+  run_ending : (ls : Lists.List (Lists.List ℕ)) (s : Session T.Table) → Live K s
       → (run_lines T s ls).refusal ≡ refusal_number (ending s.lines ls)
   unfolding run_lines ending
-  run-ending [] s v = ap refusal_number v.going
-  run-ending (l ∷ ls) s v =
-      rw (live_final K s v, live_serve K s v l) (go (next_line s.lines l) (next_numbered s.lines l) (run-ending ls))
+  run_ending [] s v = ap refusal_number v.going
+  run_ending (l ∷ ls) s v =
+      rw (live_final K s v, live_serve K s v l) (go (next_line s.lines l) (next_numbered s.lines l) (run_ending ls))
     where
       go : (w : Line) → Numbered w → ((s' : Session T.Table) → Live K s' → (run_lines T s' ls).refusal ≡ refusal_number (ending s'.lines ls))
           → (run_lines T (step_line T s w).session ls).refusal ≡ refusal_number (end_then w (ending (s.lines + 1) ls))
@@ -56,7 +56,7 @@ final_met F L same bs = ap (λ B. refusal_number (final_after (header_read B (ta
     go (Stations n) e =
         let K = lead F L n (header_stations F.board (take 18 bs) (proper_some L.proper) n e) in
         sym (ap (λ (o : Served F.Table). o.refusal) (file_served (tables F) bs n e)
-        ∙ run-ending K (step_lines bs) (session 1 Accepted (fresh_table F n)) (fresh_live K 1))
+        ∙ run_ending K (step_lines bs) (session 1 Accepted (fresh_table F n)) (fresh_live K 1))
 
 -- THE NUMBERS OF A FILE, for every list of bytes whose header is accepted and all of whose lines are steps
 pub file_numbers_lem : (F : Form) → Lawful F → F.board.whole ≡ false → (bs : Lists.List ℕ) (n : ℕ) → header_read F.board (take 18 bs) ≡ Stations n

@@ -33,10 +33,10 @@ module _ (T : Tables) where
 
   module _ (s : Session T.Table) where
     -- nothing follows a final refusal
-    pub final-run : (ls : Lists.List (Lists.List ℕ)) → refusal_number s.refusal ≢ 0 → run_lines T s ls ≡ unmoved s
+    pub final_run : (ls : Lists.List (Lists.List ℕ)) → refusal_number s.refusal ≢ 0 → run_lines T s ls ≡ unmoved s
     unfolding run_lines
-    final-run [] d = refl
-    final-run (l ∷ ls) d = rw (ne_eqb _ _ d) refl
+    final_run [] d = refl
+    final_run (l ∷ ls) d = rw (ne_eqb _ _ d) refl
 
     pub run_on : (l : Lists.List ℕ) (ls : Lists.List (Lists.List ℕ)) → is_final s ≡ false → let o = serve_of T s l in
         run_lines T s (l ∷ ls) ≡ behind (printed (s.lines + 1) o.refusal o.bytes) (run_lines T o.session ls)
@@ -44,46 +44,46 @@ module _ (T : Tables) where
     run_on l ls e = rw e refl
 
   -- what a step line prints
-  abbrev pub shownOf : T.Table → Call → Lists.List ℕ
-  shownOf t c = let a = T.step t c in printed c.line a.refusal (bytes_of a.report)
+  abbrev pub shown_of : T.Table → Call → Lists.List ℕ
+  shown_of t c = let a = T.step t c in printed c.line a.refusal (bytes_of a.report)
 
   -- one line, on a well-formed table
   module _ (s : Session T.Table) (l : Lists.List ℕ) (going : refusal_number s.refusal ≡ 0) (ok : T.well_formed s.table ≡ true) where
-    run-line : let o = step_line T s (next_line s.lines l) in
+    run_line : let o = step_line T s (next_line s.lines l) in
         run_lines T s (l ∷ [])
         ≡ record { session = o.session; refusal = refusal_number o.session.refusal; bytes = printed (s.lines + 1) o.refusal o.bytes }
     unfolding run_lines
-    run-line = rw (eq-eqb _ _ going, serve_next T s l going ok _ refl, append-nil) refl
+    run_line = rw (eq-eqb _ _ going, serve_next T s l going ok _ refl, append-nil) refl
 
-    pub run-refused : (r : Refusal) → next_line s.lines l ≡ Refused r
+    pub run_refused : (r : Refusal) → next_line s.lines l ≡ Refused r
         → run_lines T s (l ∷ [])
         ≡ record { session = ended s r; refusal = refusal_number r; bytes = printed (s.lines + 1) (refusal_number r) [] }
-    run-refused r e = run-line ∙ rw e refl
+    run_refused r e = run_line ∙ rw e refl
 
     pub run_step : (station code job : ℕ) → next_line s.lines l ≡ Step station code job → let c = line_call T.board s.lines station code job in
         run_lines T s (l ∷ [])
         ≡ record {
           session = session (s.lines + 1) s.refusal (T.step s.table c).table;
           refusal = refusal_number s.refusal;
-          bytes = shownOf s.table c;
+          bytes = shown_of s.table c;
         }
-    run_step station code job e = run-line ∙ rw e refl
+    run_step station code job e = run_line ∙ rw e refl
 
   -- A WHOLE FILE
 
   module _ (bs : Lists.List ℕ) where
     -- a header that is refused ends it
-    pub file-refused : (r : Refusal) → header_read T.board (take 18 bs) ≡ Headers.Refused r
+    pub file_refused : (r : Refusal) → header_read T.board (take 18 bs) ≡ Headers.Refused r
         → file_run T bs ≡ record { session = session 0 r (T.fresh (2 * T.board.per_station)); refusal = refusal_number r; bytes = refusal_line 1 (refusal_number r) }
     unfolding file_run
-    file-refused r e =
+    file_refused r e =
         let d = header_refused T.board (take 18 bs) r e in
-        rw (e, final-run (session 0 r (T.fresh (2 * T.board.per_station))) (step_lines bs) d, ne_eqb _ _ d, append-nil) refl
+        rw (e, final_run (session 0 r (T.fresh (2 * T.board.per_station))) (step_lines bs) d, ne_eqb _ _ d, append-nil) refl
 
     -- an accepted one prints nothing, and the lines after it run from the fresh table of its count
-    pub file-served : (n : ℕ) → header_read T.board (take 18 bs) ≡ Stations n → file_run T bs ≡ run_lines T (session 1 Accepted (T.fresh n)) (step_lines bs)
+    pub file_served : (n : ℕ) → header_read T.board (take 18 bs) ≡ Stations n → file_run T bs ≡ run_lines T (session 1 Accepted (T.fresh n)) (step_lines bs)
     unfolding file_run
-    file-served n e = rw e refl
+    file_served n e = rw e refl
 
 -- WHAT FOLLOWS THE HEADER
 

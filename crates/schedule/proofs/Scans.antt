@@ -65,19 +65,19 @@ module _ (line refusal place station job : ℕ) (small : refusal < 1000) where
   abbrev whole : Lists.List ℕ
   whole = report_line line refusal place station job
 
-  refusal-read : column_read (take 3 (drop 8 whole)) ≡ Value refusal
+  refusal_read : column_read (take 3 (drop 8 whole)) ≡ Value refusal
   unfolding report_line line_head line_tail
-  refusal-read = (column_iff (column 3 refusal) refusal (omega arith)).1 (refl, small)
+  refusal_read = (column_iff (column 3 refusal) refusal (omega arith)).1 (refl, small)
 
-  pub strikes-line : Strikes whole (cond (eqb refusal 0) whole [])
+  pub strikes_line : Strikes whole (cond (eqb refusal 0) whole [])
   unfolding lines_of_scans of_scan
-  strikes-line = record {
+  strikes_line = record {
     lines = 1;
     long = length_report_line line refusal place station job;
-    kept_are = rw (take_all 29 whole (omega (arith, length_report_line line refusal place station job)), refusal-read) (append-nil _);
+    kept_are = rw (take_all 29 whole (omega (arith, length_report_line line refusal place station job)), refusal_read) (append-nil _);
   }
 
 pub strikes_lines : (line from : ℕ) (l : Lists.List Entry) → Strikes (report_lines line from l) (report_lines line from l)
 unfolding report_lines
 strikes_lines line from [] = strikes_none
-strikes_lines line from (e ∷ l) = strikes_append (strikes-line line 0 from e.station e.job (omega arith)) (strikes_lines line (suc from) l)
+strikes_lines line from (e ∷ l) = strikes_append (strikes_line line 0 from e.station e.job (omega arith)) (strikes_lines line (suc from) l)

@@ -36,36 +36,36 @@ module _ (P : ℕ → Type 0) where
   Says (Step s k j) = Unit {0}
 
   module _ (eight : P 8) (nine : P 9) where
-    read-says : (x y z : Column) → Says (step_read x y z)
-    read-says Bad y z = nine
-    read-says (Value a) Bad z = nine
-    read-says (Value a) (Value b) Bad = nine
-    read-says (Value a) (Value b) (Value d) = tt
+    read_says : (x y z : Column) → Says (step_read x y z)
+    read_says Bad y z = nine
+    read_says (Value a) Bad z = nine
+    read_says (Value a) (Value b) Bad = nine
+    read_says (Value a) (Value b) (Value d) = tt
 
-    line-says : (l : Lists.List ℕ) → Says (line_read l)
+    line_says : (l : Lists.List ℕ) → Says (line_read l)
     unfolding line_read
-    line-says l = go (eqb (length l) 18 && eqb (get_or l 17 0) 10)
+    line_says l = go (eqb (length l) 18 && eqb (get_or l 17 0) 10)
       where
         columns : Line
         columns = step_read (column_read (take 3 l)) (column_read (take 3 (drop 3 l))) (column_read (take 11 (drop 6 l)))
 
         go : (b : Bool) → Says (cond b columns (Refused IncompleteLine))
-        go true = read-says (column_read (take 3 l)) (column_read (take 3 (drop 3 l))) (column_read (take 11 (drop 6 l)))
+        go true = read_says (column_read (take 3 l)) (column_read (take 3 (drop 3 l))) (column_read (take 11 (drop 6 l)))
         go false = eight
 
-    pub next-says : P 12 → (lines : ℕ) (l : Lists.List ℕ) → Says (next_line lines l)
-    next-says twelve lines l = go (ltb 1000000 lines)
+    pub next_says : P 12 → (lines : ℕ) (l : Lists.List ℕ) → Says (next_line lines l)
+    next_says twelve lines l = go (ltb 1000000 lines)
       where
         go : (b : Bool) → Says (cond b (Refused TooManyLines) (line_read l))
         go true = twelve
-        go false = line-says l
+        go false = line_says l
 
 -- it has a number
 abbrev pub Numbered : Line → Type 0
 Numbered = Says (λ k. k ≢ 0)
 
 line_numbered : (l : Lists.List ℕ) → Numbered (line_read l)
-line_numbered = line-says (λ k. k ≢ 0) (omega arith) (omega arith)
+line_numbered = line_says (λ k. k ≢ 0) (omega arith) (omega arith)
 
 -- a step has 18 bytes
 step_length : (l : Lists.List ℕ) (station code job : ℕ) → line_read l ≡ Step station code job → length l ≡ 18
@@ -80,22 +80,22 @@ step_length l station code job = go (eqb (length l) 18) refl
     go false e h = let z : ◌≡◌ {A = ℕ} 0 1 = cc in absurd (omega arith)
 
 module _ (lines : ℕ) (l : Lists.List ℕ) where
-  pub next-numbered : Numbered (next_line lines l)
-  next-numbered = next-says (λ k. k ≢ 0) (omega arith) (omega arith) (omega arith) lines l
+  pub next_numbered : Numbered (next_line lines l)
+  next_numbered = next_says (λ k. k ≢ 0) (omega arith) (omega arith) (omega arith) lines l
 
-  pub next-refused : (r : Refusal) → next_line lines l ≡ Refused r → refusal_number r ≢ 0
-  next-refused r e = subst Numbered e next-numbered
+  pub next_refused : (r : Refusal) → next_line lines l ≡ Refused r → refusal_number r ≢ 0
+  next_refused r e = subst Numbered e next_numbered
 
   -- a line that is a step is whole, and none too many
-  pub next-length : (station code job : ℕ) → next_line lines l ≡ Step station code job → length l ≡ 18
-  next-length station code job = go (ltb 1000000 lines)
+  pub next_length : (station code job : ℕ) → next_line lines l ≡ Step station code job → length l ≡ 18
+  next_length station code job = go (ltb 1000000 lines)
     where
       go : (b : Bool) → cond b (Refused TooManyLines) (line_read l) ≡ Step station code job → length l ≡ 18
       go true h = let z : ◌≡◌ {A = ℕ} 0 1 = cc in absurd (omega arith)
       go false h = step_length l station code job h
 
-  pub next-within : (station code job : ℕ) → next_line lines l ≡ Step station code job → lines ≤ 1000000
-  next-within station code job = go (ltb 1000000 lines) refl
+  pub next_within : (station code job : ℕ) → next_line lines l ≡ Step station code job → lines ≤ 1000000
+  next_within station code job = go (ltb 1000000 lines) refl
     where
       go : (b : Bool) → ltb 1000000 lines ≡ b → cond b (Refused TooManyLines) (line_read l) ≡ Step station code job → lines ≤ 1000000
       go true e h = let z : ◌≡◌ {A = ℕ} 0 1 = cc in absurd (omega arith)
@@ -123,20 +123,20 @@ said_sound B (Step k code job) d = go (eqb code 0) (sized B k) refl (eqb job 0)
     go true true q true = q
 
 module _ (B : Board) (l : Lists.List ℕ) where
-  header-sound : Sound B (header_read B l)
+  header_sound : Sound B (header_read B l)
   unfolding header_read
-  header-sound = said_sound B (line_read l) (line_numbered l)
+  header_sound = said_sound B (line_read l) (line_numbered l)
 
   pub header_refused : (r : Refusal) → header_read B l ≡ Headers.Refused r → refusal_number r ≢ 0
-  header_refused r e = subst (Sound B) e header-sound
+  header_refused r e = subst (Sound B) e header_sound
 
-  pub header-stations : 1 ≤ B.per_station → (n : ℕ) → header_read B l ≡ Stations n → Sized B n
-  header-stations some n e = sized_of some (subst (Sound B) e header-sound)
+  pub header_stations : 1 ≤ B.per_station → (n : ℕ) → header_read B l ≡ Stations n → Sized B n
+  header_stations some n e = sized_of some (subst (Sound B) e header_sound)
 
   -- and it is a whole line
-  pub header-length : (n : ℕ) → header_read B l ≡ Stations n → length l ≡ 18
+  pub header_length : (n : ℕ) → header_read B l ≡ Stations n → length l ≡ 18
   unfolding header_read
-  header-length n = go (line_read l) refl
+  header_length n = go (line_read l) refl
     where
       go : (w : Line) → line_read l ≡ w → header_said B w ≡ Stations n → length l ≡ 18
       go (Refused r) e h = let z : ◌≡◌ {A = ℕ} 0 1 = cc in absurd (omega arith)
@@ -144,11 +144,11 @@ module _ (B : Board) (l : Lists.List ℕ) where
 
 -- on the original board, 2 to 32
 pub original_stations : (l : Lists.List ℕ) (n : ℕ) → header_read original l ≡ Stations n → (2 ≤ n) × (n ≤ 32)
-original_stations l n e = let z = header-stations original l (omega arith) n e in (z.low, z.high)
+original_stations l n e = let z = header_stations original l (omega arith) n e in (z.low, z.high)
 
 -- a session that goes on behind its header has an accepted one
 pub header_accepted : (T : Tables) (l : Lists.List ℕ) → is_final (header_of T l) ≡ false → (n : ℕ) × (header_read T.board l ≡ Stations n)
-header_accepted T l = go (header_read T.board l) (header-sound T.board l)
+header_accepted T l = go (header_read T.board l) (header_sound T.board l)
   where
     go : (h : Header) → Sound T.board h → is_final (opened_by T h) ≡ false → (n : ℕ) × (h ≡ Stations n)
     go (Headers.Refused r) d e = absurd (true≢false (sym (rw (ne_eqb (refusal_number r) 0 d) refl) ∙ e))
@@ -162,18 +162,18 @@ pub serves_as : {T : Type 0} {o o' : Served T} {s : Session T} {refusal written 
 serves_as e h = rw e h
 
 module _ (T : Tables) (s : Session T.Table) (line : Lists.List ℕ) where
-  pub serve-final : refusal_number s.refusal ≢ 0 → serve_of T s line ≡ unmoved s
+  pub serve_final : refusal_number s.refusal ≢ 0 → serve_of T s line ≡ unmoved s
   unfolding serve_of
-  serve-final f = simp (ne_eqb _ _ f)
+  serve_final f = simp (ne_eqb _ _ f)
 
   module _ (none : refusal_number s.refusal ≡ 0) where
-    pub serve-ill-formed : T.well_formed s.table ≡ false → serve_of T s line ≡ ill_formed s
+    pub serve_ill_formed : T.well_formed s.table ≡ false → serve_of T s line ≡ ill_formed s
     unfolding serve_of
-    serve-ill-formed w = simp (eq-eqb _ _ none, w)
+    serve_ill_formed w = simp (eq-eqb _ _ none, w)
 
-    pub serve-next : T.well_formed s.table ≡ true → (l : Line) → next_line s.lines line ≡ l → serve_of T s line ≡ step_line T s l
+    pub serve_next : T.well_formed s.table ≡ true → (l : Line) → next_line s.lines line ≡ l → serve_of T s line ≡ step_line T s l
     unfolding serve_of
-    serve-next w l e = simp (eq-eqb _ _ none, w, e)
+    serve_next w l e = simp (eq-eqb _ _ none, w, e)
 
 -- A SESSION THAT GOES ON, on tables that calls lead to from the fresh one of n processes
 
@@ -200,16 +200,16 @@ pub record Live {T : Tables} {n : ℕ} (K : Lead T n) (s : Session T.Table) : Ty
   pub led : K.Led s.table
 
 module _ {T : Tables} {n : ℕ} (K : Lead T n) where
-  pub fresh-live : (lines : ℕ) → Live K (session lines Accepted (T.fresh n))
-  fresh-live lines = record { going = refl; led = K.first }
+  pub fresh_live : (lines : ℕ) → Live K (session lines Accepted (T.fresh n))
+  fresh_live lines = record { going = refl; led = K.first }
 
   module _ (s : Session T.Table) (v : Live K s) where
-    pub live-final : is_final s ≡ false
-    live-final = ap (λ (r : Refusal). not (eqb (refusal_number r) 0)) v.going
+    pub live_final : is_final s ≡ false
+    live_final = ap (λ (r : Refusal). not (eqb (refusal_number r) 0)) v.going
 
-    pub live-serve : (l : Lists.List ℕ) → serve_of T s l ≡ step_line T s (next_line s.lines l)
-    live-serve l = serve-next T s l (ap refusal_number v.going) (K.passes s.table v.led) (next_line s.lines l) refl
+    pub live_serve : (l : Lists.List ℕ) → serve_of T s l ≡ step_line T s (next_line s.lines l)
+    live_serve l = serve_next T s l (ap refusal_number v.going) (K.passes s.table v.led) (next_line s.lines l) refl
 
     -- a step keeps the session live
-    pub next-live : (c : Call) (lines : ℕ) → Live K (session lines s.refusal (T.step s.table c).table)
-    next-live c lines = record { going = v.going; led = K.next s.table v.led c }
+    pub next_live : (c : Call) (lines : ℕ) → Live K (session lines s.refusal (T.step s.table c).table)
+    next_live c lines = record { going = v.going; led = K.next s.table v.led c }

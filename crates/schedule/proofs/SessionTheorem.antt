@@ -44,22 +44,22 @@ module _ (T : Tables) where
 
   -- A FINAL REFUSAL
 
-  standing-stays : (z : Session T.Table) (x : ServedLine T.Table) → Gave x (unmoved z) → Stays z x
-  standing-stays z x s = record { session = s.session; number = s.number; count = s.count; report = s.report }
+  standing_stays : (z : Session T.Table) (x : ServedLine T.Table) → Gave x (unmoved z) → Stays z x
+  standing_stays z x s = record { session = s.session; number = s.number; count = s.count; report = s.report }
 
   -- every call on a session that has one, be it of the header or of a line, meets it
-  pub final-stays : (z : Session T.Table) → refusal_number z.refusal ≢ 0 → (xs : Lists.List (ServedLine T.Table)) → ServedBy T z xs → All (Stays z) xs
-  final-stays z f [] q = tt
-  final-stays z f (x ∷ xs) q =
+  pub final_stays : (z : Session T.Table) → refusal_number z.refusal ≢ 0 → (xs : Lists.List (ServedLine T.Table)) → ServedBy T z xs → All (Stays z) xs
+  final_stays z f [] q = tt
+  final_stays z f (x ∷ xs) q =
       let s : Gave x (unmoved z) = serves_as (sym (serve_final T z x.line f)) q.0 in
-      (standing-stays z x s, final-stays z f xs (go_on x xs s q.1))
+      (standing_stays z x s, final_stays z f xs (go_on x xs s q.1))
 
   -- every buffer keeps what was not written
-  lines-kept : (s : Session T.Table) (xs : Lists.List (ServedLine T.Table)) → ServedBy T s xs
+  lines_kept : (s : Session T.Table) (xs : Lists.List (ServedLine T.Table)) → ServedBy T s xs
       → All (λ x. x.buffer' ≡ over (take x.written x.buffer') x.buffer) xs
-  lines-kept s [] q = tt
-  lines-kept s (x ∷ xs) q =
-      (rest_kept (serve_of T s x.line).bytes x.buffer q.0.count q.0.report, lines-kept x.session xs q.1)
+  lines_kept s [] q = tt
+  lines_kept s (x ∷ xs) q =
+      (rest_kept (serve_of T s x.line).bytes x.buffer q.0.count q.0.report, lines_kept x.session xs q.1)
 
 -- THE STEP LINES are the calls, and behind them every call meets the final refusal r
 
@@ -92,7 +92,7 @@ module _ {T : Tables} {n : ℕ} (K : Lead T n) where
       go (Refused r) d y ih = record {
         answers = refl;
         counts = refl;
-        final = (standing-stays T (ended s r) x y, final-stays T (ended s r) d xs (go_on T x xs y q.1));
+        final = (standing_stays T (ended s r) x y, final_stays T (ended s r) d xs (go_on T x xs y q.1));
       }
       go (Step st k j) d y ih =
           let c = line_call T.board s.lines st k j in
@@ -124,13 +124,13 @@ ending_long lines (l ∷ ls) = go (next_line lines l) (next_says (λ k. k ≢ 7)
 
 module _ (F : Form) (L : Lawful F) where
   -- DEMAND 3 OF A SESSION whose header is accepted
-  pub session-demand : (header : Lists.List ℕ) (n : ℕ) → header_read F.board header ≡ Stations n → (xs : Lists.List (ServedLine F.Table))
+  pub session_demand : (header : Lists.List ℕ) (n : ℕ) → header_read F.board header ≡ Stations n → (xs : Lists.List (ServedLine F.Table))
       → ServedBy (tables F) (header_of (tables F) header) xs → SessionDemand F n xs
-  session-demand header n e xs q = record {
+  session_demand header n e xs q = record {
     demand = d;
     same = same;
     counted = r.counts ∙ same_counts F.board n (λ x. seen_in F (replied x)) (steps F.board xs) (unbounded F.board n d.advances (session_calls F.board xs)) same;
-    kept = lines-kept (tables F) (header_of (tables F) header) xs q;
+    kept = lines_kept (tables F) (header_of (tables F) header) xs q;
     never7 = subst (All Roomy) (take-append-drop (length (session_calls F.board xs)) xs) (all_append Roomy (steps F.board xs) (later F.board xs) short
         (all_weaken (λ x y k. ending_long 1 (map (λ x. x.line) xs) (sym y.number ∙ k)) (later F.board xs) r.final));
     final = r.final;

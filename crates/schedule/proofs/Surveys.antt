@@ -69,19 +69,19 @@ surveyed_start lines chunk =
 
 module _ {lines : ℕ} {chunk : Lists.List ℕ} {steps snaps at : ℕ} (f : Surveyed lines chunk steps snaps at) where
   -- the reading ends with r, and no step is left
-  pub surveyed-end : (r : Refusal) → (calls_from (lines + steps) chunk at ≡ []) × (ending (lines + steps) (lines_from chunk at) ≡ r)
+  pub surveyed_end : (r : Refusal) → (calls_from (lines + steps) chunk at ≡ []) × (ending (lines + steps) (lines_from chunk at) ≡ r)
       → Surveys lines chunk (record { refusal = r; steps = steps; snaps = snaps })
   unfolding passing
-  surveyed-end r e = record {
+  surveyed_end r e = record {
     refusal = sym (f.refusal ∙ e.1);
     steps = omega (arith, f.counted, ap length e.0);
     snaps = omega (arith, f.snapped, ap snap_calls e.0);
   }
 
   -- one step more
-  pub surveyed-more : {q : Request} → StepAt (lines + steps) chunk at q → {snaps' : ℕ} → snaps' ≡ snaps + one (eqb q.code 3)
+  pub surveyed_more : {q : Request} → StepAt (lines + steps) chunk at q → {snaps' : ℕ} → snaps' ≡ snaps + one (eqb q.code 3)
       → Surveyed lines chunk (steps + 1) snaps' (at + 18)
-  surveyed-more {q} g {snaps'} e =
+  surveyed_more {q} g {snaps'} e =
       let w = calls_step (lines + steps) chunk at f.within g in
       let same : lines + steps + 1 ≡ lines + (steps + 1) = omega arith in
       let low = one_few (eqb q.code 3) in
@@ -233,19 +233,19 @@ surveyed_header bs p {r} e steps next =
 -- A FILE behind an accepted header: its lines are read as one part
 module _ (bs : Lists.List ℕ) {l : Lists.List ℕ} (p : l ≡ take 18 bs) {n : ℕ} (e : header_read original l ≡ Stations n) {rest : Lists.List ℕ}
     (q : rest ≡ drop (length l) bs) where
-  pub header-told : header_read original (take 18 bs) ≡ Stations n
-  header-told = ap (header_read original) (sym p) ∙ e
+  pub header_told : header_read original (take 18 bs) ≡ Stations n
+  header_told = ap (header_read original) (sym p) ∙ e
 
-  pub calls-told : step_calls original 1 (lines_of rest) ≡ file_calls original bs
-  calls-told = ap (λ x. step_calls original 1 (lines_of x)) (q ∙ rest_after bs l p)
+  pub calls_told : step_calls original 1 (lines_of rest) ≡ file_calls original bs
+  calls_told = ap (λ x. step_calls original 1 (lines_of x)) (q ∙ rest_after bs l p)
 
   module _ {s : Survey} (f : Surveys 1 rest s) where
-    pub final-told : s.refusal ≡ final_of bs
-    final-told = f.refusal ∙ ap (λ x. ending 1 (lines_of x)) (q ∙ rest_after bs l p)
-        ∙ sym (ap (λ h. final_after h (step_lines bs)) header-told)
+    pub final_told : s.refusal ≡ final_of bs
+    final_told = f.refusal ∙ ap (λ x. ending 1 (lines_of x)) (q ∙ rest_after bs l p)
+        ∙ sym (ap (λ h. final_after h (step_lines bs)) header_told)
 
-    pub steps-told : s.steps ≡ length (file_calls original bs)
-    steps-told = f.steps ∙ ap length calls-told
+    pub steps_told : s.steps ≡ length (file_calls original bs)
+    steps_told = f.steps ∙ ap length calls_told
 
-    pub snaps-told : s.snaps ≡ snap_calls (file_calls original bs)
-    snaps-told = f.snaps ∙ ap snap_calls calls-told
+    pub snaps_told : s.snaps ≡ snap_calls (file_calls original bs)
+    snaps_told = f.snaps ∙ ap snap_calls calls_told

@@ -59,18 +59,18 @@ ServedBy T s (x ∷ xs) =
 
 module _ {T : Type 0} where
   -- the lines as step calls, and the final refusal
-  abbrev pub sessionCalls : Board → Lists.List (ServedLine T) → Lists.List Call
-  sessionCalls B xs = step_calls B 1 (map (λ x. x.line) xs)
+  abbrev pub session_calls : Board → Lists.List (ServedLine T) → Lists.List Call
+  session_calls B xs = step_calls B 1 (map (λ x. x.line) xs)
 
-  abbrev pub sessionEnding : Lists.List (ServedLine T) → Refusal
-  sessionEnding xs = ending 1 (map (λ x. x.line) xs)
+  abbrev pub session_ending : Lists.List (ServedLine T) → Refusal
+  session_ending xs = ending 1 (map (λ x. x.line) xs)
 
   -- those that are step calls, and those from the final refusal on
   abbrev pub steps : Board → Lists.List (ServedLine T) → Lists.List (ServedLine T)
-  steps B xs = take (length (sessionCalls B xs)) xs
+  steps B xs = take (length (session_calls B xs)) xs
 
   abbrev pub later : Board → Lists.List (ServedLine T) → Lists.List (ServedLine T)
-  later B xs = drop (length (sessionCalls B xs)) xs
+  later B xs = drop (length (session_calls B xs)) xs
 
   -- what the caller sees of a step line: the table, the refusal number, and the bytes that are counted
   abbrev pub replied : ServedLine T → TableAnswer T
@@ -92,14 +92,14 @@ pub record Stays {T : Type 0} (z : Session T) (x : ServedLine T) : Type 0 where
 -- sees of them, and their counts are of the bytes that it writes; every buffer keeps what was not written; no line is refused by 7 (01, "The schedule file
 -- and the report"); and all other calls meet the final refusal
 pub record SessionDemand (F : Form) (n : ℕ) (xs : Lists.List (ServedLine F.Table)) : Type 0 where
-  pub demand : Demand3 F n (sessionCalls F.board xs)
+  pub demand : Demand3 F n (session_calls F.board xs)
   pub same : map (λ x. seen_in F (replied x)) (steps F.board xs)
-      ≡ map (Machine.seen F.board n) (unbounded F.board n demand.advances (sessionCalls F.board xs))
+      ≡ map (Machine.seen F.board n) (unbounded F.board n demand.advances (session_calls F.board xs))
   pub counted : map (λ x. x.written) (steps F.board xs)
-      ≡ map (λ a. size a.report) (unbounded F.board n demand.advances (sessionCalls F.board xs))
+      ≡ map (λ a. size a.report) (unbounded F.board n demand.advances (session_calls F.board xs))
   pub kept : All (λ x. x.buffer' ≡ over (take x.written x.buffer') x.buffer) xs
   pub never7 : All (λ x. x.refusal ≢ 7) xs
-  pub final : All (Stays (ended (left (session 1 Accepted (fresh_table F n)) (steps F.board xs)) (sessionEnding xs))) (later F.board xs)
+  pub final : All (Stays (ended (left (session 1 Accepted (fresh_table F n)) (steps F.board xs)) (session_ending xs))) (later F.board xs)
 
 -- FILES: the report is what the unbounded table prints for the step lines, and then the line of the final refusal, if there is one
 

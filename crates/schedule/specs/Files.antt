@@ -38,19 +38,19 @@ behind bytes o = record { session = o.session; refusal = o.refusal; bytes = byte
 
 module _ (T : Tables) where
   -- the lines one after the other, up to a final refusal, with its number and all that they print
-  unfoldable pub runLines : Session T.Table → Lists.List (Lists.List ℕ) → Served T.Table
-  runLines s [] = unmoved s
-  runLines s (l ∷ ls) =
+  unfoldable pub run_lines : Session T.Table → Lists.List (Lists.List ℕ) → Served T.Table
+  run_lines s [] = unmoved s
+  run_lines s (l ∷ ls) =
       cond (is_final s) (unmoved s)
-      (let o = serve_of T s l in behind (printed (s.lines + 1) o.refusal o.bytes) (runLines o.session ls))
+      (let o = serve_of T s l in behind (printed (s.lines + 1) o.refusal o.bytes) (run_lines o.session ls))
 
   -- the header, then the lines after it
-  unfoldable pub fileRun : Lists.List ℕ → Served T.Table
-  fileRun bs = let s = header_of T (take 18 bs) in behind (header_printed s) (runLines s (step_lines bs))
+  unfoldable pub file_run : Lists.List ℕ → Served T.Table
+  file_run bs = let s = header_of T (take 18 bs) in behind (header_printed s) (run_lines s (step_lines bs))
 
   -- the bytes of the report, and the number of the file's final refusal, 0 if there is none
-  abbrev pub fileReport : Lists.List ℕ → Lists.List ℕ
-  fileReport bs = (fileRun bs).bytes
+  abbrev pub file_report : Lists.List ℕ → Lists.List ℕ
+  file_report bs = (file_run bs).bytes
 
-  abbrev pub fileRefusal : Lists.List ℕ → ℕ
-  fileRefusal bs = (fileRun bs).refusal
+  abbrev pub file_refusal : Lists.List ℕ → ℕ
+  file_refusal bs = (file_run bs).refusal

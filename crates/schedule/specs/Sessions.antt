@@ -53,26 +53,26 @@ ill_formed s = refused (session (cond (ltb s.lines 1000001) (s.lines + 1) s.line
 
 module _ (T : Tables) where
   -- the session that a header opens. 01 says nothing of the table behind a refused one: it is the fresh one of the fewest processes
-  abbrev pub openedBy : Header → Session T.Table
-  openedBy (Headers.Refused r) = session 0 r (T.fresh (2 * T.board.per_station))
-  openedBy (Stations n) = session 1 Accepted (T.fresh n)
+  abbrev pub opened_by : Header → Session T.Table
+  opened_by (Headers.Refused r) = session 0 r (T.fresh (2 * T.board.per_station))
+  opened_by (Stations n) = session 1 Accepted (T.fresh n)
 
-  abbrev pub headerOf : Lists.List ℕ → Session T.Table
-  headerOf line = openedBy (header_read T.board line)
+  abbrev pub header_of : Lists.List ℕ → Session T.Table
+  header_of line = opened_by (header_read T.board line)
 
   -- a step line on a well-formed table
-  abbrev pub stepLine : Session T.Table → Line → Served T.Table
-  stepLine s (Refused r) = stopped s r
-  stepLine s (Step station code job) =
+  abbrev pub step_line : Session T.Table → Line → Served T.Table
+  step_line s (Refused r) = stopped s r
+  step_line s (Step station code job) =
       let a = T.step s.table (line_call T.board s.lines station code job) in
       record { session = session (s.lines + 1) s.refusal a.table; refusal = a.refusal; bytes = bytes_of a.report }
 
   -- a line: the final refusal comes first, then 13, 12, 8, 9, and then what the step gives
-  unfoldable pub serveOf : Session T.Table → Lists.List ℕ → Served T.Table
-  serveOf s line =
+  unfoldable pub serve_of : Session T.Table → Lists.List ℕ → Served T.Table
+  serve_of s line =
       cond (is_final s) (unmoved s)
       (cond (not (T.well_formed s.table)) (ill_formed s)
-      (stepLine s (next_line s.lines line)))
+      (step_line s (next_line s.lines line)))
 
 -- what a call that serves a line hands back, the session, the refusal number and the count of bytes, and the report buffer that it leaves: all of it is
 -- what is specified

@@ -29,16 +29,16 @@ unread_keeps true s r = (refl, refl)
 unread_keeps false s r = (refl, refl)
 
 module _ (F : Form) (s : Session F.Table) (line : Lists.List ℕ) (none : refusal_number s.refusal ≡ 0) where
-  pub serve-unread : (r : Refusal) → next_line s.lines line ≡ Refused r → serve_of (tables F) s line ≡ cond (F.well_formed s.table) (stopped s r) (ill_formed s)
-  serve-unread r e = go (F.well_formed s.table) refl
+  pub serve_unread : (r : Refusal) → next_line s.lines line ≡ Refused r → serve_of (tables F) s line ≡ cond (F.well_formed s.table) (stopped s r) (ill_formed s)
+  serve_unread r e = go (F.well_formed s.table) refl
     where
       go : (b : Bool) → F.well_formed s.table ≡ b → serve_of (tables F) s line ≡ cond b (stopped s r) (ill_formed s)
       go true w = serve_next (tables F) s line none w (Refused r) e
       go false w = serve_ill_formed (tables F) s line none w
 
-  pub serve-step : (station code job : ℕ) → next_line s.lines line ≡ Step station code job → serve_of (tables F) s line ≡ step_line (tables F) s (Step station code job)
+  pub serve_step : (station code job : ℕ) → next_line s.lines line ≡ Step station code job → serve_of (tables F) s line ≡ step_line (tables F) s (Step station code job)
   unfolding report_lines
-  serve-step station code job e = go (F.well_formed s.table) refl
+  serve_step station code job e = go (F.well_formed s.table) refl
     where
       c : Call
       c = line_call F.board s.lines station code job

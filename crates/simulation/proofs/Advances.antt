@@ -16,17 +16,17 @@ use Rattle.simulation.specs.Numbered.{numbered, LabelSnap, met_by, met, label_sn
 
 -- one step of the labels: the advance comes to the number, and is used up
 module _ (n : ℕ) (l : Labelling ℕ) (v : ℕ) where
-  pub met-length : (w : LabelStep) → length (met n l w v) ≡ label_snap w
+  pub met_length : (w : LabelStep) → length (met n l w v) ≡ label_snap w
   unfolding met
-  met-length stay = refl
-  met-length (snap k) = refl
-  met-length (update k) = refl
-  met-length (whole k) = refl
+  met_length stay = refl
+  met_length (snap k) = refl
+  met_length (update k) = refl
+  met_length (whole k) = refl
 
-  advanced-snap : (most k : ℕ) (al : Lists.List ℕ) → Fit most (met_by n l k v)
+  advanced_snap : (most k : ℕ) (al : Lists.List ℕ) → Fit most (met_by n l k v)
       → pending_after n (numbers (advance (met_by n l k v))) l k ≡ pending_after n (numbered v) l k
   unfolding pending_after
-  advanced-snap most k al h =
+  advanced_snap most k al h =
       let z = newest n (stands (numbered v) l) in
       by_here (λ b. cond b (l true k) (l false z + cond b 1 (v - l false z)) ≡ cond b (l true k) v) z k
       (λ _. refl)
@@ -36,16 +36,16 @@ module _ (n : ℕ) (l : Labelling ℕ) (v : ℕ) where
       → relabelled n (numbers (get_or (map advance (met n l w v) ++ al) 0 0)) l w ≡ relabelled n (numbered v) l w
   unfolding met relabelled
   advanced most stay al h = refl
-  advanced most (snap k) al h = ap (put l k) (advanced-snap most k al h.0)
+  advanced most (snap k) al h = ap (put l k) (advanced_snap most k al h.0)
   advanced most (update k) al h = refl
-  advanced most (whole k) al h = ap (λ a. copy (put l k a) k) (advanced-snap most k al h.0)
+  advanced most (whole k) al h = ap (λ a. copy (put l k a) k) (advanced_snap most k al h.0)
 
-  used-up : (w : LabelStep) (al : Lists.List ℕ) → drop (label_snap w) (map advance (met n l w v) ++ al) ≡ al
+  used_up : (w : LabelStep) (al : Lists.List ℕ) → drop (label_snap w) (map advance (met n l w v) ++ al) ≡ al
   unfolding met
-  used-up stay al = refl
-  used-up (snap k) al = refl
-  used-up (update k) al = refl
-  used-up (whole k) al = refl
+  used_up stay al = refl
+  used_up (snap k) al = refl
+  used_up (update k) al = refl
+  used_up (whole k) al = refl
 
 -- the two ways to feed the machine differ in the labels left, if at all
 labels_tell : (B : Board) (n : ℕ) (s : State ℕ) (c : Call) (v a : ℕ) → let w = label_step (judge B n s.rest c) in
@@ -90,7 +90,7 @@ run_advances B n most (c ∷ cs) s ns h = go (run_advances B n most cs s' ns' h'
     split = map-append advance xs l
 
     rest : drop (label_snap w) al ≡ map advance l
-    rest = ap (drop (label_snap w)) split ∙ used-up n s.labels v w (map advance l)
+    rest = ap (drop (label_snap w)) split ∙ used_up n s.labels v w (map advance l)
 
     stepped : step B n (numbers (get_or al 0 0)) s c ≡ step B n (numbered v) s c
     stepped = labels_tell B n s c v (get_or al 0 0)
@@ -100,7 +100,7 @@ run_advances B n most (c ∷ cs) s ns h = go (run_advances B n most cs s' ns' h'
         → (step B n (numbers (get_or al 0 0)) s c ∷ run B n numbers (step B n (numbers (get_or al 0 0)) s c).state (drop (label_snap w) al) cs
         ≡ step B n (numbered v) s c ∷ run B n numbered s' ns' cs)
         × (label_snap w + snaps B n numbers (step B n (numbers (get_or al 0 0)) s c).state (drop (label_snap w) al) cs ≡ length (xs ++ l))
-    go (p, q) = rw (stepped, rest, p, q) (refl, sym (length-append xs l ∙ ap (λ t. t + length l) (met-length n s.labels v w)))
+    go (p, q) = rw (stepped, rest, p, q) (refl, sym (length-append xs l ∙ ap (λ t. t + length l) (met_length n s.labels v w)))
 
 pub advances_whole : (most : ℕ) (l : Lists.List LabelSnap) → All (Fit most) l → All (λ a. 1 ≤ a) (map advance l)
 advances_whole most = all_map (Fit most) (λ a. 1 ≤ a) advance (λ x h. go x h x.by_newest refl)

@@ -40,8 +40,8 @@ serial_fresh m fill high = record {
 
 module _ {m fill : ℕ} {l : Labelling Label} {N : Labelling ℕ} (s : Serial m fill l N) where
   -- an update changes nothing
-  pub serial-copy : (k : ℕ) → Serial m fill (copy l k) (copy N k)
-  serial-copy k = record {
+  pub serial_copy : (k : ℕ) → Serial m fill (copy l k) (copy N k)
+  serial_copy k = record {
     in_step = record {
       z = z;
       newest = record {
@@ -75,9 +75,9 @@ module _ {m fill : ℕ} {l : Labelling Label} {N : Labelling ℕ} (s : Serial m 
     top = N false s.in_step.z
 
     -- it is above every label of the others
-    above-current : (j : ℕ) → j ≤ m → j ≢ k → Lt m (l false j) new
+    above_current : (j : ℕ) → j ≤ m → j ≢ k → Lt m (l false j) new
     unfolding new_label
-    above-current j lj ne = above m (l false) (l false z) choice fill j (λ p. (omega arith, (s.in_step.digits false z lz p).1)) lj ne
+    above_current j lj ne = above m (l false) (l false z) choice fill j (λ p. (omega arith, (s.in_step.digits false z lz p).1)) lj ne
         (below_newest (suc m) m refl l N s.in_step j lj)
       where
         z : ℕ
@@ -89,17 +89,17 @@ module _ {m fill : ℕ} {l : Labelling Label} {N : Labelling ℕ} (s : Serial m 
         choice : Choice m (l false) (l false z) k (level m (l false) (l false z) k)
         choice = level_spec m (l false) (l false z) k z lk lz (λ e. d (sym e)) refl
 
-    pub above-all : (y : Bool) (j : ℕ) → j ≤ m → j ≢ k → Lt m (l y j) new
-    above-all false j lj ne = above-current j lj ne
-    above-all true j lj ne = rw (s.pending j lj) (above-current j lj ne)
+    pub above_all : (y : Bool) (j : ℕ) → j ≤ m → j ≢ k → Lt m (l y j) new
+    above_all false j lj ne = above_current j lj ne
+    above_all true j lj ne = rw (s.pending j lj) (above_current j lj ne)
 
     -- and its number above theirs
-    number-low : (y : Bool) (j : ℕ) → j ≤ m → N y j ≤ top
-    number-low false j lj = s.in_step.newest.highest j lj
-    number-low true j lj = omega (arith, s.pending# j lj, s.in_step.newest.highest j lj)
+    number_low : (y : Bool) (j : ℕ) → j ≤ m → N y j ≤ top
+    number_low false j lj = s.in_step.newest.highest j lj
+    number_low true j lj = omega (arith, s.pending# j lj, s.in_step.newest.highest j lj)
 
     beside : (y : Bool) (j : ℕ) → j ≤ m → j ≢ k → Sync m (l y j) (bump top (N y j)) new (suc top)
-    beside y j lj ne = less (above-all y j lj ne) (rw (bump_low (number-low y j lj)) (omega (arith, number-low y j lj)))
+    beside y j lj ne = less (above_all y j lj ne) (rw (bump_low (number_low y j lj)) (omega (arith, number_low y j lj)))
 
     abbrev labels' : Labelling Label
     labels' = copy (put l k new) k
@@ -109,18 +109,18 @@ module _ {m fill : ℕ} {l : Labelling Label} {N : Labelling ℕ} (s : Serial m 
 
     -- of process i, by whether it is k
     number_at : (P : ℕ → Type 0) (i : ℕ) → i ≤ m → (i ≡ k → P (suc top)) → (i ≢ k → P (N false i)) → P (numbers' false i)
-    number_at P i li f g = by_here (λ b. P (cond (b && b) (suc top) (bump top (N b i)))) k i f (λ e. subst P (sym (bump_low (number-low false i li))) (g e))
+    number_at P i li f g = by_here (λ b. P (cond (b && b) (suc top) (bump top (N b i)))) k i f (λ e. subst P (sym (bump_low (number_low false i li))) (g e))
 
-    pub serial-whole : Sits (suc m) N top (Slot.after top) × Serial m fill labels' numbers'
-    serial-whole = (
+    pub serial_whole : Sits (suc m) N top (Slot.after top) × Serial m fill labels' numbers'
+    serial_whole = (
       (le_refl top, λ b h. h false s.in_step.z (omega (arith, s.in_step.newest.station))),
       record {
         in_step = record {
           z = k;
           newest = record {
             station = lk;
-            highest = λ i li. rw here (number_at (λ x. x ≤ suc top) i li (λ _. le_refl (suc top)) (λ _. omega (arith, number-low false i li)));
-            last = λ i li. rw here (number_at (λ x. x ≡ suc top → i ≤ k) i li (λ e _. omega arith) (λ _ h. absurd (omega (arith, number-low false i li))));
+            highest = λ i li. rw here (number_at (λ x. x ≤ suc top) i li (λ _. le_refl (suc top)) (λ _. omega (arith, number_low false i li)));
+            last = λ i li. rw here (number_at (λ x. x ≡ suc top → i ≤ k) i li (λ e _. omega arith) (λ _ h. absurd (omega (arith, number_low false i li))));
           };
           digits = λ x i li. by_put (λ b. Within fill (cond b new (l (x || eqb i k) i))) (x || eqb i k) k i
               (λ _. unfold new_label in next_label_within low (s.in_step.digits false s.in_step.z s.in_step.newest.station) _)

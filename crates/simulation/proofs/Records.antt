@@ -59,14 +59,14 @@ Lone B n o = (i j : ℕ) → i < n → j < n → i ≢ j → station_of B i ≡ 
 
 -- as it is tested
 module _ (B : Board) (n : ℕ) (o : Rest) where
-  pub alone-idle : (k j : ℕ) → is_alone B n o k ≡ true → j < n → j ≢ k → station_of B j ≡ station_of B k → idle (o.process j).phase ≡ true
-  alone-idle k j e l d q = at (every_at n _ e j l)
+  pub alone_idle : (k j : ℕ) → is_alone B n o k ≡ true → j < n → j ≢ k → station_of B j ≡ station_of B k → idle (o.process j).phase ≡ true
+  alone_idle k j e l d q = at (every_at n _ e j l)
     where
       at : (eqb j k || not (eqb (station_of B j) (station_of B k)) || idle (o.process j).phase) ≡ true → idle (o.process j).phase ≡ true
       at h = rw (ne_eqb j k d, eq-eqb (station_of B j) (station_of B k) q) at h
 
-  pub lone-alone : Lone B n o → (k : ℕ) → k < n → idle (o.process k).phase ≡ false → is_alone B n o k ≡ true
-  lone-alone h k lk e = every_all n _ (λ j lj. at j lj (eqb j k) refl (eqb (station_of B j) (station_of B k)) refl)
+  pub lone_alone : Lone B n o → (k : ℕ) → k < n → idle (o.process k).phase ≡ false → is_alone B n o k ≡ true
+  lone_alone h k lk e = every_all n _ (λ j lj. at j lj (eqb j k) refl (eqb (station_of B j) (station_of B k)) refl)
     where
       at : (j : ℕ) → j < n → (a : Bool) → eqb j k ≡ a → (b : Bool) → eqb (station_of B j) (station_of B k) ≡ b → (a || not b || idle (o.process j).phase) ≡ true
       at j lj true p b q = refl
@@ -88,8 +88,8 @@ module _ (B : Board) (n : ℕ) (order : Lists.List ℕ) (o : Rest) (phases : (i 
   abbrev o' : Rest
   o' = (carry_out B order o (judge B n o c)).rest
 
-  pub phases-step : (i : ℕ) → has_phase B (o'.process i).phase ≡ true
-  phases-step i = go (goes B n order o phases c i)
+  pub phases_step : (i : ℕ) → has_phase B (o'.process i).phase ≡ true
+  phases_step i = go (goes B n order o phases c i)
     where
       go : {p' : Process} → Goes B n o (place c) i (o.process i) p' → has_phase B p'.phase ≡ true
       go (kept e) = rw e (phases i)
@@ -97,8 +97,8 @@ module _ (B : Board) (n : ℕ) (order : Lists.List ℕ) (o : Rest) (phases : (i 
       go (starts q a s t h) = h
       go (goes_on b t h) = h
 
-  pub idles-step : ((i : ℕ) → Idles (o.process i)) → (i : ℕ) → Idles (o'.process i)
-  idles-step h i = go (goes B n order o phases c i)
+  pub idles_step : ((i : ℕ) → Idles (o.process i)) → (i : ℕ) → Idles (o'.process i)
+  idles_step h i = go (goes B n order o phases c i)
     where
       go : {p' : Process} → Goes B n o (place c) i (o.process i) p' → Idles p'
       go (kept e) = subst Idles (sym e) (h i)
@@ -106,8 +106,8 @@ module _ (B : Board) (n : ℕ) (order : Lists.List ℕ) (o : Rest) (phases : (i 
       go (starts q a s t x) = λ e. absurd (tf (sym t ∙ e) s)
       go (goes_on b t x) = λ e. absurd (tf (ap idle (h i (sym t ∙ e))) b)
 
-  pub lone-step : Lone B n o → Lone B n o'
-  lone-step h i j li lj d q a b = two (works i (goes B n order o phases c i) a) (works j (goes B n order o phases c j) b)
+  pub lone_step : Lone B n o → Lone B n o'
+  lone_step h i j li lj d q a b = two (works i (goes B n order o phases c i) a) (works j (goes B n order o phases c j) b)
     where
       works : (i : ℕ) {p' : Process} → Goes B n o (place c) i (o.process i) p' → idle p'.phase ≡ false → Works B n o (place c) i
       works i (kept e) a = before (sym (ap (λ (p : Process). idle p.phase) e) ∙ a)
@@ -117,6 +117,6 @@ module _ (B : Board) (n : ℕ) (order : Lists.List ℕ) (o : Rest) (phases : (i 
 
       two : Works B n o (place c) i → Works B n o (place c) j → ⊥
       two (before e) (before f) = h i j li lj d q e f
-      two (before e) (begins_now p f) = tf (alone-idle B n o j i f li d q) e
-      two (begins_now p e) (before f) = tf (alone-idle B n o i j e lj (λ p. d (sym p)) (sym q)) f
+      two (before e) (begins_now p f) = tf (alone_idle B n o j i f li d q) e
+      two (begins_now p e) (before f) = tf (alone_idle B n o i j e lj (λ p. d (sym p)) (sym q)) f
       two (begins_now p e) (begins_now r f) = d (p ∙ sym r)

@@ -32,28 +32,28 @@ module _ (n : ℕ) (c : Call) where
   either true v v' w w' i j = i refl
   either false v v' w w' i j = j
 
-  by-phase : (a : Bool) (k : ℕ) → within 1 n c.station ≡ true → (ph : Phase) → Judged n c (by_phase apart a k c ph) (by_phase original a k c ph)
-  by-phase a k own Idle = either (eqb c.code 1) _ _ _ _ (λ _. alike _)
+  by_phase_lem : (a : Bool) (k : ℕ) → within 1 n c.station ≡ true → (ph : Phase) → Judged n c (by_phase apart a k c ph) (by_phase original a k c ph)
+  by_phase_lem a k own Idle = either (eqb c.code 1) _ _ _ _ (λ _. alike _)
       (either (eqb c.code 2) _ _ _ _ (λ e. tested a 18 _ _ (λ _. scans (eqb-true c.code 2 e) own)) (alike _))
-  by-phase a k own (Snap Label) = alike _
-  by-phase a k own (Snap Scan) = alike _
-  by-phase a k own Update = alike _
-  by-phase a k own (End o) = alike _
+  by_phase_lem a k own (Snap Label) = alike _
+  by_phase_lem a k own (Snap Scan) = alike _
+  by_phase_lem a k own Update = alike _
+  by_phase_lem a k own (End o) = alike _
 
-  by-service : (out : Bool) (w w' : Move) → Judged n c w w' → Judged n c (by_service out c.code w) (by_service out c.code w')
-  by-service true w w' j = tested _ 14 _ _ (λ _. j)
-  by-service false w w' j = tested _ 15 _ _ (λ _. j)
+  by_service_lem : (out : Bool) (w w' : Move) → Judged n c w w' → Judged n c (by_service out c.code w) (by_service out c.code w')
+  by_service_lem true w w' j = tested _ 14 _ _ (λ _. j)
+  by_service_lem false w w' j = tested _ 15 _ _ (λ _. j)
 
   judged : (s : Standing) → Judged n c (judge_in apart n s c) (judge_in original n s c)
   unfolding judge_in
   judged s = tested _ 10 _ _ (λ _. tested _ 2 _ _ (λ own. tested _ 11 _ _ (λ _.
-      by-service s.out _ _ (by-phase s.alone s.shown own s.phase))))
+      by_service_lem s.out _ _ (by_phase_lem s.alone s.shown own s.phase))))
 
   -- a step 3 with job 0 is judged by the phase, in service or not
-  snap-judged : (B : Board) → 3 ≤ B.known → (s : Standing) → c.code ≡ 3 → c.job ≡ 0 → within 1 n c.station ≡ true
+  snap_judged : (B : Board) → 3 ≤ B.known → (s : Standing) → c.code ≡ 3 → c.job ≡ 0 → within 1 n c.station ≡ true
       → judge_in B n s c ≡ by_phase B s.alone s.shown c s.phase
   unfolding judge_in unless
-  snap-judged B known s e f own = rw (e, f, own, le-leb 3 B.known known) (go s.out _)
+  snap_judged B known s e f own = rw (e, f, own, le-leb 3 B.known known) (go s.out _)
     where
       go : (out : Bool) (w : Move) → by_service out 3 w ≡ w
       go true w = refl
@@ -67,24 +67,24 @@ scan_alike f g job out order = λ y. map (λ i. entry (suc i) (job i y)) (passin
 
 -- PHASES: a scan sees the same if a phase differs, and of two phases the second stays
 module _ (o : Rest) (k : ℕ) (ph : Phase) where
-  scan-same : (order : Lists.List ℕ) → scan_of (changed o k (in_phase ph)).process order ≡ scan_of o.process order
-  scan-same = scan_alike _ _ (λ i. kept (λ p. p.job) (λ p. refl) (eqb i k) i) (λ i. kept (λ p. p.out) (λ p. refl) (eqb i k) i)
+  scan_same : (order : Lists.List ℕ) → scan_of (changed o k (in_phase ph)).process order ≡ scan_of o.process order
+  scan_same = scan_alike _ _ (λ i. kept (λ p. p.job) (λ p. refl) (eqb i k) i) (λ i. kept (λ p. p.out) (λ p. refl) (eqb i k) i)
     where
       kept : {A : Type 0} (v : Process → A) → ((p : Process) → v (in_phase ph p) ≡ v p) → (b : Bool) (i : ℕ)
           → v (cond b (in_phase ph (o.process i)) (o.process i)) ≡ v (o.process i)
       kept v e true i = e (o.process i)
       kept v e false i = refl
 
-  phase-again : (ph' : Phase) → changed (changed o k (in_phase ph)) k (in_phase ph') ≡ changed o k (in_phase ph')
-  phase-again ph' = ap (λ f. record { process = f; result = o.result }) (fun_ext (λ i. go (eqb i k) i))
+  phase_again : (ph' : Phase) → changed (changed o k (in_phase ph)) k (in_phase ph') ≡ changed o k (in_phase ph')
+  phase_again ph' = ap (λ f. record { process = f; result = o.result }) (fun_ext (λ i. go (eqb i k) i))
     where
       go : (b : Bool) (i : ℕ) → let p = cond b (in_phase ph (o.process i)) (o.process i) in
           cond b (in_phase ph' p) p ≡ cond b (in_phase ph' (o.process i)) (o.process i)
       go true i = refl
       go false i = refl
 
-  phase-here : (i : ℕ) → i ≡ k → ((changed o k (in_phase ph)).process i).phase ≡ ph
-  phase-here i e = rw (eq-eqb i k e) refl
+  phase_here : (i : ℕ) → i ≡ k → ((changed o k (in_phase ph)).process i).phase ≡ ph
+  phase_here i e = rw (eq-eqb i k e) refl
 
 -- STEPS
 
@@ -128,18 +128,18 @@ module _ {A : Type 0} (n : ℕ) (r : Rules A) where
   stepped B s c w e = ap (λ v. answer c (labels_after n r s v) (outcome B n r s v)) e
 
   module _ (s : State A) (c : Call) where
-    scan-apart : judge apart n s.rest c ≡ Move.begins (place c) c.job Scan → judge original n s.rest c ≡ Move.snaps (place c) Scan
+    scan_apart : judge apart n s.rest c ≡ Move.begins (place c) c.job Scan → judge original n s.rest c ≡ Move.snaps (place c) Scan
         → c.code ≡ 2 → within 1 n c.station ≡ true → Scans s c
     unfolding relabelled carry_out unless
-    scan-apart e f two own = record {
+    scan_apart e f two own = record {
       code = two;
       begun = record { labels = s.labels; rest = due };
       scanned = record { labels = s.labels; rest = done };
       begins = stepped apart s c _ e;
-      snaps = λ d h. stepped apart (record { labels = s.labels; rest = due }) d (Move.snaps k Scan) (snap-due d h)
+      snaps = λ d h. stepped apart (record { labels = s.labels; rest = due }) d (Move.snaps k Scan) (snap_due d h)
           ∙ ap (λ o. bare d (record { labels = s.labels; rest = o }) 0) same;
       scans = stepped original s c _ f;
-      turned = λ d h. stepped original (record { labels = s.labels; rest = done }) d (Move.refused 4) (snap-done d h);
+      turned = λ d h. stepped original (record { labels = s.labels; rest = done }) d (Move.refused 4) (snap_done d h);
     }
       where
         k : ℕ
@@ -155,29 +155,29 @@ module _ {A : Type 0} (n : ℕ) (r : Rules A) where
         done = stored (changed s.rest k (in_phase (End Scan))) (station_of original k) (scan_of s.rest.process order)
 
         same : stored (changed due k (in_phase (End Scan))) (station_of original k) (scan_of due.process order) ≡ done
-        same = ap₂ (λ o l. stored o (station_of original k) l) (phase-again s.rest k (Snap Scan) (End Scan)) (scan-same s.rest k (Snap Scan) order)
+        same = ap₂ (λ o l. stored o (station_of original k) l) (phase_again s.rest k (Snap Scan) (End Scan)) (scan_same s.rest k (Snap Scan) order)
 
         there : (d : Call) → SnapOf c d → place d ≡ k
         there d h = ap (λ x. x - 1) h.station
 
-        by-due : (B : Board) → 3 ≤ B.known → (o : Rest) (d : Call) → SnapOf c d → let t = standing B n o (place d) in
+        by_due : (B : Board) → 3 ≤ B.known → (o : Rest) (d : Call) → SnapOf c d → let t = standing B n o (place d) in
             judge B n o d ≡ by_phase B t.alone t.shown d t.phase
-        by-due B known o d h = snap-judged n d B known (standing B n o (place d)) h.code h.job (ap (within 1 n) h.station ∙ own)
+        by_due B known o d h = snap_judged n d B known (standing B n o (place d)) h.code h.job (ap (within 1 n) h.station ∙ own)
 
-        snap-due : (d : Call) → SnapOf c d → judge apart n due d ≡ Move.snaps k Scan
-        snap-due d h = by-due apart (omega arith) due d h ∙ ap (by_phase apart _ _ d) (phase-here s.rest k (Snap Scan) (place d) (there d h))
+        snap_due : (d : Call) → SnapOf c d → judge apart n due d ≡ Move.snaps k Scan
+        snap_due d h = by_due apart (omega arith) due d h ∙ ap (by_phase apart _ _ d) (phase_here s.rest k (Snap Scan) (place d) (there d h))
             ∙ rw h.code (ap (λ i. Move.snaps i Scan) (there d h))
 
-        snap-done : (d : Call) → SnapOf c d → judge original n done d ≡ Move.refused 4
-        snap-done d h = by-due original (omega arith) done d h ∙ ap (by_phase original _ _ d) (phase-here s.rest k (End Scan) (place d) (there d h))
+        snap_done : (d : Call) → SnapOf c d → judge original n done d ≡ Move.refused 4
+        snap_done d h = by_due original (omega arith) done d h ∙ ap (by_phase original _ _ d) (phase_here s.rest k (End Scan) (place d) (there d h))
             ∙ rw h.code refl
 
     -- EVERY CALL is answered alike, or begins a scan
-    pub same-or-scans : (step apart n r s c ≡ step original n r s c) ⊎ Scans s c
-    same-or-scans = go (judged n c (standing original n s.rest (place c))) refl refl
+    pub same_or_scans : (step apart n r s c ≡ step original n r s c) ⊎ Scans s c
+    same_or_scans = go (judged n c (standing original n s.rest (place c))) refl refl
       where
         go : {w w' : Move} → Judged n c w w' → judge apart n s.rest c ≡ w → judge original n s.rest c ≡ w'
             → (step apart n r s c ≡ step original n r s c) ⊎ Scans s c
         go (alike w) e f =
             inl (stepped apart s c w e ∙ ap (answer c (labels_after n r s w)) (carried (ordered n (stands r s.labels)) s.rest w) ∙ sym (stepped original s c w f))
-        go (scans two own) e f = inr (scan-apart e f two own)
+        go (scans two own) e f = inr (scan_apart e f two own)

@@ -25,14 +25,14 @@ through_put f N k v = fun_ext (λ x. fun_ext (λ i. go (x && eqb i k) x i))
 
 -- what a snap by process k makes pending, by whether it is the newest process z
 module _ {A : Type 0} (n : ℕ) (r : Rules A) (l : Labelling A) (k z : ℕ) (e : newest n (stands r l) ≡ z) where
-  pub pend-new : k ≢ z → pending_after n r l k ≡ r.new (l false) z k
+  pub pend_new : k ≢ z → pending_after n r l k ≡ r.new (l false) z k
   unfolding pending_after
-  pend-new d = rw (e, ne_eqb k z d) refl
+  pend_new d = rw (e, ne_eqb k z d) refl
 
   -- its own label again, so nothing changes
-  pub snap-stays : k ≡ z → put l k (pending_after n r l k) ≡ l
+  pub snap_stays : k ≡ z → put l k (pending_after n r l k) ≡ l
   unfolding pending_after
-  snap-stays q = rw (e, eq-eqb k z q) (fun_ext go)
+  snap_stays q = rw (e, eq-eqb k z q) (fun_ext go)
     where
       go : (x : Bool) → put l k (l true k) x ≡ l x
       go false = refl
@@ -75,11 +75,11 @@ module _ {A : Type 0} {n : ℕ} {r : Rules A} {a₀ : A} {Able : LabelStep → T
 
   module _ (l : Labelling A) (N : Labelling ℕ) (i : L.R l N) where
     -- after any rising renumbering the numbers still order the processes as the labels do
-    pub order-kept : (f : ℕ → ℕ) → Rising f → (v : ℕ) → Same n (stands r l) (stands (numbered v) (through f N))
-    order-kept f rise v x y lx ly = L.order l N i x y lx ly ∙ rising_before rise (N false x) x (N false y) y
+    pub order_kept : (f : ℕ → ℕ) → Rising f → (v : ℕ) → Same n (stands r l) (stands (numbered v) (through f N))
+    order_kept f rise v x y lx ly = L.order l N i x y lx ly ∙ rising_before rise (N false x) x (N false y) y
 
-    newest-alike : (f : ℕ → ℕ) → Rising f → (v : ℕ) → newest n (stands (numbered v) (through f N)) ≡ newest n (stands r l)
-    newest-alike f rise v = sym (newest_same n _ _ (order-kept f rise v))
+    newest_alike : (f : ℕ → ℕ) → Rising f → (v : ℕ) → newest n (stands (numbered v) (through f N)) ≡ newest n (stands r l)
+    newest_alike f rise v = sym (newest_same n _ _ (order_kept f rise v))
 
     -- a step of no snap, by which numbers are copied as labels are
     stays : Followed l N stay (beside_only N)
@@ -105,31 +105,31 @@ module _ {A : Type 0} {n : ℕ} {r : Rules A} {a₀ : A} {Able : LabelStep → T
     }
 
     -- a snap by the newest process: its pending label stays, and it is given 0
-    snap-newest : (k : ℕ) → k ≡ newest n (stands r l) → Followed l N (snap k) (beside_only N)
+    snap_newest : (k : ℕ) → k ≡ newest n (stands r l) → Followed l N (snap k) (beside_only N)
     unfolding relabelled met newest_snap
-    snap-newest k q = record {
+    snap_newest k q = record {
       rising = λ x y h. h;
       zero = refl;
       span = λ b h. span_same h;
-      follow = λ f rise v _. snap-stays n (numbered v) (through f N) k _ (newest-alike f rise v) q;
+      follow = λ f rise v _. snap_stays n (numbered v) (through f N) k _ (newest_alike f rise v) q;
       fit = λ f rise z most _ v e.
-          (record { newest = λ _. e (omega arith) ∙ z; other = λ h. absurd (tf (eq-eqb k _ (q ∙ sym (newest-alike f rise v))) h) }, tt);
+          (record { newest = λ _. e (omega arith) ∙ z; other = λ h. absurd (tf (eq-eqb k _ (q ∙ sym (newest_alike f rise v))) h) }, tt);
       newest = λ f rise z. rw (z, eq-eqb k _ q) refl;
     }
 
     -- a snap by another: its number goes to the slot
-    slot-here : ℕ → Slot
-    slot-here k = let z = newest n (stands r l) in L.slot (l true) (N true) (N false z) k (r.new (l false) z k)
+    slot_here : ℕ → Slot
+    slot_here k = let z = newest n (stands r l) in L.slot (l true) (N true) (N false z) k (r.new (l false) z k)
 
-    snap-placed : (k : ℕ) → k ≢ newest n (stands r l) → Sits n N (N false (newest n (stands r l))) (slot-here k)
-        → Followed l N (snap k) (placed N k (slot-here k))
+    snap_placed : (k : ℕ) → k ≢ newest n (stands r l) → Sits n N (N false (newest n (stands r l))) (slot_here k)
+        → Followed l N (snap k) (placed N k (slot_here k))
     unfolding relabelled met newest_snap
-    snap-placed k d sits = record {
+    snap_placed k d sits = record {
       rising = shift_rising p;
       zero = shift_zero p;
       span = λ b h. span_placed n N (N false (newest n (stands r l))) k p sits b h;
       follow = λ f rise v e. ap (put (through (λ x. f (shift p x)) N) k)
-          (pend-new n (numbered v) (through (λ x. f (shift p x)) N) k _ (alike f rise v) d ∙ e (omega arith))
+          (pend_new n (numbered v) (through (λ x. f (shift p x)) N) k _ (alike f rise v) d ∙ e (omega arith))
           ∙ through_put f (through (shift p) N) k (number p);
       fit = λ f rise zero most h v e. (
         record {
@@ -144,15 +144,15 @@ module _ {A : Type 0} {n : ℕ} {r : Rules A} {a₀ : A} {Able : LabelStep → T
     }
       where
         p : Slot
-        p = slot-here k
+        p = slot_here k
 
         alike : (f : ℕ → ℕ) → Rising f → (v : ℕ) → newest n (stands (numbered v) (through (λ x. f (shift p x)) N)) ≡ newest n (stands r l)
-        alike f rise = newest-alike (λ x. f (shift p x)) (λ x y h. rise _ _ (shift_rising p x y h))
+        alike f rise = newest_alike (λ x. f (shift p x)) (λ x y h. rise _ _ (shift_rising p x y h))
 
     -- a snap with an update in one: what follows the snap follows both
-    whole-followed : (k : ℕ) (e : Renumbering) → Followed l N (snap k) e → Followed l N (whole k) (updated_too k e)
+    whole_followed : (k : ℕ) (e : Renumbering) → Followed l N (snap k) e → Followed l N (whole k) (updated_too k e)
     unfolding relabelled met newest_snap
-    whole-followed k e F = record {
+    whole_followed k e F = record {
       rising = F.rising;
       zero = F.zero;
       span = λ b h. let S = F.span b h in record {
@@ -170,25 +170,25 @@ module _ {A : Type 0} {n : ℕ} {r : Rules A} {a₀ : A} {Able : LabelStep → T
 
     -- each step, by whether its process is the newest
     snapped : (k : ℕ) → Able (snap k) → Stepped l N (snap k) (renumber n r L.slot l N (snap k))
-    unfolding renumber slot-here relabelled
-    snapped k a = by_here (λ b. Stepped l N (snap k) (cond b (beside_only N) (placed N k (slot-here k)))) (newest n (stands r l)) k
-        (λ q. record { follows = snap-newest k q; ready = subst (λ t. L.R t N) (sym (snap-stays n r l k _ refl q)) i })
+    unfolding renumber slot_here relabelled
+    snapped k a = by_here (λ b. Stepped l N (snap k) (cond b (beside_only N) (placed N k (slot_here k)))) (newest n (stands r l)) k
+        (λ q. record { follows = snap_newest k q; ready = subst (λ t. L.R t N) (sym (snap_stays n r l k _ refl q)) i })
         (λ d. let found = L.snaps l N i k (newest n (stands r l)) a refl d in record {
-          follows = snap-placed k d found.0;
-          ready = subst (λ t. L.R (put l k t) (placed N k (slot-here k)).beside) (sym (pend-new n r l k _ refl d)) found.1;
+          follows = snap_placed k d found.0;
+          ready = subst (λ t. L.R (put l k t) (placed N k (slot_here k)).beside) (sym (pend_new n r l k _ refl d)) found.1;
         })
 
-    snapped-whole : (k : ℕ) → Able (whole k) → Stepped l N (whole k) (renumber n r L.slot l N (whole k))
-    unfolding renumber slot-here relabelled
-    snapped-whole k a = let found = L.wholes l N i k (newest n (stands r l)) a refl in
-        by_here (λ b. Stepped l N (whole k) (updated_too k (cond b (beside_only N) (placed N k (slot-here k))))) (newest n (stands r l)) k
+    snapped_whole : (k : ℕ) → Able (whole k) → Stepped l N (whole k) (renumber n r L.slot l N (whole k))
+    unfolding renumber slot_here relabelled
+    snapped_whole k a = let found = L.wholes l N i k (newest n (stands r l)) a refl in
+        by_here (λ b. Stepped l N (whole k) (updated_too k (cond b (beside_only N) (placed N k (slot_here k))))) (newest n (stands r l)) k
         (λ q. record {
-          follows = whole-followed k _ (snap-newest k q);
-          ready = subst (λ t. L.R (copy t k) (copy N k)) (sym (snap-stays n r l k _ refl q)) (found.0 q);
+          follows = whole_followed k _ (snap_newest k q);
+          ready = subst (λ t. L.R (copy t k) (copy N k)) (sym (snap_stays n r l k _ refl q)) (found.0 q);
         })
         (λ d. record {
-          follows = whole-followed k _ (snap-placed k d (found.1 d).0);
-          ready = subst (λ t. L.R (copy (put l k t) k) (copy (placed N k (slot-here k)).beside k)) (sym (pend-new n r l k _ refl d)) (found.1 d).1;
+          follows = whole_followed k _ (snap_placed k d (found.1 d).0);
+          ready = subst (λ t. L.R (copy (put l k t) k) (copy (placed N k (slot_here k)).beside k)) (sym (pend_new n r l k _ refl d)) (found.1 d).1;
         })
 
     pub stepped : (w : LabelStep) → Able w → Stepped l N w (renumber n r L.slot l N w)
@@ -196,4 +196,4 @@ module _ {A : Type 0} {n : ℕ} {r : Rules A} {a₀ : A} {Able : LabelStep → T
     stepped stay a = record { follows = stays; ready = i }
     stepped (snap k) a = snapped k a
     stepped (update k) a = record { follows = updated k; ready = L.updates l N i k a }
-    stepped (whole k) a = snapped-whole k a
+    stepped (whole k) a = snapped_whole k a

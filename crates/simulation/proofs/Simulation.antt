@@ -74,14 +74,14 @@ fresh_ready m = record { z = m; top = λ p. 1; inv = Invariant.fresh m; behind =
 
 -- labels that are taken in one step
 module _ (n m fill : ℕ) (size : n ≡ suc m) (low : fill ≤ 3) where
-  serial-order : (l : Labelling Label) (N : Labelling ℕ) → Serial m fill l N → Same n (by_label m (l false)) (by_number (N false))
-  serial-order l N s = same_order n m size l N s.in_step
+  serial_order : (l : Labelling Label) (N : Labelling ℕ) → Serial m fill l N → Same n (by_label m (l false)) (by_number (N false))
+  serial_order l N s = same_order n m size l N s.in_step
 
-  serial-wholes : (l : Labelling Label) (N : Labelling ℕ) → Serial m fill l N → (k z : ℕ) → k < n → newest n (by_label m (l false)) ≡ z
+  serial_wholes : (l : Labelling Label) (N : Labelling ℕ) → Serial m fill l N → (k z : ℕ) → k < n → newest n (by_label m (l false)) ≡ z
       → let new = new_label m fill (l false) z k in
       let p = Slot.after (N false z) in
       (k ≡ z → Serial m fill (copy l k) (copy N k)) × (k ≢ z → Sits n N (N false z) p × Serial m fill (copy (put l k new) k) (copy (placed N k p).beside k))
-  serial-wholes l N s k z lk e = let here = sym (newest_labels n m size l N s.in_step) ∙ e in (
+  serial_wholes l N s k z lk e = let here = sym (newest_labels n m size l N s.in_step) ∙ e in (
     (λ _. serial_copy s k),
     subst (λ y. k ≢ y → let p = Slot.after (N false y) in
         Sits n N (N false y) p × Serial m fill (copy (put l k (new_label m fill (l false) y k)) k) (copy (placed N k p).beside k)) here
@@ -145,10 +145,10 @@ simulable (in_one per fill known apart h low) n some = let size : n ≡ suc (n -
   slot = λ w u top k new. Slot.after top;
   R = Serial (n - 1) fill;
   start = serial_fresh (n - 1) fill (omega arith);
-  order = serial-order n (n - 1) fill size low;
+  order = serial_order n (n - 1) fill size low;
   snaps = λ l N r k z a. absurd (tf refl a.1);
   updates = λ l N r k a. serial_copy r k;
-  wholes = λ l N r k z a. serial-wholes n (n - 1) fill size low l N r k z a.0;
+  wholes = λ l N r k z a. serial_wholes n (n - 1) fill size low l N r k z a.0;
 }
 
 -- the relation after a call

@@ -88,25 +88,25 @@ module _ {A : Type 0} (B : Board) (n : ℕ) (r : Rules A) (s : State A) (c : Cal
   does P ok (inl e) h = subst (λ m. P (outcome B n r s m)) (sym e) h
   does P ok (inr (x, e, d)) h = absurd (d (sym (ap (λ m. (outcome B n r s m).refusal) e) ∙ ok))
 
-  scan-comes : B.scan_apart ≡ false → c.code ≡ 2 → Comes (Move.snaps (place c) Scan) called
-  scan-comes e two = let t = standing B n s.rest (place c) in judged B n t c (scan_judged B e t.alone t.shown c two t.phase)
+  scan_comes : B.scan_apart ≡ false → c.code ≡ 2 → Comes (Move.snaps (place c) Scan) called
+  scan_comes e two = let t = standing B n s.rest (place c) in judged B n t c (scan_judged B e t.alone t.shown c two t.phase)
 
   -- THE LAW: after an accepted step 2 the result of the caller's station is document 01's, struck out
-  pub scan-stores : B.scan_apart ≡ false → c.code ≡ 2 → (step B n r s c).refusal ≡ 0
+  pub scan_stores : B.scan_apart ≡ false → c.code ≡ 2 → (step B n r s c).refusal ≡ 0
       → (step B n r s c).state.rest.result (station_of B (place c)) ≡ struck s.rest.process whole
   unfolding step carry_out
-  scan-stores e two ok = does (λ o. o.rest.result (station_of B (place c)) ≡ struck s.rest.process whole) ok (scan-comes e two)
+  scan_stores e two ok = does (λ o. o.rest.result (station_of B (place c)) ≡ struck s.rest.process whole) ok (scan_comes e two)
       (rw (here_yes (station_of B (place c))) (struck_out s.rest.process (ordered n (stands r s.labels))))
 
-  pub scanned-phase : B.scan_apart ≡ false → c.code ≡ 2 → (step B n r s c).refusal ≡ 0 → ((step B n r s c).state.rest.process (place c)).phase ≡ End Scan
+  pub scanned_phase : B.scan_apart ≡ false → c.code ≡ 2 → (step B n r s c).refusal ≡ 0 → ((step B n r s c).state.rest.process (place c)).phase ≡ End Scan
   unfolding step carry_out
-  scanned-phase e two ok = does (λ o. (o.rest.process (place c)).phase ≡ End Scan) ok (scan-comes e two) (rw (here_yes (place c)) refl)
+  scanned_phase e two ok = does (λ o. (o.rest.process (place c)).phase ≡ End Scan) ok (scan_comes e two) (rw (here_yes (place c)) refl)
 
   -- and an end hands out that result, whatever jobs there are by then
-  pub end-hands-out : c.code ≡ 5 → (s.rest.process (place c)).phase ≡ End Scan → (step B n r s c).refusal ≡ 0
+  pub end_hands_out : c.code ≡ 5 → (s.rest.process (place c)).phase ≡ End Scan → (step B n r s c).refusal ≡ 0
       → (step B n r s c).report ≡ written c.line c.room result
   unfolding step carry_out
-  end-hands-out five e ok = let t = standing B n s.rest (place c) in
+  end_hands_out five e ok = let t = standing B n s.rest (place c) in
       does (λ o. written c.line c.room o.handed ≡ written c.line c.room result) ok
       (judged B n t c (subst (λ ph. Comes (Move.ends (place c) Scan) (by_phase B t.alone t.shown c ph)) (sym e) (end_judged B t.alone t.shown c five)))
       refl
@@ -133,15 +133,15 @@ module _ {A : Type 0} (B : Board) (n : ℕ) (joined : B.scan_apart ≡ false) wh
       )
 
   -- what the end reports is document 01's result of the state that the step 2 met, struck out by that state
-  pub scan-reports : (r r' : Rules A) (s : State A) (c d : Call) (ds : Lists.List (Rules A × Call)) → c.code ≡ 2 → (step B n r s c).refusal ≡ 0
+  pub scan_reports : (r r' : Rules A) (s : State A) (c d : Call) (ds : Lists.List (Rules A × Call)) → c.code ≡ 2 → (step B n r s c).refusal ≡ 0
       → All (λ x. station_of B (place c) ≢ station_of B (place x.1)) ds → d.code ≡ 5 → place d ≡ place c → let s' = left (step B n r s c).state ds in
       (step B n r' s' d).refusal ≡ 0
       → (step B n r' s' d).report
       ≡ written d.line d.room (struck s.rest.process (everyone s.rest.process (ordered n (stands r s.labels))))
-  scan-reports r r' s c d ds two ok others five same ended =
+  scan_reports r r' s c d ds two ok others five same ended =
       let s₁ = (step B n r s c).state in
       let s' = left s₁ ds in
       let kept = others_keep (place c) ds others s₁ in
-      end-hands-out B n r' s' d five
-      (ap (λ k. (s'.rest.process k).phase) same ∙ ap (λ (p : Process). p.phase) kept.0 ∙ scanned-phase B n r s c joined two ok) ended
-      ∙ ap (written d.line d.room) (ap (λ k. s'.rest.result (station_of B k)) same ∙ kept.1 ∙ scan-stores B n r s c joined two ok)
+      end_hands_out B n r' s' d five
+      (ap (λ k. (s'.rest.process k).phase) same ∙ ap (λ (p : Process). p.phase) kept.0 ∙ scanned_phase B n r s c joined two ok) ended
+      ∙ ap (written d.line d.room) (ap (λ k. s'.rest.result (station_of B k)) same ∙ kept.1 ∙ scan_stores B n r s c joined two ok)

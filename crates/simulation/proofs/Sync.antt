@@ -40,36 +40,36 @@ module _ {m : ℕ} {a b : Label} {u v : ℕ} where
   flip (same e h) = same (sym e) (sym h)
   flip (more l h) = less l h
 
-  pub lt-number : Sync m a u b v → Lt m a b → u < v
-  lt-number (less _ h) l = h
-  lt-number (same e _) l = absurd (Lt_irrefl (rw e at l))
-  lt-number (more r _) l = absurd (Lt_asym l r)
+  pub lt_number : Sync m a u b v → Lt m a b → u < v
+  lt_number (less _ h) l = h
+  lt_number (same e _) l = absurd (Lt_irrefl (rw e at l))
+  lt_number (more r _) l = absurd (Lt_asym l r)
 
-  pub le-number : Sync m a u b v → Le m a b → u ≤ v
-  le-number (less _ h) l = omega arith
-  le-number (same _ h) l = omega arith
-  le-number (more r _) l = absurd (le_not_gt l r)
+  pub le_number : Sync m a u b v → Le m a b → u ≤ v
+  le_number (less _ h) l = omega arith
+  le_number (same _ h) l = omega arith
+  le_number (more r _) l = absurd (le_not_gt l r)
 
   pub number_lt : Sync m a u b v → u < v → Lt m a b
   number_lt (less l _) h = l
   number_lt (same _ k) h = absurd (omega arith)
   number_lt (more _ k) h = absurd (omega arith)
 
-  pub number-label : Sync m a u b v → u ≡ v → a ≡ b
-  number-label (less _ k) h = absurd (omega arith)
-  number-label (same e _) h = e
-  number-label (more _ k) h = absurd (omega arith)
+  pub number_label : Sync m a u b v → u ≡ v → a ≡ b
+  number_label (less _ k) h = absurd (omega arith)
+  number_label (same e _) h = e
+  number_label (more _ k) h = absurd (omega arith)
 
-  pub number-le : Sync m a u b v → u ≤ v → Le m a b
-  number-le (less l _) h = inl l
-  number-le (same e _) h = inr e
-  number-le (more _ k) h = absurd (omega arith)
+  pub number_le : Sync m a u b v → u ≤ v → Le m a b
+  number_le (less l _) h = inl l
+  number_le (same e _) h = inr e
+  number_le (more _ k) h = absurd (omega arith)
 
   -- so the two tests "stands before" agree
-  pub sync-before : (i j : ℕ) → Sync m a u b v → label_before m a i b j ≡ number_before u i v j
-  sync-before i j (less l h) = before_less m a i b j l ∙ sym (number_less u i v j h)
-  sync-before i j (same e h) = rw (e, h) (before_same m b i j ∙ sym (number_same v i j))
-  sync-before i j (more l h) = before_more m a i b j l ∙ sym (number_more u i v j h)
+  pub sync_before : (i j : ℕ) → Sync m a u b v → label_before m a i b j ≡ number_before u i v j
+  sync_before i j (less l h) = before_less m a i b j l ∙ sym (number_less u i v j h)
+  sync_before i j (same e h) = rw (e, h) (before_same m b i j ∙ sym (number_same v i j))
+  sync_before i j (more l h) = before_more m a i b j l ∙ sym (number_more u i v j h)
 
 -- any two stations have labels and numbers in step
 abbrev pub Synced : (m : ℕ) → Labelling Label → Labelling ℕ → Type 0
@@ -80,9 +80,9 @@ pub no_ring_lem : {m : ℕ} {L : Labelling Label} {N : Labelling ℕ} → Synced
     → i ≢ j → j ≢ l → l ≢ i → p < m → Agree p (L x i) (L y j) → Agree p (L y j) (L w l) → L x i p ≡ 3 → L y j p ≡ 4 → L w l p ≡ 5 → ⊥
 no_ring_lem sync x y w i j l p bi bj bl ij jl li b s t three four five = omega (
   arith,
-  lt-number (sync x y i j bi bj ij) (record { at = p; inside = b; same = s; below = rw (three, four) (record { fact = unfold below in refl }) }),
-  lt-number (sync y w j l bj bl jl) (record { at = p; inside = b; same = t; below = rw (four, five) (record { fact = unfold below in refl }) }),
-  lt-number (sync w x l i bl bi li) (record {
+  lt_number (sync x y i j bi bj ij) (record { at = p; inside = b; same = s; below = rw (three, four) (record { fact = unfold below in refl }) }),
+  lt_number (sync y w j l bj bl jl) (record { at = p; inside = b; same = t; below = rw (four, five) (record { fact = unfold below in refl }) }),
+  lt_number (sync w x l i bl bi li) (record {
     at = p;
     inside = b;
     same = λ q h. sym (s q h ∙ t q h);

@@ -49,66 +49,66 @@ labels_kept n r l (Move.ends k o) i e x = refl
 labels_kept n r l (Move.sets_out k b) i e x = refl
 
 module _ (B : Board) (order : Lists.List ℕ) (o : Rest) where
-  pub process-kept : (w : Move) (i : ℕ) → touched w i ≡ false → (carry_out B order o w).rest.process i ≡ o.process i
+  pub process_kept : (w : Move) (i : ℕ) → touched w i ≡ false → (carry_out B order o w).rest.process i ≡ o.process i
   unfolding carry_out
-  process-kept (Move.refused x) i e = refl
-  process-kept (Move.begins k job Label) i e = rw e refl
-  process-kept (Move.begins k job Scan) i e = rw e refl
-  process-kept (Move.labels k job) i e = rw e refl
-  process-kept (Move.updates k) i e = rw e refl
-  process-kept (Move.snaps k Label) i e = rw e refl
-  process-kept (Move.snaps k Scan) i e = rw e refl
-  process-kept (Move.ends k Label) i e = rw e refl
-  process-kept (Move.ends k Scan) i e = rw e refl
-  process-kept (Move.sets_out k b) i e = rw e refl
+  process_kept (Move.refused x) i e = refl
+  process_kept (Move.begins k job Label) i e = rw e refl
+  process_kept (Move.begins k job Scan) i e = rw e refl
+  process_kept (Move.labels k job) i e = rw e refl
+  process_kept (Move.updates k) i e = rw e refl
+  process_kept (Move.snaps k Label) i e = rw e refl
+  process_kept (Move.snaps k Scan) i e = rw e refl
+  process_kept (Move.ends k Label) i e = rw e refl
+  process_kept (Move.ends k Scan) i e = rw e refl
+  process_kept (Move.sets_out k b) i e = rw e refl
 
   -- a result is kept, or is that of the station of the process that takes the move
-  pub result-kept : (w : Move) (g : ℕ) → ((k : ℕ) → touched w k ≡ true → g ≢ station_of B k) → (carry_out B order o w).rest.result g ≡ o.result g
+  pub result_kept : (w : Move) (g : ℕ) → ((k : ℕ) → touched w k ≡ true → g ≢ station_of B k) → (carry_out B order o w).rest.result g ≡ o.result g
   unfolding carry_out
-  result-kept (Move.refused x) g d = refl
-  result-kept (Move.begins k job Label) g d = refl
-  result-kept (Move.begins k job Scan) g d = refl
-  result-kept (Move.labels k job) g d = refl
-  result-kept (Move.updates k) g d = refl
-  result-kept (Move.snaps k Label) g d = refl
-  result-kept (Move.snaps k Scan) g d = rw (ne_eqb g (station_of B k) (d k (eq-eqb k k refl))) refl
-  result-kept (Move.ends k Label) g d = refl
-  result-kept (Move.ends k Scan) g d = refl
-  result-kept (Move.sets_out k b) g d = refl
+  result_kept (Move.refused x) g d = refl
+  result_kept (Move.begins k job Label) g d = refl
+  result_kept (Move.begins k job Scan) g d = refl
+  result_kept (Move.labels k job) g d = refl
+  result_kept (Move.updates k) g d = refl
+  result_kept (Move.snaps k Label) g d = refl
+  result_kept (Move.snaps k Scan) g d = rw (ne_eqb g (station_of B k) (d k (eq-eqb k k refl))) refl
+  result_kept (Move.ends k Label) g d = refl
+  result_kept (Move.ends k Scan) g d = refl
+  result_kept (Move.sets_out k b) g d = refl
 
   -- what holds of every result, and of the one that a scan stores, holds of every result afterwards
-  pub results-all : (P : Lists.List Entry → Type 0) → P (scan_of o.process order) → ((g : ℕ) → P (o.result g))
+  pub results_all : (P : Lists.List Entry → Type 0) → P (scan_of o.process order) → ((g : ℕ) → P (o.result g))
       → (w : Move) (g : ℕ) → P ((carry_out B order o w).rest.result g)
   unfolding carry_out
-  results-all P scan h (Move.refused x) g = h g
-  results-all P scan h (Move.begins k job Label) g = h g
-  results-all P scan h (Move.begins k job Scan) g = h g
-  results-all P scan h (Move.labels k job) g = h g
-  results-all P scan h (Move.updates k) g = h g
-  results-all P scan h (Move.snaps k Label) g = h g
-  results-all P scan h (Move.snaps k Scan) g = by_here (λ b. P (cond b (scan_of o.process order) (o.result g))) (station_of B k) g (λ _. scan) (λ _. h g)
-  results-all P scan h (Move.ends k Label) g = h g
-  results-all P scan h (Move.ends k Scan) g = h g
-  results-all P scan h (Move.sets_out k b) g = h g
+  results_all P scan h (Move.refused x) g = h g
+  results_all P scan h (Move.begins k job Label) g = h g
+  results_all P scan h (Move.begins k job Scan) g = h g
+  results_all P scan h (Move.labels k job) g = h g
+  results_all P scan h (Move.updates k) g = h g
+  results_all P scan h (Move.snaps k Label) g = h g
+  results_all P scan h (Move.snaps k Scan) g = by_here (λ b. P (cond b (scan_of o.process order) (o.result g))) (station_of B k) g (λ _. scan) (λ _. h g)
+  results_all P scan h (Move.ends k Label) g = h g
+  results_all P scan h (Move.ends k Scan) g = h g
+  results_all P scan h (Move.sets_out k b) g = h g
 
 -- a call is taken by its caller, one of the n processes
 pub touched_own : {B : Board} {n : ℕ} {t : Standing} {c : Call} {w : Move} → Verdict B n t c w → (i : ℕ) → touched w i ≡ true → (i ≡ place c) × (i < n)
 touched_own {B} {n} {t} {c} v i h = go v h
   where
-    own-here : Own n c → eqb i (place c) ≡ true → (i ≡ place c) × (i < n)
-    own-here own e = let q = eqb-true i (place c) e in (q, rw q (own_place own))
+    own_here : Own n c → eqb i (place c) ≡ true → (i ≡ place c) × (i < n)
+    own_here own e = let q = eqb-true i (place c) e in (q, rw q (own_place own))
 
     go : {w : Move} → Verdict B n t c w → touched w i ≡ true → (i ≡ place c) × (i < n)
     go (turned x z f) e = absurd (tf e refl)
-    go (begins own f a) e = own-here own e
-    go (labels own f q a) e = own-here own e
-    go (begins_scan own f a) e = own-here own e
-    go (scans own f a) e = own-here own e
-    go (updates own q) e = own-here own e
-    go (snaps own q a f) e = own-here own e
-    go (snaps_scan own q) e = own-here own e
-    go (ends own x q r) e = own-here own e
-    go (service own b q) e = own-here own e
+    go (begins own f a) e = own_here own e
+    go (labels own f q a) e = own_here own e
+    go (begins_scan own f a) e = own_here own e
+    go (scans own f a) e = own_here own e
+    go (updates own q) e = own_here own e
+    go (snaps own q a f) e = own_here own e
+    go (snaps_scan own q) e = own_here own e
+    go (ends own x q r) e = own_here own e
+    go (service own b q) e = own_here own e
 
 pub untouched : {B : Board} {n : ℕ} {t : Standing} {c : Call} {w : Move} → Verdict B n t c w → (i : ℕ) → (i < n → i ≢ place c) → touched w i ≡ false
 untouched v i d = is_false (λ e. let h = touched_own v i e in d h.1 h.0)

@@ -24,8 +24,8 @@ module _ {m : ℕ} {L : Labelling Label} {N : Labelling ℕ} {z : ℕ} {top : La
   wt = top_within inv
 
   -- station k is the newest then, if its pending number is as high as all current ones and it is the last that has it
-  newest-then : ((i : ℕ) → i ≤ m → N false i ≤ N true k) → ((i : ℕ) → i ≤ m → N false i ≡ N true k → i ≤ k) → Newest m (copy N k false) k
-  newest-then f g = record {
+  newest_then : ((i : ℕ) → i ≤ m → N false i ≤ N true k) → ((i : ℕ) → i ≤ m → N false i ≡ N true k → i ≤ k) → Newest m (copy N k false) k
+  newest_then f g = record {
     station = lk;
     highest = λ i l. rw (here_yes k) (by_here (λ b. N b i ≤ N true k) k i (λ e. rw e (omega arith)) (λ _. f i l));
     last = λ i l. rw (here_yes k) (by_here (λ b. N b i ≡ N true k → i ≤ k) k i (λ e _. omega arith) (λ _. g i l));
@@ -38,9 +38,9 @@ module _ {m : ℕ} {L : Labelling Label} {N : Labelling ℕ} {z : ℕ} {top : La
     grow q j s = by_here (λ b. Agree q (L b j) top) k j (λ e. rw e (iv q (rw e at s))) (λ _. s)
 
     -- whichever station is then the newest
-    update-low : (y : ℕ) → Newest m (copy N k false) y → L (eqb y k) y ≡ top → L true y ≡ top → N true y ≡ N (eqb y k) y
+    update_low : (y : ℕ) → Newest m (copy N k false) y → L (eqb y k) y ≡ top → L true y ≡ top → N true y ≡ N (eqb y k) y
         → Inv m (copy L k) (copy N k) y top
-    update-low y a b c d = record {
+    update_low y a b c d = record {
       newest = a;
       current = b;
       digits = λ x i l. inv.digits (x || eqb i k) i l;
@@ -60,7 +60,7 @@ module _ {m : ℕ} {L : Labelling Label} {N : Labelling ℕ} {z : ℕ} {top : La
 
     -- the newest station stays, or station k has the newest label too and is the last that has it
     stays : ¬ ((N true k ≡ N false z) × (z < k)) → Inv m (copy L k) (copy N k) z top
-    stays no_tie = update-low z new (by_here (λ b. L b z ≡ top) k z (λ _. inv.pending) (λ _. inv.current)) inv.pending (inv.pending# ∙ sym still)
+    stays no_tie = update_low z new (by_here (λ b. L b z ≡ top) k z (λ _. inv.pending) (λ _. inv.current)) inv.pending (inv.pending# ∙ sym still)
       where
         still : N (eqb z k) z ≡ N false z
         still = by_here (λ b. N b z ≡ N false z) k z (λ _. inv.pending#) (λ _. refl)
@@ -74,14 +74,14 @@ module _ {m : ℕ} {L : Labelling Label} {N : Labelling ℕ} {z : ℕ} {top : La
               (λ _. inv.newest.last i l));
         }
 
-    takes-over : (N true k ≡ N false z) × (z < k) → Inv m (copy L k) (copy N k) k top
-    takes-over tie = update-low k new (rw (here_yes k) top-too) top-too (rw (here_yes k))
+    takes_over : (N true k ≡ N false z) × (z < k) → Inv m (copy L k) (copy N k) k top
+    takes_over tie = update_low k new (rw (here_yes k) top_too) top_too (rw (here_yes k))
       where
-        top-too : L true k ≡ top
-        top-too = number_label (to_top inv true k lk (omega arith)) tie.0
+        top_too : L true k ≡ top
+        top_too = number_label (to_top inv true k lk (omega arith)) tie.0
 
         new : Newest m (copy N k false) k
-        new = newest-then (λ i l. omega (arith, inv.newest.highest i l)) (λ i l h. omega (arith, inv.newest.last i l (h ∙ tie.0)))
+        new = newest_then (λ i l. omega (arith, inv.newest.highest i l)) (λ i l h. omega (arith, inv.newest.last i l (h ∙ tie.0)))
 
   -- ---- a label above the newest: it is the newest then
   module _ (p : ℕ) (b : p < m) (e : L true k ≡ next_label 1 top p) (enough : m ≤ others m (L false) top k p + p) where
@@ -113,7 +113,7 @@ module _ {m : ℕ} {L : Labelling Label} {N : Labelling ℕ} {z : ℕ} {top : La
 
     high : Inv m (copy L k) (copy N k) k (next_label 1 top p)
     high = record {
-      newest = newest-then (λ i l. omega (arith, inv.newest.highest i l, over)) (λ i l h. absurd (omega (arith, inv.newest.highest i l, over)));
+      newest = newest_then (λ i l. omega (arith, inv.newest.highest i l, over)) (λ i l h. absurd (omega (arith, inv.newest.highest i l, over)));
       current = rw (here_yes k) e;
       digits = λ x i l. inv.digits (x || eqb i k) i l;
       pending = e;
@@ -163,11 +163,11 @@ module _ {m : ℕ} {L : Labelling Label} {N : Labelling ℕ} {z : ℕ} {top : La
         ))
         filled q c ne (gt h) = absurd (ne (next_label_behind 1 top h))
 
-  pub update-keeps : (y : ℕ) × (top' : Label) × Inv m (copy L k) (copy N k) y top'
-  update-keeps = go (inv.place k lk)
+  pub update_keeps : (y : ℕ) × (top' : Label) × Inv m (copy L k) (copy N k) y top'
+  update_keeps = go (inv.place k lk)
     where
       go : Place m (L false) top k (L false k) (L true k) → (y : ℕ) × (top' : Label) × Inv m (copy L k) (copy N k) y top'
       go (behind f g) = by_cases (Dec.and (ℕ_discrete (N true k) (N false z)) (dec_lt z k))
-          (λ tie. (k, top, takes-over f g tie))
+          (λ tie. (k, top, takes_over f g tie))
           (λ no_tie. (z, top, stays f g no_tie))
       go (ahead p b e h) = (k, next_label 1 top p, high p b e h)

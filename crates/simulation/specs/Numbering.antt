@@ -59,16 +59,16 @@ updated_too k e = record { shift = e.shift; beside = copy e.beside k; number = e
 
 -- over any rules, with a way to find slots
 module _ {A : Type 0} (n : ℕ) (r : Rules A) (at : (ℕ → A) → (ℕ → ℕ) → ℕ → ℕ → A → Slot) where
-  abbrev pub renumberSnap : Labelling A → Labelling ℕ → ℕ → Renumbering
-  renumberSnap l N k =
+  abbrev pub renumber_snap : Labelling A → Labelling ℕ → ℕ → Renumbering
+  renumber_snap l N k =
       let z = newest n (stands r l) in
       cond (eqb k z) (beside_only N) (placed N k (at (l true) (N true) (N false z) k (r.new (l false) z k)))
 
   unfoldable pub renumber : Labelling A → Labelling ℕ → LabelStep → Renumbering
   renumber l N stay = beside_only N
-  renumber l N (snap k) = renumberSnap l N k
+  renumber l N (snap k) = renumber_snap l N k
   renumber l N (update k) = beside_only (copy N k)
-  renumber l N (whole k) = updated_too k (renumberSnap l N k)
+  renumber l N (whole k) = updated_too k (renumber_snap l N k)
 
   -- one pass: the numbers given so far, moved up, and then those that these calls are given
   unfoldable pub renumbered : Board → State A → Labelling ℕ → Lists.List ℕ → Lists.List Call → Lists.List ℕ

@@ -41,19 +41,19 @@ module _ (t : Table) (w : Whole t) (c : Call) where
     number : (step_of declared t c).refusal ≡ (step_of lent (taken_apart t) c).refusal
     report : (step_of declared t c).report ≡ (step_of lent (taken_apart t) c).report
 
-  alike-by : (b : Bool) → well_formed (taken_apart t) ≡ b → Alike
+  alike_by : (b : Bool) → well_formed (taken_apart t) ≡ b → Alike
   unfolding taken_apart
-  alike-by true e =
+  alike_by true e =
       let p = step_written declared t c e in
       let q = step_written lent (taken_apart t) c e in
       record { number = ap (λ x. x.refusal) p ∙ sym (ap (λ x. x.refusal) q); report = ap (λ x. x.report) p ∙ sym (ap (λ x. x.report) q) }
-  alike-by false e =
+  alike_by false e =
       let p = step_ill_formed declared t c e in
       let q = step_ill_formed lent (taken_apart t) c e in
       record { number = ap (λ x. x.refusal) p ∙ sym (ap (λ x. x.refusal) q); report = ap (λ x. x.report) p ∙ sym (ap (λ x. x.report) q) }
 
   alike : Alike
-  alike = alike-by (well_formed (taken_apart t)) refl
+  alike = alike_by (well_formed (taken_apart t)) refl
 
   -- what the engine performs on the arrays: the number, and the table that is handed back
   module _ {a a' : Arrays} {h : Handed} (e : a ≡ taken_apart t) (made : Hands a c a' h) where
@@ -63,20 +63,20 @@ module _ (t : Table) (w : Whole t) (c : Call) where
     number_is : refusal_number h.refusal ≡ (step_of declared t c).refusal
     number_is = L.number ∙ sym alike.number
 
-    refused-table : refusal_number h.refusal ≢ 0 → t ≡ (step_of declared t c).table
-    refused-table d =
+    refused_table : refusal_number h.refusal ≢ 0 → t ≡ (step_of declared t c).table
+    refused_table d =
         sym (ap (λ (x : TableAnswer Table). x.table) (step_kept declared t (declared_written t w) c (λ z. d (number_is ∙ z))))
 
-    accepted-by : (b : Bool) → well_formed (taken_apart t) ≡ b → refusal_number h.refusal ≡ 0 → put_together a' ≡ (step_of declared t c).table
+    accepted_by : (b : Bool) → well_formed (taken_apart t) ≡ b → refusal_number h.refusal ≡ 0 → put_together a' ≡ (step_of declared t c).table
     unfolding taken_apart
-    accepted-by true ok z = ap put_together (L.table ∙ ap (λ (x : TableAnswer Arrays). x.table) (step_written lent (taken_apart t) c ok))
+    accepted_by true ok z = ap put_together (L.table ∙ ap (λ (x : TableAnswer Arrays). x.table) (step_written lent (taken_apart t) c ok))
         ∙ sym (ap (λ (x : TableAnswer Table). x.table) (step_written declared t c ok))
-    accepted-by false bad z =
+    accepted_by false bad z =
         let x : refusal_number h.refusal ≡ 13 = L.number ∙ ap (λ (x : TableAnswer Arrays). x.refusal) (step_ill_formed lent (taken_apart t) c bad) in
         absurd (omega arith)
 
-    accepted-table : refusal_number h.refusal ≡ 0 → {t' : Table} → t' ≡ put_together a' → t' ≡ (step_of declared t c).table
-    accepted-table z q = q ∙ accepted-by (well_formed (taken_apart t)) refl z
+    accepted_table : refusal_number h.refusal ≡ 0 → {t' : Table} → t' ≡ put_together a' → t' ≡ (step_of declared t c).table
+    accepted_table z q = q ∙ accepted_by (well_formed (taken_apart t)) refl z
 
 -- an empty buffer stays empty
 pub empty_buffer : {t t' : Table} {c : Call} {number written : ℕ} (buffer : List.List ℕ) → Steps declared t c (Bytes []) t' number written (Bytes buffer)
@@ -118,32 +118,32 @@ module _ (t : Table) (w : Whole t) (c : Call) {a a' : Arrays} {h : Handed} (e : 
   unfilled t' = record { outcome = record { table = t'; reply = record { refusal = h.refusal; written = h.entries } }; entries = es }
 
   -- their report
-  report-is : report_of c (unfilled t) ≡ (step_of declared t c).report
-  report-is = sym (made.report ∙ ap (written c.line c.room)
+  report_is : report_of c (unfilled t) ≡ (step_of declared t c).report
+  report_is = sym (made.report ∙ ap (written c.line c.room)
       (first_entries_lem h.entries (get_or a'.results h.place []) made.few ∙ ap (first_entries h.entries) (sym put)))
       ∙ ap (λ (u : Arrays). (step_of lent u c).report) e ∙ sym (alike t w c).report
 
-  entries-there : es ≡ entries_of (get_or (step_of lent (taken_apart t) c).table.results (place_in (taken_apart t) c) [])
-  entries-there = put ∙ ap₂ (λ (u : Arrays) (k : ℕ). entries_of (get_or u.results k [])) (made.table ∙ ap (λ u. (step_of lent u c).table) e)
+  entries_there : es ≡ entries_of (get_or (step_of lent (taken_apart t) c).table.results (place_in (taken_apart t) c) [])
+  entries_there = put ∙ ap₂ (λ (u : Arrays) (k : ℕ). entries_of (get_or u.results k [])) (made.table ∙ ap (λ u. (step_of lent u c).table) e)
       (made.place ∙ ap (λ u. place_in u c) e)
 
-  named-there : Named h.entries (rows_of es)
-  named-there p l = rw put (omega (arith, cell_station (get_or a'.results h.place []) p (omega (arith, made.few)), made.named p l))
+  named_there : Named h.entries (rows_of es)
+  named_there p l = rw put (omega (arith, cell_station (get_or a'.results h.place []) p (omega (arith, made.few)), made.named p l))
 
-  hands-with : {t' : Table} → t' ≡ (step_of declared t c).table → HandsEntries t c (unfilled t')
-  hands-with q = record {
-    entries = entries-there;
+  hands_with : {t' : Table} → t' ≡ (step_of declared t c).table → HandsEntries t c (unfilled t')
+  hands_with q = record {
+    entries = entries_there;
     short = made.few;
     room = made.room;
-    named = named-there;
-    steps = λ given. steps_of declared (declared_written t w) q (number_is t w c e made) (ap size report-is) (ap (λ r. onto r given) report-is);
+    named = named_there;
+    steps = λ given. steps_of declared (declared_written t w) q (number_is t w c e made) (ap size report_is) (ap (λ r. onto r given) report_is);
   }
 
-  pub hands-refused : refusal_number h.refusal ≢ 0 → HandsEntries t c (unfilled t)
-  hands-refused d = hands-with (refused-table t w c e made d)
+  pub hands_refused : refusal_number h.refusal ≢ 0 → HandsEntries t c (unfilled t)
+  hands_refused d = hands_with (refused_table t w c e made d)
 
-  pub hands-accepted : refusal_number h.refusal ≡ 0 → {t' : Table} → t' ≡ put_together a' → HandsEntries t c (unfilled t')
-  hands-accepted z q = hands-with (accepted-table t w c e made z q)
+  pub hands_accepted : refusal_number h.refusal ≡ 0 → {t' : Table} → t' ≡ put_together a' → HandsEntries t c (unfilled t')
+  hands_accepted z q = hands_with (accepted_table t w c e made z q)
 
 -- its report lines: there is room for them, and with them at the front of the buffer it is the step
 module _ {t : Table} {q : Request} (r : Unfilled) (b : List.List ℕ) (s : HandsEntries t (call_of q (Buffer (length b))) r) {rows : Rows}
@@ -151,12 +151,12 @@ module _ {t : Table} {q : Request} (r : Unfilled) (b : List.List ℕ) (s : Hands
   abbrev k : ℕ
   k = r.outcome.reply.written
 
-  pub lines-ready : (k ≤ 32) × (Named k rows × (k * 29 ≤ length b))
-  lines-ready = (s.short, (subst (Named k) (sym f) s.named, leb-true (k * 29) (length b) s.room))
+  pub lines_ready : (k ≤ 32) × (Named k rows × (k * 29 ≤ length b))
+  lines_ready = (s.short, (subst (Named k) (sym f) s.named, leb-true (k * 29) (length b) s.room))
 
-  pub lines-written : {n : ℕ} {b' : List.List ℕ} → n ≡ k * 29 → b' ≡ over (report_lines q.line 1 (entries_in k rows)) b
+  pub lines_written : {n : ℕ} {b' : List.List ℕ} → n ≡ k * 29 → b' ≡ over (report_lines q.line 1 (entries_in k rows)) b
       → Steps declared t (call_of q (Buffer (length b))) (Bytes b) r.outcome.table (refusal_number r.outcome.reply.refusal) n (Bytes b')
-  lines-written {n} {b'} e g =
+  lines_written {n} {b'} e g =
       let same : entries_in k rows ≡ first_entries k r.entries = ap (entries_in k) f ∙ first_rows k r.entries s.short in
       let long : size (report_of (call_of q (Buffer (length b))) r) ≡ n
       = ap (λ l. length (report_lines q.line 1 l)) (sym same) ∙ result_length q.line k rows ∙ sym e in

@@ -113,47 +113,47 @@ entries_back l e = tabulate_is 32 l blank _ e (λ p u. ap₂ declared_entry (ele
 -- ARRAYS, PUT TOGETHER
 
 module _ (a : Arrays) (g : Shaped a) (known : (i : ℕ) → i < 32 → (cell a.control 0 i 0 ≤ 4) × (cell a.control 1 i 0 ≤ 1)) where
-  put-at : (i : ℕ) → i < 32 → at (put_together a) i ≡ declared_station a i
+  put_at : (i : ℕ) → i < 32 → at (put_together a) i ≡ declared_station a i
   unfolding put_together
-  put-at i h = element (declared_station a) _ i h
+  put_at i h = element (declared_station a) _ i h
 
   -- a plane of what f takes of each record
-  plane-back : {A : Type 0} (xs : Lists.List (Lists.List A)) (k : ℕ) (d : A) (f : Station → A) → length (get_or xs k []) ≡ 32
+  plane_back : {A : Type 0} (xs : Lists.List (Lists.List A)) (k : ℕ) (d : A) (f : Station → A) → length (get_or xs k []) ≡ 32
       → ((i : ℕ) → i < 32 → f (declared_station a i) ≡ cell xs k i d) → tabulate 32 0 (λ i. f (at (put_together a) i)) ≡ get_or xs k []
-  plane-back xs k d f e h = tabulate_is 32 (get_or xs k []) d _ e (λ i l. ap f (put-at i l) ∙ h i l)
+  plane_back xs k d f e h = tabulate_is 32 (get_or xs k []) d _ e (λ i l. ap f (put_at i l) ∙ h i l)
 
-  pub apart-together : taken_apart (put_together a) ≡ a
+  pub apart_together : taken_apart (put_together a) ≡ a
   unfolding taken_apart put_together
-  apart-together = λ y. arrays a.count (labels y) (jobs y) (control y) (results y)
+  apart_together = λ y. arrays a.count (labels y) (jobs y) (control y) (results y)
     where
       labels : (taken_apart (put_together a)).labels ≡ a.labels
       labels = ap₂ (λ b c. b ∷ c ∷ [])
-          (plane-back a.labels 0 [] (λ s. s.label) (g.labels.each 0 (omega arith)) (λ i l. refl))
-          (plane-back a.labels 1 [] (λ s. s.pending_label) (g.labels.each 1 (omega arith)) (λ i l. refl))
+          (plane_back a.labels 0 [] (λ s. s.label) (g.labels.each 0 (omega arith)) (λ i l. refl))
+          (plane_back a.labels 1 [] (λ s. s.pending_label) (g.labels.each 1 (omega arith)) (λ i l. refl))
           ∙ two_lists a.labels [] g.labels.long
 
       jobs : (taken_apart (put_together a)).jobs ≡ a.jobs
       jobs = ap₂ (λ b c. b ∷ c ∷ [])
-          (plane-back a.jobs 0 0 (λ s. s.job) (g.jobs.each 0 (omega arith)) (λ i l. refl))
-          (plane-back a.jobs 1 0 (λ s. s.pending_job) (g.jobs.each 1 (omega arith)) (λ i l. refl))
+          (plane_back a.jobs 0 0 (λ s. s.job) (g.jobs.each 0 (omega arith)) (λ i l. refl))
+          (plane_back a.jobs 1 0 (λ s. s.pending_job) (g.jobs.each 1 (omega arith)) (λ i l. refl))
           ∙ two_lists a.jobs [] g.jobs.long
 
       control : (taken_apart (put_together a)).control ≡ a.control
       control = ap₂ (λ b c. b ∷ c ∷ [])
-          (plane-back a.control 0 0 (λ s. phase_number (phase_of s.phase)) (g.control.each 0 (omega arith))
+          (plane_back a.control 0 0 (λ s. phase_number (phase_of s.phase)) (g.control.each 0 (omega arith))
           (λ i l. declared_number (phase_for (cell a.control 0 i 0)) ∙ number_back _ (known i l).0))
-          (plane-back a.control 1 0 (λ s. out_number s.out_of_service) (g.control.each 1 (omega arith)) (λ i l. out_number_lem _ (known i l).1))
+          (plane_back a.control 1 0 (λ s. out_number s.out_of_service) (g.control.each 1 (omega arith)) (λ i l. out_number_lem _ (known i l).1))
           ∙ two_lists a.control [] g.control.long
 
       results : (taken_apart (put_together a)).results ≡ a.results
       results = tabulate_is 32 a.results [] _ g.results.long
-          (λ i l. ap (λ (s : Station). rows_of s.scan_result) (put-at i l) ∙ rows_back (get_or a.results i []) (g.result i l))
+          (λ i l. ap (λ (s : Station). rows_of s.scan_result) (put_at i l) ∙ rows_back (get_or a.results i []) (g.result i l))
 
 -- in particular those of a state
 module _ (n : ℕ) (s : State Labels.Label) where
-  written-shaped : Shaped (arrays_of n s)
+  written_shaped : Shaped (arrays_of n s)
   unfolding arrays_of row
-  written-shaped = made_shaped n (λ x i. row 31 (s.labels x i)) (jobs_of s.rest) (control_of s.rest)
+  written_shaped = made_shaped n (λ x i. row 31 (s.labels x i)) (jobs_of s.rest) (control_of s.rest)
       (λ i y q. let e = get_or (s.rest.result i) q (Calls.entry 0 0) in cond y e.job e.station) (λ x i h. length_tabulate 31 0 _)
 
   written_known : (i : ℕ) → i < 32 → (cell (arrays_of n s).control 0 i 0 ≤ 4) × (cell (arrays_of n s).control 1 i 0 ≤ 1)
@@ -164,7 +164,7 @@ module _ (n : ℕ) (s : State Labels.Label) where
   )
 
   pub written_apart : taken_apart (put_together (arrays_of n s)) ≡ arrays_of n s
-  written_apart = apart-together (arrays_of n s) written-shaped written_known
+  written_apart = apart_together (arrays_of n s) written_shaped written_known
 
 pub declared_lawful : Lawful declared
 unfolding put_together arrays_of
@@ -189,9 +189,9 @@ pub record Whole (t : Table) : Type 0 where
 
 module _ (t : Table) (w : Whole t) where
   -- the record at a place is the one that the arrays have there
-  pub station-apart : (i : ℕ) → i < 32 → declared_station (taken_apart t) i ≡ at t i
+  pub station_apart : (i : ℕ) → i < 32 → declared_station (taken_apart t) i ≡ at t i
   unfolding taken_apart
-  station-apart i h y = record {
+  station_apart i h y = record {
     label = element (λ k. (at t k).label) [] i h y;
     job = element (λ k. (at t k).job) 0 i h y;
     pending_label = element (λ k. (at t k).pending_label) [] i h y;
@@ -202,14 +202,14 @@ module _ (t : Table) (w : Whole t) where
     out_of_service = (ap out_for (element (λ k. out_number (at t k).out_of_service) 0 i h) ∙ out_back (at t i).out_of_service) y;
   }
 
-  pub together-apart : put_together (taken_apart t) ≡ t
+  pub together_apart : put_together (taken_apart t) ≡ t
   unfolding put_together taken_apart
-  together-apart = ap (λ (l : Lists.List Station). record { count = t.count; stations = l })
-      (tabulate_is 32 t.stations _ (declared_station (taken_apart t)) w.places station-apart)
+  together_apart = ap (λ (l : Lists.List Station). record { count = t.count; stations = l })
+      (tabulate_is 32 t.stations _ (declared_station (taken_apart t)) w.places station_apart)
 
-  pub apart-shaped : Shaped (taken_apart t)
+  pub apart_shaped : Shaped (taken_apart t)
   unfolding taken_apart
-  apart-shaped = made_shaped t.count (λ x i. cond x (at t i).pending_label (at t i).label) (λ x i. cond x (at t i).pending_job (at t i).job)
+  apart_shaped = made_shaped t.count (λ x i. cond x (at t i).pending_label (at t i).label) (λ x i. cond x (at t i).pending_job (at t i).job)
       (λ x i. cond x (out_number (at t i).out_of_service) (phase_number (phase_of (at t i).phase)))
       (λ i y q. let e = get_or (at t i).scan_result q blank in cond y e.job e.station) wide
     where
@@ -218,6 +218,6 @@ module _ (t : Table) (w : Whole t) where
       wide true i h = (w.each i h).pending
 
   -- so a well-formed table is that of the state that it holds
-  pub declared-written : well_formed (taken_apart t) ≡ true → put_together (arrays_of t.count (state_of (taken_apart t))) ≡ t
+  pub declared_written : well_formed (taken_apart t) ≡ true → put_together (arrays_of t.count (state_of (taken_apart t))) ≡ t
   unfolding taken_apart
-  declared-written e = ap put_together (written_held (taken_apart t) apart-shaped e) ∙ together-apart
+  declared_written e = ap put_together (written_held (taken_apart t) apart_shaped e) ∙ together_apart

@@ -53,31 +53,31 @@ sized_yes {B} {n} z = both (within_of (2 * B.per_station) (32 * B.per_station) n
     (eq-eqb (n % B.per_station) 0 (omega (arith, div-add-mod n B.per_station, z.whole, mul_comm B.per_station (station_of B n))))
 
 module _ {B : Board} (n : ℕ) (z : Sized B n) (s : State Labels.Label) (f : Fitting B n s) where
-  label-fits : (x : Bool) (i : ℕ) → label_fits B n (s.labels x i) ≡ true
+  label_fits_lem : (x : Bool) (i : ℕ) → label_fits B n (s.labels x i) ≡ true
   unfolding label_fits
-  label-fits x i = both
+  label_fits_lem x i = both
       (every_all (n - 1) _ (λ q _. let w = f.digits x i q in within_of B.fill 5 _ w.0 w.1))
       (every_all (32 * B.per_station - n) _ (λ q _. eq-eqb _ _ (f.behind x i (n - 1 + q) (omega arith))))
 
-  list-fits : (l : Lists.List Entry) → Sound n l → length l ≤ n → list_fits B n l ≡ true
+  list_fits_lem : (l : Lists.List Entry) → Sound n l → length l ≤ n → list_fits B n l ≡ true
   unfolding list_fits
-  list-fits l a few = both (both (le-leb (length l) n few)
+  list_fits_lem l a few = both (both (le-leb (length l) n few)
       (every_all (length l) _ (λ q h. let e = all_at _ l (entry 0 0) a.each q h in
       both (within_of 1 n _ e.0 e.1) (ap not (ne_eqb _ 0 e.2)))))
       (every_all n _ (λ i li. le-leb _ 1 (a.once i li)))
 
-  busy-alone : (i : ℕ) → i < n → (b : Bool) → idle (s.rest.process i).phase ≡ b → (b || is_alone B n s.rest i) ≡ true
-  busy-alone i li true e = refl
-  busy-alone i li false e = lone_alone B n s.rest f.lone i li e
+  busy_alone : (i : ℕ) → i < n → (b : Bool) → idle (s.rest.process i).phase ≡ b → (b || is_alone B n s.rest i) ≡ true
+  busy_alone i li true e = refl
+  busy_alone i li false e = lone_alone B n s.rest f.lone i li e
 
-  pub fitting-fits : state_fits B n s ≡ true
+  pub fitting_fits : state_fits B n s ≡ true
   unfolding state_fits
-  fitting-fits = both (both (both (both (sized_yes z)
-      (every_all n _ (λ i li. both (both (label-fits false i) (label-fits true i))
+  fitting_fits = both (both (both (both (sized_yes z)
+      (every_all n _ (λ i li. both (both (label_fits_lem false i) (label_fits_lem true i))
       (both (f.writable.rest.phase i) (implies (s.rest.process i).out (λ e. ap idle (f.idles i e)))))))
-      (every_all n _ (λ i li. busy-alone i li (idle (s.rest.process i).phase) refl)))
-      (every_all (station_of B n) _ (λ g _. list-fits (s.rest.result g) (f.sound g) (f.writable.rest.listed g).0)))
+      (every_all n _ (λ i li. busy_alone i li (idle (s.rest.process i).phase) refl)))
+      (every_all (station_of B n) _ (λ g _. list_fits_lem (s.rest.result g) (f.sound g) (f.writable.rest.listed g).0)))
       f.free
 
 pub states_lawful : {B : Board} → Proper B → Lawful (states B)
-states_lawful p = record { proper = p; counted = λ n s. refl; held = λ n z s r. refl; passes = λ n z s r. fitting-fits n z s (reached_fitting p n z s r) }
+states_lawful p = record { proper = p; counted = λ n s. refl; held = λ n z s r. refl; passes = λ n z s r. fitting_fits n z s (reached_fitting p n z s r) }

@@ -22,12 +22,12 @@ use Rattle.transition.proofs.Theorem.{Lawful, reached_held, reached_passes, reac
 
 module _ (F : Form) (L : Lawful F) (n : ℕ) (z : Sized F.board n) where
   -- whether snaps are the newest's is told alike by the table of a reached state and by the machine
-  newest-written : (cs : Lists.List Call) (s : State Labels.Label) → Reached F.board n s
+  newest_written : (cs : Lists.List Call) (s : State Labels.Label) → Reached F.board n s
       → table_newest_snaps F (F.written n s) cs ≡ Numbered.newestSnaps F.board n (digits F.board n) s cs
   unfolding table_newest_snaps Numbered.newestSnaps
-  newest-written [] s r = refl
-  newest-written (c ∷ cs) s r = rw (reached_passes F L n z r, reached_written F L n z r c)
-      (ap₂ ◌++◌ here (newest-written cs (step F.board n (digits F.board n) s c).state (reached_next F L n z r c)))
+  newest_written [] s r = refl
+  newest_written (c ∷ cs) s r = rw (reached_passes F L n z r, reached_written F L n z r c)
+      (ap₂ ◌++◌ here (newest_written cs (step F.board n (digits F.board n) s c).state (reached_next F L n z r c)))
     where
       asked : ℕ → State Labels.Label → Lists.List Bool
       asked k u = newest_snap k (digits F.board k) u.labels (label_step (judge F.board k u.rest c))
@@ -36,10 +36,10 @@ module _ (F : Form) (L : Lawful F) (n : ℕ) (z : Sized F.board n) where
       here = ap₂ asked (L.counted n s) (reached_held F L n z r)
 
   -- what does for the machines does for the tables
-  pub numbers-do : {calls : Lists.List Call} {ns : Lists.List ℕ} → Follow.Numbers F.board n (digits F.board n) (fresh_label F.board) calls ns → Numbers F n calls ns
-  numbers-do {calls} {ns} N = record {
+  pub numbers_do_lem : {calls : Lists.List Call} {ns : Lists.List ℕ} → Follow.Numbers F.board n (digits F.board n) (fresh_label F.board) calls ns → Numbers F n calls ns
+  numbers_do_lem {calls} {ns} N = record {
     each = N.each ∙ sym R.count;
-    newest = N.newest ∙ sym (newest-written calls (fresh (fresh_label F.board)) start);
+    newest = N.newest ∙ sym (newest_written calls (fresh (fresh_label F.board)) start);
     fits = subst (λ k. Fits F.board n k (fresh 0) ns calls) (sym R.count) N.fits;
     same = R.same ∙ N.same;
     grown = sym (run_advances F.board n _ calls (fresh 0) ns N.fits.each).0;
@@ -54,4 +54,4 @@ module _ (F : Form) (L : Lawful F) (n : ℕ) (z : Sized F.board n) where
 
   -- THE NUMBERS of a sequence of calls, where label operations go by steps, for every number of processes of 2 to 32 stations
   pub numbers : F.board.whole ≡ false → (calls : Lists.List Call) → Numbers F n calls (numbers_of F.board n calls)
-  numbers e calls = numbers-do (numbering L.proper e n (sized_some z) calls).0
+  numbers e calls = numbers_do_lem (numbering L.proper e n (sized_some z) calls).0

@@ -44,15 +44,15 @@ told F t h {refusal} {stations} s = go (F.well_formed t) refl
 
 module _ (F : Form) (L : Lawful F) (n : ℕ) (z : Sized F.board n) where
   -- tables reached from a fresh one are served
-  pub reached-tells : (t : F.Table) → ReachedTable F n t → Tells F t 0 (top_holders F.board n (F.state t).labels)
-  reached-tells t r = record {
+  pub reached_tells : (t : F.Table) → ReachedTable F n t → Tells F t 0 (top_holders F.board n (F.state t).labels)
+  reached_tells t r = record {
     number = rw (table_passes F L n z t r) refl;
     count = rw (table_passes F L n z t r) (ap (λ k. top_holders F.board k (F.state t).labels) (sym (table_count F L n z t r)));
   }
 
   -- a fresh table says n
-  pub fresh-tells : Tells F (fresh_table F n) 0 n
-  fresh-tells = subst (Tells F (fresh_table F n) 0)
+  pub fresh_tells : Tells F (fresh_table F n) 0 n
+  fresh_tells = subst (Tells F (fresh_table F n) 0)
       (ap (λ (s : State Labels.Label). top_holders F.board n s.labels) (reached_held F L n z (reached_fresh F.board n (sized_some z) L.proper))
       ∙ holders_same F.board n (fresh_label F.board))
-      (reached-tells (fresh_table F n) (table_fresh F L n z))
+      (reached_tells (fresh_table F n) (table_fresh F L n z))

@@ -41,59 +41,59 @@ pub record Reached (B : Board) (n : ℕ) (s : State Labels.Label) : Type 0 where
 module _ (B : Board) (n : ℕ) (some : 1 ≤ n) where
   module _ (p : Proper B) {s : State Labels.Label} (r : Reached B n s) where
     -- its labels stand to each other as numbers do
-    pub reached-step-in : InStep (n - 1) B.fill s.labels r.N
-    reached-step-in = related p (n - 1) s.labels r.N r.ready
+    pub reached_step_in : InStep (n - 1) B.fill s.labels r.N
+    reached_step_in = related p (n - 1) s.labels r.N r.ready
 
     -- the newest process is one of the n
-    pub reached-lead : newest n (stands (digits B n) s.labels) < n
-    reached-lead = rw (newest_labels n (n - 1) (omega arith) s.labels r.N reached-step-in) (omega (arith, reached-step-in.newest.station))
+    pub reached_lead : newest n (stands (digits B n) s.labels) < n
+    reached_lead = rw (newest_labels n (n - 1) (omega arith) s.labels r.N reached_step_in) (omega (arith, reached_step_in.newest.station))
 
     -- the numbers rule out a ring, whichever of its two labels is taken of each process
-    pub choice-ring-free : (x : ℕ → Bool) → no_ring (n - 1) (λ i. s.labels (x i) i) ≡ true
-    choice-ring-free x = no_ring_of (n - 1) t (λ i j k p li lj lk lp ij jk a b c.
-        no_ring_lem reached-step-in.sync (x i) (x j) (x k) i j k p li lj lk (λ q. omega (arith, ap (λ m. t m p) q)) (λ q. omega (arith, ap (λ m. t m p) q))
+    pub choice_ring_free : (x : ℕ → Bool) → no_ring (n - 1) (λ i. s.labels (x i) i) ≡ true
+    choice_ring_free x = no_ring_of (n - 1) t (λ i j k p li lj lk lp ij jk a b c.
+        no_ring_lem reached_step_in.sync (x i) (x j) (x k) i j k p li lj lk (λ q. omega (arith, ap (λ m. t m p) q)) (λ q. omega (arith, ap (λ m. t m p) q))
         (λ q. omega (arith, ap (λ m. t m p) q)) lp ij jk a b c)
       where
         t : ℕ → Labels.Label
         t i = s.labels (x i) i
 
-  pub rest-fresh : WritableRest B n fresh_rest
-  rest-fresh = record {
+  pub rest_fresh : WritableRest B n fresh_rest
+  rest_fresh = record {
     listed = λ i. (omega arith, λ p e. absurd (omega arith));
     phase = λ i. refl;
     past = λ i l. refl;
     unused = λ g l. refl;
   }
 
-  pub reached-fresh : Proper B → Reached B n (fresh (fresh_label B))
-  reached-fresh p = record {
+  pub reached_fresh : Proper B → Reached B n (fresh (fresh_label B))
+  reached_fresh p = record {
     N = λ x i. 0;
     ready = related_fresh p (n - 1);
     writable = record {
       behind = λ x i p h. refl;
       blank = λ x i l. refl;
-      rest = rest-fresh;
+      rest = rest_fresh;
     };
     sound = λ i. record { each = tt; once = λ j l. unfold passing in omega arith };
     idles = λ i e. refl;
     lone = λ i j li lj d q e f. tf refl e;
   }
 
-  suc-eqb : (i j : ℕ) → eqb (suc i) (suc j) ≡ eqb i j
-  suc-eqb i j = by_here (λ b. eqb (suc i) (suc j) ≡ b) j i (λ e. eq-eqb _ _ (ap suc e)) (λ d. ne_eqb (suc i) (suc j) (λ e. d (omega arith)))
+  suc_eqb : (i j : ℕ) → eqb (suc i) (suc j) ≡ eqb i j
+  suc_eqb i j = by_here (λ b. eqb (suc i) (suc j) ≡ b) j i (λ e. eq-eqb _ _ (ap suc e)) (λ d. ne_eqb (suc i) (suc j) (λ e. d (omega arith)))
 
   -- what a scan stores
-  pub scan-sound : (process : ℕ → Process) (b : ℕ → ℕ → Bool) → Sound n (scan_of process (ordered n b))
+  pub scan_sound : (process : ℕ → Process) (b : ℕ → ℕ → Bool) → Sound n (scan_of process (ordered n b))
   unfolding scan_of
-  scan-sound process b = record {
-    each = all_map (λ i. (i < n) × ((process i).job ≢ 0)) _ entryFor (λ i h. (omega arith, omega (arith, h.0), h.1)) shown
+  scan_sound process b = record {
+    each = all_map (λ i. (i < n) × ((process i).job ≢ 0)) _ entry_for (λ i h. (omega arith, omega (arith, h.0), h.1)) shown
         (passing_all _ (λ i. i < n) _ (λ i l e. (l, λ z. tf (and_both (has_job (process i).job) (not (process i).out) e).0 (rw z refl))) order
         (ordered_all (λ i. i < n) b n (λ i l. l)));
     once = λ i l. omega (
       arith,
-      ap length (passing_map (λ (e : Entry). eqb e.station (suc i)) entryFor shown),
-      length-map (passing (λ j. eqb (suc j) (suc i)) shown) entryFor,
-      ap (λ f. length (passing f shown)) (fun_ext (λ j. suc-eqb j i)),
+      ap length (passing_map (λ (e : Entry). eqb e.station (suc i)) entry_for shown),
+      length-map (passing (λ j. eqb (suc j) (suc i)) shown) entry_for,
+      ap (λ f. length (passing f shown)) (fun_ext (λ j. suc_eqb j i)),
       passing_fewer (λ j. shows (process j)) (λ j. eqb j i) order,
       ordered_once b i n l,
     );
@@ -105,8 +105,8 @@ module _ (B : Board) (n : ℕ) (some : 1 ≤ n) where
       shown : Lists.List ℕ
       shown = passing (λ i. shows (process i)) order
 
-      entryFor : ℕ → Entry
-      entryFor i = entry (suc i) (process i).job
+      entry_for : ℕ → Entry
+      entry_for i = entry (suc i) (process i).job
 
 -- a step call leads from one to another
 pub reached_step : {B : Board} → Proper B → (n : ℕ) → Sized B n → (s : State Labels.Label) → Reached B n s → (c : Call)
@@ -114,9 +114,9 @@ pub reached_step : {B : Board} → Proper B → (n : ℕ) → Sized B n → (s :
 reached_step {B} p n z s r c = record {
   N = next.0;
   ready = next.1;
-  writable = writable_step B n z s r.writable c (reached-lead B n some p r);
+  writable = writable_step B n z s r.writable c (reached_lead B n some p r);
   sound = unfold step in
-      results_all B _ s.rest (Sound n) (scan-sound B n some s.rest.process (stands (digits B n) s.labels)) r.sound (judge B n s.rest c);
+      results_all B _ s.rest (Sound n) (scan_sound B n some s.rest.process (stands (digits B n) s.labels)) r.sound (judge B n s.rest c);
   idles = unfold step in idles_step B n _ s.rest r.writable.rest.phase c r.idles;
   lone = unfold step in lone_step B n _ s.rest r.writable.rest.phase c r.lone;
 }

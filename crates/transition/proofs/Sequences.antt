@@ -27,8 +27,8 @@ module _ (l buffer : Lists.List ℕ) {buffer' : Lists.List ℕ} {written : ℕ} 
   pub bytes_counted : written ≡ length (take written buffer')
   bytes_counted = w ∙ ap length (sym bytes_read)
 
-  pub rest-kept : buffer' ≡ over (take written buffer') buffer
-  rest-kept = r ∙ ap (λ b. over b buffer) (sym bytes_read)
+  pub rest_kept : buffer' ≡ over (take written buffer') buffer
+  rest_kept = r ∙ ap (λ b. over b buffer) (sym bytes_read)
 
 -- and likewise whatever is lent
 pub report_read : (line : ℕ) (lent : Report) (l : Lists.List Entry) {lent' : Report} {k : ℕ} → let r = written line (capacity lent) l in
@@ -80,39 +80,39 @@ same_counts B n f xs ys e =
 module _ (F : Form) where
   -- what a call hands back is the answer of `step_of`
   module _ (t : F.Table) (x : Made F.Table) (s : Steps F t (call_made x) x.lent x.table x.refusal x.written x.lent') where
-    answer-read : (told x).report ≡ (step_of F t (call_made x)).report
-    answer-read =
+    answer_read : (told x).report ≡ (step_of F t (call_made x)).report
+    answer_read =
         let h = step_report F t (call_made x) in
         report_read x.line x.lent h.0 (s.count ∙ ap size h.1) (s.report ∙ ap (λ r. onto r x.lent) h.1) ∙ sym h.1
 
-    answer-is : told x ≡ step_of F t (call_made x)
-    answer-is i = record { table = s.table i; refusal = s.number i; report = answer-read i }
+    answer_is : told x ≡ step_of F t (call_made x)
+    answer_is i = record { table = s.table i; refusal = s.number i; report = answer_read i }
 
-  sequence-run : (t : F.Table) (xs : Lists.List (Made F.Table)) → Sequence F t xs → map told xs ≡ run_table (step_of F) t (map call_made xs)
+  sequence_run : (t : F.Table) (xs : Lists.List (Made F.Table)) → Sequence F t xs → map told xs ≡ run_table (step_of F) t (map call_made xs)
   unfolding run_table
-  sequence-run t [] q = refl
-  sequence-run t (x ∷ xs) q =
-      ap₂ ◌∷◌ (answer-is t x q.0) (sequence-run x.table xs q.1 ∙ ap (λ a. run_table (step_of F) a (map call_made xs)) q.0.table)
+  sequence_run t [] q = refl
+  sequence_run t (x ∷ xs) q =
+      ap₂ ◌∷◌ (answer_is t x q.0) (sequence_run x.table xs q.1 ∙ ap (λ a. run_table (step_of F) a (map call_made xs)) q.0.table)
 
-  sequence-counted : (t : F.Table) (xs : Lists.List (Made F.Table)) → Sequence F t xs → map (λ x. x.written) xs ≡ map (λ x. size (told x).report) xs
-  sequence-counted t [] q = refl
-  sequence-counted t (x ∷ xs) q = ap₂ ◌∷◌ (q.0.count ∙ ap size (sym (answer-read t x q.0))) (sequence-counted x.table xs q.1)
+  sequence_counted : (t : F.Table) (xs : Lists.List (Made F.Table)) → Sequence F t xs → map (λ x. x.written) xs ≡ map (λ x. size (told x).report) xs
+  sequence_counted t [] q = refl
+  sequence_counted t (x ∷ xs) q = ap₂ ◌∷◌ (q.0.count ∙ ap size (sym (answer_read t x q.0))) (sequence_counted x.table xs q.1)
 
-  sequence-kept : (t : F.Table) (xs : Lists.List (Made F.Table)) → Sequence F t xs → All (λ x. x.lent' ≡ onto (told x).report x.lent) xs
-  sequence-kept t [] q = tt
-  sequence-kept t (x ∷ xs) q = (q.0.report ∙ ap (λ r. onto r x.lent) (sym (answer-read t x q.0)), sequence-kept x.table xs q.1)
+  sequence_kept : (t : F.Table) (xs : Lists.List (Made F.Table)) → Sequence F t xs → All (λ x. x.lent' ≡ onto (told x).report x.lent) xs
+  sequence_kept t [] q = tt
+  sequence_kept t (x ∷ xs) q = (q.0.report ∙ ap (λ r. onto r x.lent) (sym (answer_read t x q.0)), sequence_kept x.table xs q.1)
 
   -- DEMAND 3 OF SEQUENCES
-  pub sequence-demand : Lawful F → (n : ℕ) → Sized F.board n → (xs : Lists.List (Made F.Table)) → Sequence F (fresh_table F n) xs → SequenceDemand F n xs
-  sequence-demand L n z xs s = record {
+  pub sequence_demand : Lawful F → (n : ℕ) → Sized F.board n → (xs : Lists.List (Made F.Table)) → Sequence F (fresh_table F n) xs → SequenceDemand F n xs
+  sequence_demand L n z xs s = record {
     demand = d;
     same = same;
-    counted = sequence-counted (fresh_table F n) xs s ∙ same_counts F.board n (λ x. seen_in F (told x)) xs (unbounded F.board n d.advances (map call_made xs)) same;
-    kept = sequence-kept (fresh_table F n) xs s;
+    counted = sequence_counted (fresh_table F n) xs s ∙ same_counts F.board n (λ x. seen_in F (told x)) xs (unbounded F.board n d.advances (map call_made xs)) same;
+    kept = sequence_kept (fresh_table F n) xs s;
   }
     where
       d : Demand3 F n (map call_made xs)
       d = demand F L n z (map call_made xs)
 
       same : map (λ x. seen_in F (told x)) xs ≡ map (Machine.seen F.board n) (unbounded F.board n d.advances (map call_made xs))
-      same = sym (map-map (seen_in F) told xs) ∙ ap (map (seen_in F)) (sequence-run (fresh_table F n) xs s) ∙ d.same
+      same = sym (map-map (seen_in F) told xs) ∙ ap (map (seen_in F)) (sequence_run (fresh_table F n) xs s) ∙ d.same

@@ -105,52 +105,52 @@ module _ (F : Form) (L : Lawful F) (n : ℕ) (z : Sized F.board n) where
   answer s c = step F.board n (digits F.board n) s c
 
   module _ {s : State Labels.Label} (r : Reached F.board n s) where
-    pub reached-held : F.state (F.written n s) ≡ s
-    reached-held = L.held n z s r
+    pub reached_held : F.state (F.written n s) ≡ s
+    reached_held = L.held n z s r
 
-    pub reached-passes : F.well_formed (F.written n s) ≡ true
-    reached-passes = L.passes n z s r
+    pub reached_passes : F.well_formed (F.written n s) ≡ true
+    reached_passes = L.passes n z s r
 
     module _ (c : Call) where
       -- a step call on the table of a reached state is the machine's
-      pub reached-written : step_of F (F.written n s) c ≡ answered F n (answer s c)
-      reached-written = step_written F (F.written n s) c reached-passes
-          ∙ ap₂ (λ k u. answered F k (step F.board k (digits F.board k) u c)) (L.counted n s) reached-held
+      pub reached_written : step_of F (F.written n s) c ≡ answered F n (answer s c)
+      reached_written = step_written F (F.written n s) c reached_passes
+          ∙ ap₂ (λ k u. answered F k (step F.board k (digits F.board k) u c)) (L.counted n s) reached_held
 
-      pub reached-next : Reached F.board n (answer s c).state
-      reached-next = reached_step L.proper n z s r c
+      pub reached_next : Reached F.board n (answer s c).state
+      reached_next = reached_step L.proper n z s r c
 
-      seen-written : seen_in F (answered F n (answer s c)) ≡ Machine.seen F.board n (answer s c)
-      seen-written = ap₂ (λ k u. Machine.seen F.board k (record { state = u; refusal = (answer s c).refusal; report = (answer s c).report }))
-          (L.counted n (answer s c).state) (L.held n z (answer s c).state reached-next)
+      seen_written : seen_in F (answered F n (answer s c)) ≡ Machine.seen F.board n (answer s c)
+      seen_written = ap₂ (λ k u. Machine.seen F.board k (record { state = u; refusal = (answer s c).refusal; report = (answer s c).report }))
+          (L.counted n (answer s c).state) (L.held n z (answer s c).state reached_next)
 
-      not-13 : (answer s c).refusal ≢ 13
+      not_13 : (answer s c).refusal ≢ 13
       unfolding step
-      not-13 e = tf (refusals F.board n s.rest c (ordered n (stands (digits F.board n) s.labels))).known (rw e refl)
+      not_13 e = tf (refusals F.board n s.rest c (ordered n (stands (digits F.board n) s.labels))).known (rw e refl)
 
-      run-written : (cs : Lists.List Call) → run_table (step_of F) (F.written n s) (c ∷ cs) ≡ answered F n (answer s c) ∷ run_table (step_of F) (F.written n (answer s c).state) cs
+      run_written : (cs : Lists.List Call) → run_table (step_of F) (F.written n s) (c ∷ cs) ≡ answered F n (answer s c) ∷ run_table (step_of F) (F.written n (answer s c).state) cs
       unfolding run_table
-      run-written cs = rw reached-written refl
+      run_written cs = rw reached_written refl
 
-      snaps-written : (cs : Lists.List Call) → table_snaps F (F.written n s) (c ∷ cs) ≡ snaps_of F.board n s c + table_snaps F (F.written n (answer s c).state) cs
+      snaps_written : (cs : Lists.List Call) → table_snaps F (F.written n s) (c ∷ cs) ≡ snaps_of F.board n s c + table_snaps F (F.written n (answer s c).state) cs
       unfolding table_snaps snaps_of
-      snaps-written cs = rw (reached-passes, reached-written)
-          (ap₂ (λ k (u : State Labels.Label). snaps_of F.board k u c + rest) (L.counted n s) reached-held)
+      snaps_written cs = rw (reached_passes, reached_written)
+          (ap₂ (λ k (u : State Labels.Label). snaps_of F.board k u c + rest) (L.counted n s) reached_held)
         where
           rest : ℕ
           rest = table_snaps F (F.written n (answer s c).state) cs
 
       one_more : (cs : Lists.List Call) → Runs F n (answer s c).state cs → Runs F n s (c ∷ cs)
       one_more cs R = record {
-        same = ap (map (seen_in F)) (run-written cs) ∙ ap₂ ◌∷◌ seen-written R.same ∙ ap (map (Machine.seen F.board n)) (sym (run_cons F.board n (digits F.board n) s c cs));
-        count = snaps-written cs ∙ ap (λ k. snaps_of F.board n s c + k) R.count ∙ sym (snaps_cons F.board n (digits F.board n) s c cs);
-        never13 = subst (All (λ a. a.refusal ≢ 13)) (sym (run-written cs)) (not-13, R.never13);
+        same = ap (map (seen_in F)) (run_written cs) ∙ ap₂ ◌∷◌ seen_written R.same ∙ ap (map (Machine.seen F.board n)) (sym (run_cons F.board n (digits F.board n) s c cs));
+        count = snaps_written cs ∙ ap (λ k. snaps_of F.board n s c + k) R.count ∙ sym (snaps_cons F.board n (digits F.board n) s c cs);
+        never13 = subst (All (λ a. a.refusal ≢ 13)) (sym (run_written cs)) (not_13, R.never13);
       }
 
   pub runs : (cs : Lists.List Call) (s : State Labels.Label) → Reached F.board n s → Runs F n s cs
   unfolding Machine.run Machine.snaps run_table table_snaps
   runs [] s r = record { same = refl; count = refl; never13 = tt }
-  runs (c ∷ cs) s r = one_more r c cs (runs cs (answer s c).state (reached-next r c))
+  runs (c ∷ cs) s r = one_more r c cs (runs cs (answer s c).state (reached_next r c))
 
   -- DEMAND 3, for every number of processes of 2 to 32 stations and every sequence of step calls on the fresh table
   pub demand : (calls : Lists.List Call) → Demand3 F n calls
@@ -178,29 +178,29 @@ pub record ReachedTable (F : Form) (n : ℕ) (t : F.Table) : Type 0 where
   pub holds : t ≡ F.written n state
 
 module _ (F : Form) (L : Lawful F) (n : ℕ) (z : Sized F.board n) where
-  pub table-fresh : ReachedTable F n (fresh_table F n)
-  table-fresh = record {
+  pub table_fresh : ReachedTable F n (fresh_table F n)
+  table_fresh = record {
     state = fresh (fresh_label F.board);
     reached = reached_fresh F.board n (sized_some z) L.proper;
     holds = refl;
   }
 
   module _ (t : F.Table) (r : ReachedTable F n t) where
-    pub table-count : F.count t ≡ n
-    table-count = ap F.count r.holds ∙ L.counted n r.state
+    pub table_count : F.count t ≡ n
+    table_count = ap F.count r.holds ∙ L.counted n r.state
 
-    pub table-passes : F.well_formed t ≡ true
-    table-passes = ap F.well_formed r.holds ∙ reached-passes F L n z r.reached
+    pub table_passes : F.well_formed t ≡ true
+    table_passes = ap F.well_formed r.holds ∙ reached_passes F L n z r.reached
 
     -- a call is refused by a number that `judge` gives, and by 7 only where there is no room for the stations shown, of which there are at most n
-    pub table-refusals : (c : Call) → (own : Standing) × (own.shown ≤ n) × Refusal own c (step_of F t c).refusal
-    table-refusals c = (_, few, step_refusals F t c table-passes)
+    pub table_refusals : (c : Call) → (own : Standing) × (own.shown ≤ n) × Refusal own c (step_of F t c).refusal
+    table_refusals c = (_, few, step_refusals F t c table_passes)
       where
         g : ℕ
         g = station_of F.board (place c)
 
         held : F.state t ≡ r.state
-        held = ap F.state r.holds ∙ reached-held F L n z r.reached
+        held = ap F.state r.holds ∙ reached_held F L n z r.reached
 
         few : length ((F.state t).rest.result g) ≤ n
         few = omega (arith, ap (λ (s : State Labels.Label). length (s.rest.result g)) held, (r.reached.writable.rest.listed g).0)
@@ -208,14 +208,14 @@ module _ (F : Form) (L : Lawful F) (n : ℕ) (z : Sized F.board n) where
     pub table_step : (c : Call) → ReachedTable F n (step_of F t c).table
     table_step c = record {
       state = (step F.board n (digits F.board n) r.state c).state;
-      reached = reached-next F L n z r.reached c;
-      holds = ap (λ u. (step_of F u c).table) r.holds ∙ ap (λ (a : TableAnswer F.Table). a.table) (reached-written F L n z r.reached c);
+      reached = reached_next F L n z r.reached c;
+      holds = ap (λ u. (step_of F u c).table) r.holds ∙ ap (λ (a : TableAnswer F.Table). a.table) (reached_written F L n z r.reached c);
     }
 
-  pub table-after : (calls : Lists.List Call) (t : F.Table) → ReachedTable F n t → ReachedTable F n (after F t calls)
+  pub table_after : (calls : Lists.List Call) (t : F.Table) → ReachedTable F n t → ReachedTable F n (after F t calls)
   unfolding after
-  table-after [] t r = r
-  table-after (c ∷ calls) t r = table-after calls (step_of F t c).table (table_step t r c)
+  table_after [] t r = r
+  table_after (c ∷ calls) t r = table_after calls (step_of F t c).table (table_step t r c)
 
 -- the state that some calls leave is the same in every lawful form of a board
 pub same_after : (F G : Form) → Lawful F → Lawful G → F.board ≡ G.board → (n : ℕ) → Sized F.board n → (cs : Lists.List Call)
@@ -234,8 +234,8 @@ same_after F G L M e n z cs = machine F L z cs _ (reached_fresh F.board n (sized
     machine : (F : Form) → Lawful F → Sized F.board n → (cs : Lists.List Call) (s : State Labels.Label) → Reached F.board n s
         → F.state (after F (F.written n s) cs) ≡ left F.board s cs
     machine F L z [] s r = L.held n z s r
-    machine F L z (c ∷ cs) s r = ap (λ (a : TableAnswer F.Table). F.state (after F a.table cs)) (reached-written F L n z r c)
-        ∙ machine F L z cs (step F.board n (digits F.board n) s c).state (reached-next F L n z r c)
+    machine F L z (c ∷ cs) s r = ap (λ (a : TableAnswer F.Table). F.state (after F a.table cs)) (reached_written F L n z r c)
+        ∙ machine F L z cs (step F.board n (digits F.board n) s c).state (reached_next F L n z r c)
 
 -- and so is all that is seen of their answers
 pub same_seen : (F G : Form) → Lawful F → Lawful G → F.board ≡ G.board → (n : ℕ) → Sized F.board n → (cs : Lists.List Call)

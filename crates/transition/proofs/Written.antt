@@ -31,12 +31,12 @@ pub record Sized (B : Board) (n : ℕ) : Type 0 where
   pub whole : station_of B n * B.per_station ≡ n
 
 module _ {B : Board} {n : ℕ} (z : Sized B n) where
-  pub sized-some : 1 ≤ n
-  sized-some = omega (arith, z.low, z.some)
+  pub sized_some : 1 ≤ n
+  sized_some = omega (arith, z.low, z.some)
 
   -- processes are those of the stations
-  pub station-inside : (k : ℕ) → k < n → station_of B k < station_of B n
-  station-inside k l = (div-lt_iff_lt-mul {k = B.per_station} {x = k} {y = station_of B n} z.some).1 (omega (arith, z.whole))
+  pub station_inside : (k : ℕ) → k < n → station_of B k < station_of B n
+  station_inside k l = (div-lt_iff_lt-mul {k = B.per_station} {x = k} {y = station_of B n} z.some).1 (omega (arith, z.whole))
 
 -- as it is tested
 pub sized_of : {B : Board} {n : ℕ} → 1 ≤ B.per_station → sized B n ≡ true → Sized B n
@@ -70,57 +70,57 @@ pub record Writable (B : Board) (n : ℕ) (s : State Labels.Label) : Type 0 wher
 scan_listed : {n : ℕ} (process : ℕ → Process) (order : Lists.List ℕ) → length order ≡ n → Listed n (scan_of process order)
 unfolding scan_of
 scan_listed process order e = (
-  omega (arith, length-map shown entryFor, passing_length (λ i. shows (process i)) order),
-  λ p h. all_at (λ x. 1 ≤ x.station) (map entryFor shown) (entry 0 0) named p (omega arith),
+  omega (arith, length-map shown entry_for, passing_length (λ i. shows (process i)) order),
+  λ p h. all_at (λ x. 1 ≤ x.station) (map entry_for shown) (entry 0 0) named p (omega arith),
 )
   where
     shown : Lists.List ℕ
     shown = passing (λ i. shows (process i)) order
 
-    entryFor : ℕ → Entry
-    entryFor i = entry (suc i) (process i).job
+    entry_for : ℕ → Entry
+    entry_for i = entry (suc i) (process i).job
 
-    named : All (λ x. 1 ≤ x.station) (map entryFor shown)
-    named = all_map (λ i. Unit {0}) (λ (x : Entry). 1 ≤ x.station) entryFor (λ i _. omega arith) shown (each_all _ shown 0 (λ p _. tt))
+    named : All (λ x. 1 ≤ x.station) (map entry_for shown)
+    named = all_map (λ i. Unit {0}) (λ (x : Entry). 1 ≤ x.station) entry_for (λ i _. omega arith) shown (each_all _ shown 0 (λ p _. tt))
 
 -- THE REST after a step, whatever the labels: it can be written down if the one before it can, and all n processes are in the order
 module _ (B : Board) (n : ℕ) (z : Sized B n) (o : Rest) (w : WritableRest B n o) (c : Call) where
-  pub rest-step : (order : Lists.List ℕ) → length order ≡ n → WritableRest B n (carry_out B order o (judge B n o c)).rest
-  rest-step order e = let v = verdict_in B n o c in record {
+  pub rest_step : (order : Lists.List ℕ) → length order ≡ n → WritableRest B n (carry_out B order o (judge B n o c)).rest
+  rest_step order e = let v = verdict_in B n o c in record {
     listed = results_all B order o (Listed n) (scan_listed o.process order e) w.listed (judge B n o c);
     phase = phases_step B n order o w.phase c;
     past = λ i l. process_kept B order o (judge B n o c) i (untouched v i (λ h. absurd (omega arith))) ∙ w.past i l;
-    unused = λ g l. result_kept B order o (judge B n o c) g (λ k t q. omega (arith, station-inside z k (touched_own v k t).1)) ∙ w.unused g l;
+    unused = λ g l. result_kept B order o (judge B n o c) g (λ k t q. omega (arith, station_inside z k (touched_own v k t).1)) ∙ w.unused g l;
   }
 
 -- the state after a step can be written down if the one before it can, and has a newest process
 module _ (B : Board) (n : ℕ) (z : Sized B n) (s : State Labels.Label) (w : Writable B n s) (c : Call)
     (lead : newest n (stands (digits B n) s.labels) < n) where
   -- a new label leaves the top label within its n - 1 digits
-  pending-behind : (k p : ℕ) → k < n → 32 * B.per_station - 1 ≤ p → pending_after n (digits B n) s.labels k p ≡ B.fill
+  pending_behind : (k p : ℕ) → k < n → 32 * B.per_station - 1 ≤ p → pending_after n (digits B n) s.labels k p ≡ B.fill
   unfolding pending_after
-  pending-behind k p lk h = by_here (λ b. cond b (s.labels true k) (new_label (n - 1) B.fill (s.labels false) y k) p ≡ B.fill) y k
+  pending_behind k p lk h = by_here (λ b. cond b (s.labels true k) (new_label (n - 1) B.fill (s.labels false) y k) p ≡ B.fill) y k
       (λ _. w.behind true k p h)
       (λ d. new_behind (n - 1) B.fill (s.labels false) y k (omega arith) (omega arith) d p (omega (arith, z.high)))
     where
       y : ℕ
       y = newest n (stands (digits B n) s.labels)
 
-  labels-behind : (v : LabelStep) → Inside B n v → (x : Bool) (i p : ℕ) → 32 * B.per_station - 1 ≤ p
+  labels_behind : (v : LabelStep) → Inside B n v → (x : Bool) (i p : ℕ) → 32 * B.per_station - 1 ≤ p
       → relabelled n (digits B n) s.labels v x i p ≡ B.fill
   unfolding relabelled
-  labels-behind stay a x i p h = w.behind x i p h
-  labels-behind (snap k) a x i p h = by_put (λ b. cond b (pending_after n (digits B n) s.labels k) (s.labels x i) p ≡ B.fill) x k i
-      (λ _. pending-behind k p a.0 h) (w.behind x i p h)
-  labels-behind (whole k) a x i p h =
+  labels_behind stay a x i p h = w.behind x i p h
+  labels_behind (snap k) a x i p h = by_put (λ b. cond b (pending_after n (digits B n) s.labels k) (s.labels x i) p ≡ B.fill) x k i
+      (λ _. pending_behind k p a.0 h) (w.behind x i p h)
+  labels_behind (whole k) a x i p h =
       by_put (λ b. cond b (pending_after n (digits B n) s.labels k) (s.labels (x || eqb i k) i) p ≡ B.fill) (x || eqb i k) k i
-      (λ _. pending-behind k p a.0 h) (w.behind (x || eqb i k) i p h)
-  labels-behind (update k) a x i p h = w.behind (x || eqb i k) i p h
+      (λ _. pending_behind k p a.0 h) (w.behind (x || eqb i k) i p h)
+  labels_behind (update k) a x i p h = w.behind (x || eqb i k) i p h
 
-  pub writable-step : Writable B n (step B n (digits B n) s c).state
+  pub writable_step : Writable B n (step B n (digits B n) s c).state
   unfolding step
-  writable-step = let v = verdict_in B n s.rest c in record {
-    behind = labels-behind _ (inside B n s.rest c);
+  writable_step = let v = verdict_in B n s.rest c in record {
+    behind = labels_behind _ (inside B n s.rest c);
     blank = λ x i l. labels_kept n (digits B n) s.labels (judge B n s.rest c) i (untouched v i (λ h. absurd (omega arith))) x ∙ w.blank x i l;
-    rest = rest-step B n z s.rest w.rest c (ordered n (stands (digits B n) s.labels)) (ordered_length (stands (digits B n) s.labels) n);
+    rest = rest_step B n z s.rest w.rest c (ordered n (stands (digits B n) s.labels)) (ordered_length (stands (digits B n) s.labels) n);
   }

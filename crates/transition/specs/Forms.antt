@@ -28,8 +28,8 @@ refuse t c x = record { table = t; refusal = x; report = written c.line c.room [
 
 module _ (F : Form) where
   -- the fresh table of n processes: labels of the board's fill digit, no jobs, empty results, all idle and in service
-  abbrev pub freshTable : ℕ → F.Table
-  freshTable n = F.written n (fresh (fresh_label F.board))
+  abbrev pub fresh_table : ℕ → F.Table
+  fresh_table n = F.written n (fresh (fresh_label F.board))
 
   abbrev pub answered : ℕ → Machine.Answer Labels.Label → TableAnswer F.Table
   answered n a = record { table = F.written n a.state; refusal = a.refusal; report = a.report }

@@ -12,25 +12,25 @@ use Rattle.transition.specs.Forms.{Form}
 
 module _ (B : Board) (n : ℕ) where
   -- a label: n - 1 digits from the board's fill digit to 5, and then that digit
-  unfoldable pub labelFits : Labels.Label → Bool
-  labelFits a = every (n - 1) (λ p. within B.fill 5 (a p)) && every (32 * B.per_station - n) (λ p. eqb (a (n - 1 + p)) B.fill)
+  unfoldable pub label_fits : Labels.Label → Bool
+  label_fits a = every (n - 1) (λ p. within B.fill 5 (a p)) && every (32 * B.per_station - n) (λ p. eqb (a (n - 1 + p)) B.fill)
 
   -- a process: in a phase of the board, and idle if it is out of service
-  abbrev pub processFits : Process → Bool
-  processFits p = has_phase B p.phase && (not p.out || idle p.phase)
+  abbrev pub process_fits : Process → Bool
+  process_fits p = has_phase B p.phase && (not p.out || idle p.phase)
 
   -- a result: at most n entries, each of one of the n processes with a job, and none of them twice
-  unfoldable pub listFits : Lists.List Entry → Bool
-  listFits l = leb (length l) n
+  unfoldable pub list_fits : Lists.List Entry → Bool
+  list_fits l = leb (length l) n
       && every (length l) (λ p. let e = get_or l p (entry 0 0) in within 1 n e.station && has_job e.job)
       && every n (λ i. leb (length (passing (λ e. eqb e.station (suc i)) l)) 1)
 
   -- the state of n processes: both labels of each, one process of a station at work, and no ring among the current labels
-  unfoldable pub stateFits : State Labels.Label → Bool
-  stateFits s = sized B n
-      && every n (λ i. labelFits (s.labels false i) && labelFits (s.labels true i) && processFits (s.rest.process i))
+  unfoldable pub state_fits : State Labels.Label → Bool
+  state_fits s = sized B n
+      && every n (λ i. label_fits (s.labels false i) && label_fits (s.labels true i) && process_fits (s.rest.process i))
       && every n (λ i. idle (s.rest.process i).phase || is_alone B n s.rest i)
-      && every (station_of B n) (λ g. listFits (s.rest.result g))
+      && every (station_of B n) (λ g. list_fits (s.rest.result g))
       && no_ring (n - 1) (s.labels false)
 
 -- TABLES THAT ARE STATES, with their number of processes: the form of a board in which nothing is written down
@@ -48,5 +48,5 @@ states B = record {
   count = λ t. t.count;
   state = λ t. t.state;
   written = stated;
-  well_formed = λ t. stateFits B t.count t.state;
+  well_formed = λ t. state_fits B t.count t.state;
 }

@@ -139,23 +139,23 @@ module _ (n v : ℕ) (N : Labelling ℕ) (k : ℕ) where
     abbrev Stays : Move → Type 0
     Stays m = relabelled n (numbered v) N (label_step (move_of k job m)) false i ≡ N false i
 
-    pub current-stays : m ≢ Update → N' false i ≡ N false i
+    pub current_stays : m ≢ Update → N' false i ≡ N false i
     unfolding relabelled
-    current-stays d = ap (λ M. M false i) e
+    current_stays d = ap (λ M. M false i) e
         ∙ by_move (λ m. m ≢ Update → Stays m) (λ x d. refl) (λ d. refl) (λ d. refl) (λ d. refl) (λ d. absurd (d refl)) (λ d. refl) (λ d. refl) (λ d. refl)
         (λ d. refl) m d
 
-    pub current-others : i ≢ k → N' false i ≡ N false i
+    pub current_others : i ≢ k → N' false i ≡ N false i
     unfolding relabelled
-    current-others d = ap (λ M. M false i) e
+    current_others d = ap (λ M. M false i) e
         ∙ by_move Stays (λ x. refl) refl refl refl (rw (ne_eqb i k d) refl) refl refl refl refl m
 
 -- an order kept through a move: it is still the one by the current plane, or, after an update, was so before the station got its number
 module _ (n v k job : ℕ) (m : Move) (numbers numbers' : Rows)
     (e : beside numbers' ≡ relabelled n (numbered v) (beside numbers) (label_step (move_of k job m))) where
-  pub order-stays : m ≢ Update → order_by n (get_or numbers 0 []) ≡ order_by n (get_or numbers' 0 [])
-  order-stays d = ap (λ u. ordered n (λ i j. number_before (u i) i (u j) j) ++ replicate (32 - n) 0)
-      (fun_ext (λ i. sym (current-stays n v (beside numbers) k job m e i d)))
+  pub order_stays : m ≢ Update → order_by n (get_or numbers 0 []) ≡ order_by n (get_or numbers' 0 [])
+  order_stays d = ap (λ u. ordered n (λ i j. number_before (u i) i (u j) j) ++ replicate (32 - n) 0)
+      (fun_ext (λ i. sym (current_stays n v (beside numbers) k job m e i d)))
 
-  pub order-before : {order : List ℕ} → order ≡ order_by n (get_or numbers 0 []) → NumberedBefore n (get_or numbers' 0 []) k order
-  order-before l = record { old = get_or numbers 0 []; others = λ i h d. sym (current-others n v (beside numbers) k job m e i d); listed = l }
+  pub order_before : {order : List ℕ} → order ≡ order_by n (get_or numbers 0 []) → NumberedBefore n (get_or numbers' 0 []) k order
+  order_before l = record { old = get_or numbers 0 []; others = λ i h d. sym (current_others n v (beside numbers) k job m e i d); listed = l }

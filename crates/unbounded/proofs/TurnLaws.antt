@@ -59,42 +59,42 @@ test_low k z current v = go (eqb k z)
 module _ (m : Move) (k z : ℕ) (current log : Lists.List ℕ) (used : ℕ) where
   -- a snap for a label
   module _ (e : m ≡ SnapLabel) where
-    snap-fits : used < length log → (n job : ℕ) (N : Labelling ℕ) → N false ≡ (λ i. get_or current i 0) → z ≡ newest n (stands (numbered 0) N)
+    snap_fits : used < length log → (n job : ℕ) (N : Labelling ℕ) → N false ≡ (λ i. get_or current i 0) → z ≡ newest n (stands (numbered 0) N)
         → test k z current (get_or log used 0) ≡ fits_next n N (label_step (move_of k job m)) (drop used log)
     unfolding fits_snap
-    snap-fits h n job N same q = rw (e, drop-cons log used 0 h)
+    snap_fits h n job N same q = rw (e, drop-cons log used 0 h)
         (ap₂ (λ y (u : ℕ → ℕ). cond (eqb k y) (eqb (get_or log used 0) 0) (ltb (u y) (get_or log used 0) && leb (get_or log used 0) 4294967295)) q (sym same))
 
-    pub number-given : used < length log → {v w : ℕ} → v ≡ get_or log used 0 → w ≡ v → true ≡ test k z current v
+    pub number_given : used < length log → {v w : ℕ} → v ≡ get_or log used 0 → w ≡ v → true ≡ test k z current v
         → GivenTo m k z current log used (record { fits = true; number = w; taken = 1 })
-    number-given h a b d = record {
-      passes = λ n job N same q. d ∙ ap (test k z current) a ∙ snap-fits h n job N same q;
+    number_given h a b d = record {
+      passes = λ n job N same q. d ∙ ap (test k z current) a ∙ snap_fits h n job N same q;
       next = λ _ _. b ∙ a ∙ sym (ap (λ (l : Lists.List ℕ). get_or l 0 0) (drop-cons log used 0 h));
       counted = λ _ job. rw e refl;
       inside = omega (arith, h);
     }
 
-    none-given : used ≤ length log → ((n job : ℕ) (N : Labelling ℕ) → N false ≡ (λ i. get_or current i 0) → z ≡ newest n (stands (numbered 0) N)
+    none_given : used ≤ length log → ((n job : ℕ) (N : Labelling ℕ) → N false ≡ (λ i. get_or current i 0) → z ≡ newest n (stands (numbered 0) N)
         → false ≡ fits_next n N (label_step (move_of k job m)) (drop used log)) → GivenTo m k z current log used (record { fits = false; number = 0; taken = 0 })
-    none-given low f = record {
+    none_given low f = record {
       passes = f;
       next = λ t. absurd (tf t refl);
       counted = λ t. absurd (tf t refl);
       inside = omega (arith, low);
     }
 
-    pub number-unfit : used < length log → {v : ℕ} → v ≡ get_or log used 0 → false ≡ test k z current v
+    pub number_unfit : used < length log → {v : ℕ} → v ≡ get_or log used 0 → false ≡ test k z current v
         → GivenTo m k z current log used (record { fits = false; number = 0; taken = 0 })
-    number-unfit h a d = none-given (omega (arith, h)) (λ n job N same q. d ∙ ap (test k z current) a ∙ snap-fits h n job N same q)
+    number_unfit h a d = none_given (omega (arith, h)) (λ n job N same q. d ∙ ap (test k z current) a ∙ snap_fits h n job N same q)
 
     pub none_left : used ≤ length log → length log ≤ used → GivenTo m k z current log used (record { fits = false; number = 0; taken = 0 })
     unfolding fits_snap
-    none_left low h = none-given low (λ n job N same q. rw (e, drop_of_length-le log {i = used} h) refl)
+    none_left low h = none_given low (λ n job N same q. rw (e, drop_of_length-le log {i = used} h) refl)
 
   -- any other move
-  pub none-taken : m ≢ SnapLabel → used ≤ length log → GivenTo m k z current log used (record { fits = true; number = 0; taken = 0 })
+  pub none_taken : m ≢ SnapLabel → used ≤ length log → GivenTo m k z current log used (record { fits = true; number = 0; taken = 0 })
   unfolding fits_snap
-  none-taken d low = record {
+  none_taken d low = record {
     passes = λ n job N same q. by_move (λ x. x ≢ SnapLabel → true ≡ fits_next n N (label_step (move_of k job x)) (drop used log))
         (λ x d. refl) (λ d. refl) (λ d. absurd (d refl)) (λ d. refl) (λ d. refl) (λ d. refl) (λ d. refl) (λ d. refl) (λ d. refl) m d;
     next = λ _ e. absurd (d e);
@@ -132,8 +132,8 @@ module _ {t : Table} {order : Lists.List ℕ} (f : Runnableᵘ t order) where
   abbrev current : Lists.List ℕ
   current = get_or t.numbers 0 []
 
-  abbrev inOrder : ℕ → ℕ → Bool
-  inOrder = stands (numbered 0) (beside t.numbers)
+  abbrev in_order : ℕ → ℕ → Bool
+  in_order = stands (numbered 0) (beside t.numbers)
 
   writable : WritableRest original n (restᵘ t)
   writable = record {
@@ -146,48 +146,48 @@ module _ {t : Table} {order : Lists.List ℕ} (f : Runnableᵘ t order) where
   known : (i : ℕ) → i < n → cell t.control 0 i 0 ≤ 4
   known i _ = held_phases n f.high (restᵘ t) writable f.holds i
 
-  front : take n order ≡ ordered n inOrder
-  front = order_front 32 inOrder n order f.is_order
+  front : take n order ≡ ordered n in_order
+  front = order_front 32 in_order n order f.is_order
 
   -- what a scan stores names stations
   abbrev Names : Lists.List Entry → Type 0
   Names l = All (λ (e : Entry). e.station ≤ n) l
 
-  scan-names : Names (scan_of (restᵘ t).process (ordered n inOrder))
-  scan-names = all_weaken (λ e h. h.1) (scan_of (restᵘ t).process (ordered n inOrder))
-      (scan_sound original n (omega (arith, f.low)) (restᵘ t).process inOrder).each
+  scan_names : Names (scan_of (restᵘ t).process (ordered n in_order))
+  scan_names = all_weaken (λ e h. h.1) (scan_of (restᵘ t).process (ordered n in_order))
+      (scan_sound original n (omega (arith, f.low)) (restᵘ t).process in_order).each
 
-  pub turn-newest : get_or order (n - 1) 0 ≡ newest n inOrder
-  turn-newest = order_newest n 0 t.numbers order f.is_order (omega (arith, f.low))
+  pub turn_newest : get_or order (n - 1) 0 ≡ newest n in_order
+  turn_newest = order_newest n 0 t.numbers order f.is_order (omega (arith, f.low))
 
   pub turn_low : get_or order (n - 1) 0 < 32
-  turn_low = omega (arith, listed_below inOrder n order front (n - 1) (omega (arith, f.low)), f.high)
+  turn_low = omega (arith, listed_below in_order n order front (n - 1) (omega (arith, f.low)), f.high)
 
   module _ {q : Request} {x : Task} (j : Judges n t.control t.results q (Buffer 928) (get_or order (n - 1) 0) x) where
     abbrev c : Call
     c = call_of q (Buffer 928)
 
-    pub turn-place : x.place < n
-    turn-place = place_inside n f.low t.jobs t.control t.results known q (Buffer 928) _ x j
+    pub turn_place : x.place < n
+    turn_place = place_inside n f.low t.jobs t.control t.results known q (Buffer 928) _ x j
 
-    pub turn-prepared : PreparedRest n t.jobs t.control t.results x order
-    turn-prepared = rest_ready n f.low t.jobs t.control t.results known q (Buffer 928) _ x j order f.holds f.high
-        (omega (arith, order_long 32 inOrder n order f.is_order f.high, f.high), λ p h. omega (arith, listed_below inOrder n order front p h, f.high))
+    pub turn_prepared : PreparedRest n t.jobs t.control t.results x order
+    turn_prepared = rest_ready n f.low t.jobs t.control t.results known q (Buffer 928) _ x j order f.holds f.high
+        (omega (arith, order_long 32 in_order n order f.is_order f.high, f.high), λ p h. omega (arith, listed_below in_order n order front p h, f.high))
         (rows_named n (get_or t.results x.place []) f.high _ (f.named x.place))
 
     judged : action_of x ≡ judge original n (restᵘ t) c
     judged = rest_judged n f.low t.jobs t.control t.results known q (Buffer 928) _ x j
 
     module _ {log : Lists.List ℕ} {used : ℕ} {v : Given} (g : GivenTo x.action x.place (get_or order (n - 1) 0) current log used v) where
-      turn-fits : v.fits ≡ fits_next n (beside t.numbers) (label_step (judge original n (restᵘ t) c)) (drop used log)
-      turn-fits = g.passes n x.job (beside t.numbers) refl turn-newest
+      turn_fits : v.fits ≡ fits_next n (beside t.numbers) (label_step (judge original n (restᵘ t) c)) (drop used log)
+      turn_fits = g.passes n x.job (beside t.numbers) refl turn_newest
           ∙ ap (λ w. fits_next n (beside t.numbers) (label_step w) (drop used log)) judged
 
       -- its number does not fit
-      pub turn-unfit : v.fits ≡ false → Turnsᵘ t order c log used t order
+      pub turn_unfit : v.fits ≡ false → Turnsᵘ t order c log used t order
           (record { fits = false; used = used; handed = record { refusal = Accepted; place = x.place; entries = 0 } })
-      turn-unfit e = record {
-        fits = sym e ∙ turn-fits;
+      turn_unfit e = record {
+        fits = sym e ∙ turn_fits;
         served = λ y. absurd (tf y refl);
         kept = λ _. record {
           table = refl;
@@ -207,45 +207,45 @@ module _ {t : Table} {order : Lists.List ℕ} (f : Runnableᵘ t order) where
 
         renumbered : beside numbers' ≡ relabelled n (numbered v.number) (beside t.numbers) (label_step (action_of x))
         renumbered = l ∙ ap (stepped_by (get_or order (n - 1) 0) v.number (beside t.numbers)) (step_any x.place x.job x.action)
-            ∙ newest_step n (get_or order (n - 1) 0) v.number (beside t.numbers) (label_step (action_of x)) turn-newest
+            ∙ newest_step n (get_or order (n - 1) 0) v.number (beside t.numbers) (label_step (action_of x)) turn_newest
 
-        pub turn-before : NumberedBefore n (get_or numbers' 0 []) x.place order
-        turn-before = order_before n v.number x.place x.job x.action t.numbers numbers' renumbered f.is_order
+        pub turn_before : NumberedBefore n (get_or numbers' 0 []) x.place order
+        turn_before = order_before n v.number x.place x.job x.action t.numbers numbers' renumbered f.is_order
 
-        pub turn-kept : x.action ≢ Update → order ≡ order_by n (get_or numbers' 0 [])
-        turn-kept d = f.is_order ∙ order_stays n v.number x.place x.job x.action t.numbers numbers' renumbered d
+        pub turn_kept : x.action ≢ Update → order ≡ order_by n (get_or numbers' 0 [])
+        turn_kept d = f.is_order ∙ order_stays n v.number x.place x.job x.action t.numbers numbers' renumbered d
 
         -- what the machine comes to
-        outcome : rest_after n t.jobs t.control t.results x order ≡ carry_out original (ordered n inOrder) (restᵘ t) (judge original n (restᵘ t) c)
+        outcome : rest_after n t.jobs t.control t.results x order ≡ carry_out original (ordered n in_order) (restᵘ t) (judge original n (restᵘ t) c)
         outcome = ap₂ (λ l w. carry_out original l (restᵘ t) w) front judged
 
         abbrev after : Outcome
-        after = carry_out original (ordered n inOrder) (restᵘ t) (judge original n (restᵘ t) c)
+        after = carry_out original (ordered n in_order) (restᵘ t) (judge original n (restᵘ t) c)
 
         held : Holds after.rest j' c' r'
         held = subst (λ (y : Outcome). Holds y.rest j' c' r') outcome k.holds
 
-        after-writable : WritableRest original n after.rest
-        after-writable = rest_step original n (original_sized n f.low f.high) (restᵘ t) writable c (ordered n inOrder) (ordered_length inOrder n)
+        after_writable : WritableRest original n after.rest
+        after_writable = rest_step original n (original_sized n f.low f.high) (restᵘ t) writable c (ordered n in_order) (ordered_length in_order n)
 
-        rest-left : restᵘ left ≡ after.rest
-        rest-left = rest_held n f.high after.rest after-writable held
+        rest_left : restᵘ left ≡ after.rest
+        rest_left = rest_held n f.high after.rest after_writable held
 
-        labels-left : beside numbers' ≡ relabelled n (numbered next) (beside t.numbers) (label_step (judge original n (restᵘ t) c))
-        labels-left = renumbered ∙ number_unused n v.number next (beside t.numbers) x.place x.job x.action (g.next e)
+        labels_left : beside numbers' ≡ relabelled n (numbered next) (beside t.numbers) (label_step (judge original n (restᵘ t) c))
+        labels_left = renumbered ∙ number_unused n v.number next (beside t.numbers) x.place x.job x.action (g.next e)
             ∙ ap (λ w. relabelled n (numbered next) (beside t.numbers) (label_step w)) judged
 
-        pub turn-served : {order' : Lists.List ℕ} → Turnsᵘ t order c log used left order' (record { fits = true; used = used + v.taken; handed = h })
+        pub turn_served : {order' : Lists.List ℕ} → Turnsᵘ t order c log used left order' (record { fits = true; used = used + v.taken; handed = h })
         unfolding step snaps_of
-        turn-served = record {
-          fits = sym e ∙ turn-fits;
+        turn_served = record {
+          fits = sym e ∙ turn_fits;
           served = λ _. record {
-            state = λ y. record { labels = labels-left y; rest = rest-left y };
+            state = λ y. record { labels = labels_left y; rest = rest_left y };
             counted = ap (λ y. used + y) (g.counted e x.job ∙ ap (λ w. label_snap (label_step w)) judged);
             enough = g.inside;
             number = k.number ∙ ap (λ (y : Outcome). y.refusal) outcome;
             place = k.place ∙ j.place;
-            inside = omega (arith, k.place, turn-place, f.high);
+            inside = omega (arith, k.place, turn_place, f.high);
             few = omega (arith, k.entries, judged_few n f.low t.jobs t.control t.results known q (Buffer 928) _ x j f.high);
             named = subst (λ y. Named h.entries (get_or r' y [])) (sym k.place) k.named;
             report = ap (report_lines c.line 1) (sym (ap (λ (y : Outcome). y.handed) outcome) ∙ k.handed
@@ -254,37 +254,37 @@ module _ {t : Table} {order : Lists.List ℕ} (f : Runnableᵘ t order) where
           kept = λ y. absurd (tf refl y);
         }
 
-        pub turn-runnable : {order' : Lists.List ℕ} → order' ≡ order_by n (get_or numbers' 0 []) → Runnableᵘ left order'
-        turn-runnable o = record {
+        pub turn_runnable : {order' : Lists.List ℕ} → order' ≡ order_by n (get_or numbers' 0 []) → Runnableᵘ left order'
+        turn_runnable o = record {
           low = f.low;
           high = f.high;
-          holds = subst (λ y. Holds y j' c' r') (sym rest-left) held;
+          holds = subst (λ y. Holds y j' c' r') (sym rest_left) held;
           past = λ i u. (
-            ap (λ (o : Rest). o.process i) rest-left ∙ after-writable.past i u,
-            ap (λ (o : Rest). o.result i) rest-left ∙ after-writable.unused i (omega arith),
+            ap (λ (o : Rest). o.process i) rest_left ∙ after_writable.past i u,
+            ap (λ (o : Rest). o.result i) rest_left ∙ after_writable.unused i (omega arith),
           );
-          named = λ i. subst (λ (o : Rest). Names (o.result i)) (sym rest-left)
-              (results_all original (ordered n inOrder) (restᵘ t) Names scan-names f.named (judge original n (restᵘ t) c) i);
+          named = λ i. subst (λ (o : Rest). Names (o.result i)) (sym rest_left)
+              (results_all original (ordered n in_order) (restᵘ t) Names scan_names f.named (judge original n (restᵘ t) c) i);
           is_order = o;
         }
 
 -- the fresh table
 module _ (n : ℕ) (low : 2 ≤ n) (high : n ≤ 32) {j c : Rows} {r : Planes} (h : Holds fresh_rest j c r) where
-  abbrev freshTable : Table
-  freshTable = table n (replicate 2 (replicate 32 0)) j c r
+  abbrev fresh_table : Table
+  fresh_table = table n (replicate 2 (replicate 32 0)) j c r
 
-  rest-first : restᵘ freshTable ≡ fresh_rest
-  rest-first = rest_held n high fresh_rest (rest_fresh original n (omega (arith, low))) h
+  rest_first : restᵘ fresh_table ≡ fresh_rest
+  rest_first = rest_held n high fresh_rest (rest_fresh original n (omega (arith, low))) h
 
-  pub fresh-state : stateᵘ freshTable ≡ fresh 0
-  fresh-state = λ y. record { labels = none_beside y; rest = rest-first y }
+  pub fresh_state : stateᵘ fresh_table ≡ fresh 0
+  fresh_state = λ y. record { labels = none_beside y; rest = rest_first y }
 
-  pub fresh-runnable : {order : Lists.List ℕ} → order ≡ ordered n (λ i j. number_before 0 i 0 j) ++ replicate (32 - n) 0 → Runnableᵘ freshTable order
-  fresh-runnable o = record {
+  pub fresh_runnable : {order : Lists.List ℕ} → order ≡ ordered n (λ i j. number_before 0 i 0 j) ++ replicate (32 - n) 0 → Runnableᵘ fresh_table order
+  fresh_runnable o = record {
     low = low;
     high = high;
-    holds = subst (λ y. Holds y j c r) (sym rest-first) h;
-    past = λ i _. (ap (λ (o : Rest). o.process i) rest-first, ap (λ (o : Rest). o.result i) rest-first);
-    named = λ i. subst (λ (o : Rest). All (λ (e : Entry). e.station ≤ n) (o.result i)) (sym rest-first) tt;
+    holds = subst (λ y. Holds y j c r) (sym rest_first) h;
+    past = λ i _. (ap (λ (o : Rest). o.process i) rest_first, ap (λ (o : Rest). o.result i) rest_first);
+    named = λ i. subst (λ (o : Rest). All (λ (e : Entry). e.station ≤ n) (o.result i)) (sym rest_first) tt;
     is_order = o ∙ order_first n;
   }

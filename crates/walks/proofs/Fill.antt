@@ -75,8 +75,8 @@ Makes E R = List (row E).Denot → ℕ → (row R).Denot
 
 module _ (E R : Data) (w : ℕ) where
   -- ---- the function that makes one record
-  abbrev pub record-ended : Ended
-  record-ended = record {
+  abbrev pub record_ended : Ended
+  record_ended = record {
     signature = record {
       lifetimes = 0;
       outlives = [];
@@ -86,19 +86,19 @@ module _ (E R : Data) (w : ℕ) where
     kept = (yes, (yes, tt));
   }
 
-  abbrev pub record-clauses : Makes E R → {M : Type 1} (𝓤 : Ura M) → Clauses 𝓤 record-ended
-  record-clauses f 𝓤 κs a = record {
+  abbrev pub record_clauses : Makes E R → {M : Type 1} (𝓤 : Ura M) → Clauses 𝓤 record_ended
+  record_clauses f 𝓤 κs a = record {
     ghost = Unit {0};
     requires = λ _. fact 𝓤 (a.1.0 < w);
     ensures = λ _ r e. fact 𝓤 (r ≡ f a.0 a.1.0);
   }
 
   abbrev pub RecordAt : Makes E R → {M : Type 1} {𝓤 : Ura M} (𝓛 : Logic 𝓤) → Contract 𝓤
-  RecordAt f {𝓤 = 𝓤} 𝓛 = triple_of 𝓛 record-ended.signature (closing 𝓛 record-ended (record-clauses f 𝓤))
+  RecordAt f {𝓤 = 𝓤} 𝓛 = triple_of 𝓛 record_ended.signature (closing 𝓛 record_ended (record_clauses f 𝓤))
 
   -- ---- the loop: its signature, its contract, and its MIR, which calls the key
-  abbrev pub fill-ended : Ended
-  fill-ended = record {
+  abbrev pub fill_ended : Ended
+  fill_ended = record {
     signature = record {
       lifetimes = 1;
       outlives = [];
@@ -108,15 +108,15 @@ module _ (E R : Data) (w : ℕ) where
     kept = (yes, (yes, (yes, tt)));
   }
 
-  abbrev pub fill-clauses : Makes E R → {M : Type 1} (𝓤 : Ura M) → Clauses 𝓤 fill-ended
-  fill-clauses f 𝓤 κs a = record {
+  abbrev pub fill_clauses : Makes E R → {M : Type 1} (𝓤 : Ura M) → Clauses 𝓤 fill_ended
+  fill_clauses f 𝓤 κs a = record {
     ghost = Unit {0};
     requires = λ _. fact 𝓤 ((a.1.1.0 ≤ w) × (a.1.1.0 ≤ length a.0.now));
     ensures = λ _ r e. fact 𝓤 (e.0.now ≡ filled (f a.1.0) a.1.1.0 a.0.now);
   }
 
   abbrev pub Fill : Makes E R → {M : Type 1} {𝓤 : Ura M} (𝓛 : Logic 𝓤) → Contract 𝓤
-  Fill f {𝓤 = 𝓤} 𝓛 = triple_of 𝓛 fill-ended.signature (closing 𝓛 fill-ended (fill-clauses f 𝓤))
+  Fill f {𝓤 = 𝓤} 𝓛 = triple_of 𝓛 fill_ended.signature (closing 𝓛 fill_ended (fill_clauses f 𝓤))
 
   abbrev slice : Ty
   slice = slice_ty (ty_ref (named 0) mut (pointee (row R).written))
@@ -145,8 +145,8 @@ module _ (E R : Data) (w : ℕ) where
   abbrev run : Name → Body
   run key = seq (block (loop (turn key))) leave
 
-  abbrev pub fill-function : Name → Fn
-  fill-function key = record {
+  abbrev pub fill_function : Name → Fn
+  fill_function key = record {
     lifetimes = 1;
     outlives = [];
     params = 3;
@@ -158,20 +158,20 @@ module _ (E R : Data) (w : ℕ) where
   abbrev Es : RattleType
   Es = Array (row E) w
 
-  abbrev es-vals : List (row E).Denot → List Val
-  es-vals = array_vals (vals E)
+  abbrev es_vals : List (row E).Denot → List Val
+  es_vals = array_vals (vals E)
 
-  abbrev stayed : Stays fill-ended.signature.params fill-ended.kept
+  abbrev stayed : Stays fill_ended.signature.params fill_ended.kept
   stayed = (stay_slice (0 ∷ []) tt (plain (λ _. row R)), (stay_none (λ _. Es) yes, (stay_none (λ _. usize) yes, tt)))
 
   module _ (f : Makes E R) (key : Name) (thin : T (ltb (bytes R) (2 ^ 64))) where
     record_of : {M : Type 1} {𝓤 : Ura M} (𝓛 : Logic 𝓤) (es : List (row E).Denot) (i : ℕ) (r : (row R).Denot)
-        → ent 𝓤 (ensured 𝓛 record-ended (record-clauses f 𝓤) tt (es, (i, tt)) tt r) (fact 𝓤 (r ≡ f es i))
-    record_of {𝓤 = 𝓤} 𝓛 es i r = ex_e 𝓤 _ (λ ws. snd∗ 𝓤 (sem 𝓛 (lasts record-ended tt (es, (i, tt)) ws)) (fact 𝓤 (r ≡ f es i)))
+        → ent 𝓤 (ensured 𝓛 record_ended (record_clauses f 𝓤) tt (es, (i, tt)) tt r) (fact 𝓤 (r ≡ f es i))
+    record_of {𝓤 = 𝓤} 𝓛 es i r = ex_e 𝓤 _ (λ ws. snd∗ 𝓤 (sem 𝓛 (lasts record_ended tt (es, (i, tt)) ws)) (fact 𝓤 (r ≡ f es i)))
 
     module _ {M : Type 1} {𝓤 : Ura M} (𝓛 : Logic 𝓤) (κ : Lft) (q : Share)
         (b o : ℕ) (γ : GName) (ys : List (row R).Denot) (es : List (row E).Denot) (n : ℕ)
-        (room : Room (row R) (length ys)) (is-es : Is Es es (es-vals es)) (n-fits : n < 2 ^ 64) (short : n ≤ w) (long : n ≤ length ys) where
+        (room : Room (row R) (length ys)) (is-es : Is Es es (es_vals es)) (n-fits : n < 2 ^ 64) (short : n ≤ w) (long : n ≤ length ys) where
       open 𝓛 use {H}
 
       abbrev x : List (row R).Denot → MutBor (List (row R).Denot)
@@ -181,7 +181,7 @@ module _ (E R : Data) (w : ℕ) where
       s = slice_val (b, o) (length ys)
 
       abbrev ev : Val
-      ev = only (es-vals es)
+      ev = only (es_vals es)
 
       abbrev a : MutBor (List (row R).Denot) × (List (row E).Denot × (ℕ × Unit {0}))
       a = (x ys, (es, (n, tt)))
@@ -190,19 +190,19 @@ module _ (E R : Data) (w : ℕ) where
       av = (s ∷ [], (ev ∷ [], (vint w64 n ∷ [], tt)))
 
       abbrev Post : Val → SProp 𝓤
-      Post = (walk_of 𝓛 fill-ended stayed (fill-clauses f 𝓤)).post (((κ, tt), (q, tt), tt, a, av), tt)
+      Post = (walk_of 𝓛 fill_ended stayed (fill_clauses f 𝓤)).post (((κ, tt), (q, tt), tt, a, av), tt)
 
-      es-makes : ent 𝓤 (emp 𝓤) (sem 𝓛 (Es.own es (ev ∷ [])))
-      es-makes = Array-Makes 𝓛 (row E) (makes E 𝓛) w es (ev ∷ []) is-es
+      es_makes : ent 𝓤 (emp 𝓤) (sem 𝓛 (Es.own es (ev ∷ [])))
+      es_makes = Array-Makes 𝓛 (row E) (makes E 𝓛) w es (ev ∷ []) is-es
 
       -- what `record_at`'s triple binds outside, and what makes what it asks
-      abbrev to-record : ℕ → (RecordAt f 𝓛).Ghost
-      to-record i = ((tt, tt, tt, (es, (i, tt)), (ev ∷ [], (vint w64 i ∷ [], tt))), tt)
+      abbrev to_record : ℕ → (RecordAt f 𝓛).Ghost
+      to_record i = ((tt, tt, tt, (es, (i, tt)), (ev ∷ [], (vint w64 i ∷ [], tt))), tt)
 
-      goes-record : (i : ℕ) → i < w → i < 2 ^ 64 → ent 𝓤 (emp 𝓤) ((RecordAt f 𝓛).pre (to-record i))
-      goes-record i small fits =
+      goes_record : (i : ℕ) → i < w → i < 2 ^ 64 → ent 𝓤 (emp 𝓤) ((RecordAt f 𝓛).pre (to_record i))
+      goes_record i small fits =
           qed 𝓛 [] ∵ says ! small $ nothing ! $ owned ! usize (Is usize) (uint_Makes 𝓛 w64) i _ (refl, fits) $ fjoin ! $
-          use0 𝓛 (‵ (Es.own es (ev ∷ []))) es-makes $ fjoin ! $ nothing ! $ frame ! $ done !
+          use0 𝓛 (‵ (Es.own es (ev ∷ []))) es_makes $ fjoin ! $ nothing ! $ frame ! $ done !
 
       -- the panel when i records are filled
       abbrev panel : ℕ → List (row R).Denot
@@ -216,7 +216,7 @@ module _ (E R : Data) (w : ℕ) where
       exits =
           let l = same_length n (le_refl n) in
           qed 𝓛 (‵ (fobs γ ((coded_holeys (row R)).code (heres (row R) (panel n)))) ∷ ‵ (fbor κ (Held (row R) (length (panel n)) b o γ)) ∷ ‵ (flft κ q) ∷ []) ∵
-          suffices ! _ (ends_at 𝓛 fill-ended stayed (fill-clauses f 𝓤) (((κ, tt), (q, tt), tt, a, av), tt) vunit tt
+          suffices ! _ (ends_at 𝓛 fill_ended stayed (fill_clauses f 𝓤) (((κ, tt), (q, tt), tt, a, av), tt) vunit tt
           (panel n, (last_same (array_same E w) es, (tt, tt))) (l, (tt, (tt, tt)))) $
           says ! refl $ nothing ! $ move ! (3 ∷ 0 ∷ []) $ join ! $ frame ! $
           fjoin ! $ pure_i ! (mut_slice_at (row R) (x (panel n)) (s ∷ [])) (tt, (tt, tt)) (
@@ -224,7 +224,7 @@ module _ (E R : Data) (w : ℕ) where
             subst (Room (row R))
                 (sym l) room,
           ) $ fjoin ! $
-          nothing ! $ owned ! usize (Is usize) (uint_Makes 𝓛 w64) n _ (refl, n-fits) $ fjoin ! $ use0 𝓛 (‵ (Es.own es (ev ∷ []))) es-makes $ fjoin ! $
+          nothing ! $ owned ! usize (Is usize) (uint_Makes 𝓛 w64) n _ (refl, n-fits) $ fjoin ! $ use0 𝓛 (‵ (Es.own es (ev ∷ []))) es_makes $ fjoin ! $
           move ! (1 ∷ 0 ∷ []) $ fjoin ! $ frame ! $ feq_i ! (List Val) (vunit ∷ []) (vunit ∷ []) refl $ done !
 
       -- ---- the loop
@@ -244,8 +244,8 @@ module _ (E R : Data) (w : ℕ) where
         abbrev Nearer : Upto → Upto → Type 0
         Nearer j i = n - j.0 < n - i.0
 
-        Nearer-wf : WellFounded Nearer
-        Nearer-wf = InvImage.wf (λ (i : Upto). n - i.0) lt-wf_rel.wf
+        Nearer_wf : WellFounded Nearer
+        Nearer_wf = InvImage.wf (λ (i : Upto). n - i.0) lt-wf_rel.wf
 
         -- the invariant: i records are filled
         abbrev At : Upto → List (Item 𝓤)
@@ -268,11 +268,11 @@ module _ (E R : Data) (w : ℕ) where
             (init ! 10 refl (tt, tt)) $ first ! $ branches ! (load ! (from ! (stop !)) (look ! 10 refl))
             -- [the row; the open borrow; obs; auth; _8; …; _7; …; _6; …; _5; …; _4; …; _3; …; _2; …; _1; …; room for _0; …]
             (λ less. skips ! $ exec ! C Λ En (stores key) (any_q (Turned i)) $
-            use0 𝓛 (raw ((RecordAt f 𝓛).pre (to-record i.0))) (goes-record i.0 (lt_of_lt_of_le (under less) short) (fits i)) $
-            calls_at ! (fm_of 𝓤 H 𝓛.laws 𝓣) (RecordAt f 𝓛) known (to-record i.0) (and_then ! (load ! (from ! (stop !)) (look ! 17 refl))
+            use0 𝓛 (raw ((RecordAt f 𝓛).pre (to_record i.0))) (goes_record i.0 (lt_of_lt_of_le (under less) short) (fits i)) $
+            calls_at ! (fm_of 𝓤 H 𝓛.laws 𝓣) (RecordAt f 𝓛) known (to_record i.0) (and_then ! (load ! (from ! (stop !)) (look ! 17 refl))
             (and_then ! (load ! (from ! (stop !)) (look ! 13 refl)) (no_more !))) (λ v.
             use1 𝓛 (later (some (λ (r : (row R).Denot). (‵ ftrue ⊛ ‵ ((row R).own r (v ∷ []))) ⊛ raw
-            (ensured 𝓛 record-ended (record-clauses f 𝓤) tt (es, (i.0, tt)) tt r)))) (id⊢ 𝓤 _) $ await ! tt $ pick ! (λ r.
+            (ensured 𝓛 record_ended (record_clauses f 𝓤) tt (es, (i.0, tt)) tt r)))) (id⊢ 𝓤 _) $ await ! tt $ pick ! (λ r.
             split ! $ move ! (1 ∷ []) $ use1 𝓛 (raw (fact 𝓤 (r ≡ f es i.0))) (record_of 𝓛 es i.0 r) $
             heard ! (r ≡ f es i.0) (λ e. split ! $ drop ! $ peeks ! (row R) (Is (row R)) (shows 𝓛 (row R)) r (v ∷ []) (λ is.
             -- [what the record owns; the row; the open borrow; obs; auth; _8; …]
@@ -323,13 +323,13 @@ module _ (E R : Data) (w : ℕ) where
             next less = (i.0 + 1, add-one-le (under less))
 
         looped : Sq 𝓛 (At (0, zero-le)) (runs C Λ En (run key) (at_ret En Post))
-        looped = first ! $ blocks ! $ loops ! 𝓣 Nearer Nearer-wf At turns (0, zero-le)
+        looped = first ! $ blocks ! $ loops ! 𝓣 Nearer Nearer_wf At turns (0, zero-le)
 
       -- the MIR, up to the loop
       module _ (𝓣 : Tables 𝓤 H) (known : Triple 𝓤 (𝓣.C key) (RecordAt f 𝓛)) where
-        walk : ent 𝓤 (on_entry 𝓛 fill-ended.signature (κ, tt) (q, tt) a av) (WpFn 𝓤 H 𝓣.C 𝓣.Λ (fill-function key) (s ∷ ev ∷ vint w64 n ∷ []) Post)
+        walk : ent 𝓤 (on_entry 𝓛 fill_ended.signature (κ, tt) (q, tt) a av) (WpFn 𝓤 H 𝓣.C 𝓣.Λ (fill_function key) (s ∷ ev ∷ vint w64 n ∷ []) Post)
         walk =
-            qed 𝓛 ((‵ (flft κ q) ⊛ ‵ ftrue) ∷ ‵ (owns (MutSlice (named 0) κ (row R) ∷ Es ∷ usize ∷ []) a av) ∷ []) ∵ enter ! 𝓣.C 𝓣.Λ (fill-function key)
+            qed 𝓛 ((‵ (flft κ q) ⊛ ‵ ftrue) ∷ ‵ (owns (MutSlice (named 0) κ (row R) ∷ Es ∷ usize ∷ []) a av) ∷ []) ∵ enter ! 𝓣.C 𝓣.Λ (fill_function key)
             (s ∷ ev ∷ vint w64 n ∷ []) _ $
             alloc1 ! (λ l₀. alloc1 ! (λ l₁. alloc1 ! (λ l₂. alloc1 ! (λ l₃. alloc1 ! (λ l₄. alloc1 ! (λ l₅. alloc1 ! (λ l₆. alloc1 ! (λ l₇. alloc1 ! (λ l₈.
             alloc0 ! $ params1 ! $ pass1 ! (init ! 14 refl (tt, (tt, (record { fits = room.0 }, tt)))) $
@@ -348,25 +348,25 @@ module _ (E R : Data) (w : ℕ) where
     module _ {M : Type 1} {𝓤 : Ura M} (𝓛 : Logic 𝓤) (𝓣 : Tables 𝓤 𝓛.H) (known : Triple 𝓤 (𝓣.C key) (RecordAt f 𝓛)) where
       open 𝓛 use {H}
 
-      fill_walks : Walks 𝓛 fill-ended stayed (WpFn 𝓤 H 𝓣.C 𝓣.Λ (fill-function key)) (fill-clauses f 𝓤)
-      fill_walks = walked 𝓛 fill-ended stayed (fill-clauses f 𝓤) (WpFn 𝓤 H 𝓣.C 𝓣.Λ (fill-function key))
-          (λ κs. (mut_slice_vals, (es-vals, (uint_vals w64, tt))))
+      fill_walks : Walks 𝓛 fill_ended stayed (WpFn 𝓤 H 𝓣.C 𝓣.Λ (fill_function key)) (fill_clauses f 𝓤)
+      fill_walks = walked 𝓛 fill_ended stayed (fill_clauses f 𝓤) (WpFn 𝓤 H 𝓣.C 𝓣.Λ (fill_function key))
+          (λ κs. (mut_slice_vals, (es_vals, (uint_vals w64, tt))))
           (λ κs. (mut_slice_Tells (named 0) κs.0 (row R), (Array-Tells (row E) (vals E) (tells E) w, (uint_Tells w64, tt))))
           (λ κs qs bounds a g are. needs 𝓤 ((a.1.1.0 ≤ w) × (a.1.1.0 ≤ length a.0.now)) _ (λ asked.
           walk 𝓛 κs.0 qs.0 a.0.ref_ptr.0 a.0.ref_ptr.1 a.0.ghost_name a.0.now a.1.0 a.1.1.0
           are.0.0.1 are.1.0 are.1.1.0.1 asked.0 asked.1 𝓣 known))
 
-      fill_meets : Meets 𝓛 fill-ended.signature (WpFn 𝓤 H 𝓣.C 𝓣.Λ (fill-function key)) (closing 𝓛 fill-ended (fill-clauses f 𝓤))
+      fill_meets : Meets 𝓛 fill_ended.signature (WpFn 𝓤 H 𝓣.C 𝓣.Λ (fill_function key)) (closing 𝓛 fill_ended (fill_clauses f 𝓤))
       fill_meets =
-          walk_Meets 𝓛 fill-ended stayed (
+          walk_Meets 𝓛 fill_ended stayed (
             Goes-slice 𝓛 1 0 tt (plain (λ _. row R)),
             (Goes-none 𝓛 1 (λ _. Es) yes (λ κs. silent (array_same E w)), (Goes-none 𝓛 1 (λ _. usize) yes (λ κs x f. refl), tt)),
-          ) (fill-clauses f 𝓤) (WpFn 𝓤 H 𝓣.C 𝓣.Λ (fill-function key)) (WpFn-mono 𝓤 H 𝓛.laws 𝓣 (fill-function key)) fill_walks
+          ) (fill_clauses f 𝓤) (WpFn 𝓤 H 𝓣.C 𝓣.Λ (fill_function key)) (WpFn-mono 𝓤 H 𝓛.laws 𝓣 (fill_function key)) fill_walks
 
     module _ {M : Type 1} {𝓤 : Ura M} (𝓛 : Logic 𝓤) (𝓜 : Model 𝓤 𝓛.H) (𝓡 : Running 𝓤 𝓛.H 𝓜) (γ : Linkage) (n : Name) (r : Routine) where
       open 𝓛 use {H}
 
-      pub fill_spec : γ key ≡ r → Closed 𝓤 H (tables 𝓤 H 𝓜 𝓡 γ).C (tables 𝓤 H 𝓜 𝓡 γ).Λ n (fill-function key)
+      pub fill_spec : γ key ≡ r → Closed 𝓤 H (tables 𝓤 H 𝓜 𝓡 γ).C (tables 𝓤 H 𝓜 𝓡 γ).Λ n (fill_function key)
           → Triple 𝓤 (𝓡.run r) (RecordAt f 𝓛) → Triple 𝓤 (𝓡.run (γ n)) (Fill f 𝓛)
-      fill_spec at closed = linked 𝓤 H 𝓜 𝓡 γ n key r (fill-function key) (Fill f 𝓛) (RecordAt f 𝓛) at closed
+      fill_spec at closed = linked 𝓤 H 𝓜 𝓡 γ n key r (fill_function key) (Fill f 𝓛) (RecordAt f 𝓛) at closed
           (fill_meets 𝓛)

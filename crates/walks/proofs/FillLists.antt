@@ -19,8 +19,8 @@ module _ {A : Type 0} where
   length_front f (suc n) h [] l = absurd (not-suc-le-zero l)
   length_front f (suc n) h (y ∷ ys) l = ap suc (length_front f n (suc h) ys (le_of_suc-le-suc l))
 
-  pub length-filled : (f : ℕ → A) (n : ℕ) (ys : List A) → n ≤ length ys → length (filled f n ys) ≡ length ys
-  length-filled f n ys l = length_front f n 0 ys l
+  pub length_filled : (f : ℕ → A) (n : ℕ) (ys : List A) → n ≤ length ys → length (filled f n ys) ≡ length ys
+  length_filled f n ys l = length_front f n 0 ys l
 
   pub filled_more : (f : ℕ → A) (n : ℕ) (ys : List A) → n < length ys → set (filled f n ys) n (f n) ≡ filled f (suc n) ys
   filled_more f n ys l = front_more n 0 f ys (f n) l (ap f (sym (zero-add n)))
@@ -30,21 +30,21 @@ module _ {A : Type 0} where
   filled_none f ys = refl
 
   -- ---- the first k elements, and the others
-  take-front : (k : ℕ) (ys zs : List A) → length zs ≡ length (take k ys) → take k (zs ++ drop k ys) ≡ zs
-  take-front zero ys [] e = refl
-  take-front zero ys (z ∷ zs) e = absurd (omega (arith, e))
-  take-front (suc k) [] [] e = refl
-  take-front (suc k) [] (z ∷ zs) e = absurd (omega (arith, e))
-  take-front (suc k) (y ∷ ys) [] e = absurd (omega (arith, e))
-  take-front (suc k) (y ∷ ys) (z ∷ zs) e = ap (λ (l : List A). z ∷ l) (take-front k ys zs (omega (arith, e)))
+  take_front : (k : ℕ) (ys zs : List A) → length zs ≡ length (take k ys) → take k (zs ++ drop k ys) ≡ zs
+  take_front zero ys [] e = refl
+  take_front zero ys (z ∷ zs) e = absurd (omega (arith, e))
+  take_front (suc k) [] [] e = refl
+  take_front (suc k) [] (z ∷ zs) e = absurd (omega (arith, e))
+  take_front (suc k) (y ∷ ys) [] e = absurd (omega (arith, e))
+  take_front (suc k) (y ∷ ys) (z ∷ zs) e = ap (λ (l : List A). z ∷ l) (take_front k ys zs (omega (arith, e)))
 
-  drop-front : (k : ℕ) (ys zs : List A) → length zs ≡ length (take k ys) → drop k (zs ++ drop k ys) ≡ drop k ys
-  drop-front zero ys [] e = refl
-  drop-front zero ys (z ∷ zs) e = absurd (omega (arith, e))
-  drop-front (suc k) [] [] e = refl
-  drop-front (suc k) [] (z ∷ zs) e = absurd (omega (arith, e))
-  drop-front (suc k) (y ∷ ys) [] e = absurd (omega (arith, e))
-  drop-front (suc k) (y ∷ ys) (z ∷ zs) e = drop-front k ys zs (omega (arith, e))
+  drop_front : (k : ℕ) (ys zs : List A) → length zs ≡ length (take k ys) → drop k (zs ++ drop k ys) ≡ drop k ys
+  drop_front zero ys [] e = refl
+  drop_front zero ys (z ∷ zs) e = absurd (omega (arith, e))
+  drop_front (suc k) [] [] e = refl
+  drop_front (suc k) [] (z ∷ zs) e = absurd (omega (arith, e))
+  drop_front (suc k) (y ∷ ys) [] e = absurd (omega (arith, e))
+  drop_front (suc k) (y ∷ ys) (z ∷ zs) e = drop_front k ys zs (omega (arith, e))
 
   -- more than there are counts as all
   take_min : (i : ℕ) (l : List A) → take (min i (length l)) l ≡ take i l
@@ -68,9 +68,9 @@ module _ {A : Type 0} where
     whole : length (zs ++ drop k ys) ≡ w
     whole = same_len k ys zs same ∙ long
 
-    pub lent-said : (P : List A → List A → Type 0) → P (take k ys) zs → P (take n ys) (take n (zs ++ drop k ys))
-    lent-said P p = subst (λ (l : List A). P l (take n (zs ++ drop k ys))) (took ys long)
-        (subst (P (take k ys)) (sym (take-front k ys zs same) ∙ took (zs ++ drop k ys) whole) p)
+    pub lent_said : (P : List A → List A → Type 0) → P (take k ys) zs → P (take n ys) (take n (zs ++ drop k ys))
+    lent_said P p = subst (λ (l : List A). P l (take n (zs ++ drop k ys))) (took ys long)
+        (subst (P (take k ys)) (sym (take_front k ys zs same) ∙ took (zs ++ drop k ys) whole) p)
 
-    pub others-stay : drop n (zs ++ drop k ys) ≡ drop n ys
-    others-stay = sym (dropped (zs ++ drop k ys) whole) ∙ drop-front k ys zs same ∙ dropped ys long
+    pub others_stay : drop n (zs ++ drop k ys) ≡ drop n ys
+    others_stay = sym (dropped (zs ++ drop k ys) whole) ∙ drop_front k ys zs same ∙ dropped ys long

@@ -58,14 +58,14 @@ Says {T} {R} S b k = T.R.Denot → Nums k → List (Cell b) → T.R.Denot → R.
 
 module _ {T R : Plainly} (S : Both T R) (b : Beside) (k : ℕ) where
   -- ---- the signatures of the step by value and of the call on a lent table
-  abbrev pub step-ended : Ended
-  step-ended = record {
+  abbrev pub step_ended : Ended
+  step_ended = record {
     signature = record { lifetimes = lives b; outlives = []; params = plain (λ _. T.R) ∷ nums k (buffer' b); result = plain (λ _. S.R) };
     kept = (yes, all yes (nums k (buffer' b)));
   }
 
-  abbrev pub lent-ended : Ended
-  lent-ended = record {
+  abbrev pub lent_ended : Ended
+  lent_ended = record {
     signature = record {
       lifetimes = suc (lives b);
       outlives = [];
@@ -76,23 +76,23 @@ module _ {T R : Plainly} (S : Both T R) (b : Beside) (k : ℕ) where
   }
 
   -- ---- their contracts
-  abbrev pub step-clauses : Says S b k → {M : Type 1} (𝓤 : Ura M) → Clauses 𝓤 step-ended
-  step-clauses Q 𝓤 κs a = record {
+  abbrev pub step_clauses : Says S b k → {M : Type 1} (𝓤 : Ura M) → Clauses 𝓤 step_ended
+  step_clauses Q 𝓤 κs a = record {
     ghost = Unit {0};
     requires = λ _. emp 𝓤;
     ensures = λ _ r e. fact 𝓤 (Clause κs (buffer' b) k (λ ns x f. Q a.0 ns (contents' b κs x) (S.first r) (S.second r) (seen' b κs f)) a.1 e.1);
   }
 
-  abbrev pub lent-clauses : Says S b k → {M : Type 1} (𝓤 : Ura M) → Clauses 𝓤 lent-ended
-  lent-clauses Q 𝓤 κs a = record {
+  abbrev pub lent_clauses : Says S b k → {M : Type 1} (𝓤 : Ura M) → Clauses 𝓤 lent_ended
+  lent_clauses Q 𝓤 κs a = record {
     ghost = Unit {0};
     requires = λ _. emp 𝓤;
     ensures = λ _ r e. fact 𝓤 (Clause κs (buffer b) k (λ ns x f. Q a.0.now ns (contents b κs x) e.0.now r (seen b κs f)) a.1 e.1);
   }
 
   -- ---- the MIR of the call, which calls the key
-  abbrev pub lent-function : Name → Fn
-  lent-function key = record {
+  abbrev pub lent_function : Name → Fn
+  lent_function key = record {
     lifetimes = suc (lives b);
     outlives = [];
     params = suc (past k (beyond b 0));
@@ -105,14 +105,14 @@ module _ {T R : Plainly} (S : Both T R) (b : Beside) (k : ℕ) where
         (seq (assign (place 0 []) (rv_opd (copy (place (after k (beyond b 0)) (field 1 ∷ []))))) return))));
   }
 
-  abbrev stayed : Stays lent-ended.signature.params lent-ended.kept
+  abbrev stayed : Stays lent_ended.signature.params lent_ended.kept
   stayed = (stay_ref (0 ∷ []) tt (plain (λ _. T.R)), stays k (buffer b) (gave b))
 
   abbrev pub Step : Says S b k → {M : Type 1} {𝓤 : Ura M} (𝓛 : Logic 𝓤) → Contract 𝓤
-  Step Q {𝓤 = 𝓤} 𝓛 = triple_of 𝓛 step-ended.signature (closing 𝓛 step-ended (step-clauses Q 𝓤))
+  Step Q {𝓤 = 𝓤} 𝓛 = triple_of 𝓛 step_ended.signature (closing 𝓛 step_ended (step_clauses Q 𝓤))
 
   abbrev pub Lend : Says S b k → {M : Type 1} {𝓤 : Ura M} (𝓛 : Logic 𝓤) → Contract 𝓤
-  Lend Q {𝓤 = 𝓤} 𝓛 = triple_of 𝓛 lent-ended.signature (closing 𝓛 lent-ended (lent-clauses Q 𝓤))
+  Lend Q {𝓤 = 𝓤} 𝓛 = triple_of 𝓛 lent_ended.signature (closing 𝓛 lent_ended (lent_clauses Q 𝓤))
 
 -- the locals after the numbers and the buffer, at their blocks: what the step returns, the table, and the borrow; and where the buffer and the borrow stand
 abbrev rest : {T R : Plainly} → Both T R → Beside → ℕ → ℕ → ℕ → ℕ → List (Ty × ℕ)
@@ -142,38 +142,38 @@ module _ {M : Type 1} {𝓤 : Ura M} (𝓛 : Logic 𝓤) {T R : Plainly} (S : Bo
   vs' = valss (types_at (buffer' b) κs.1) (spell' b κs.1) x'
 
   -- the arguments of the call and of the step by value, and their machine values
-  abbrev a : Args (lent-ended S b k).signature κs
+  abbrev a : Args (lent_ended S b k).signature κs
   a = (record { ref_ptr = (m, o); ghost_name = γ; now = h }, args κs (buffer b) k ns x)
 
-  abbrev av : Vals (lent-ended S b k).signature κs
+  abbrev av : Vals (lent_ended S b k).signature κs
   av = (vptr m o ∷ [], vals κs (buffer b) k ns vs)
 
-  abbrev a' : Args (step-ended S b k).signature κs.1
+  abbrev a' : Args (step_ended S b k).signature κs.1
   a' = (h, args κs.1 (buffer' b) k ns x')
 
-  abbrev av' : Vals (step-ended S b k).signature κs.1
+  abbrev av' : Vals (step_ended S b k).signature κs.1
   av' = (tv h ∷ [], vals κs.1 (buffer' b) k ns vs')
 
   -- what the step by value ensures of what it returns, and of the last contents of the buffer
   abbrev Said' : S.R.Denot → Nums k → Denots (types_at (buffer' b) κs.1) → Outs κs.1 (buffer' b) (all yes (buffer' b)) → Type 0
   Said' r ns x f = Q h ns (contents' b κs.1 x) (S.first r) (S.second r) (seen' b κs.1 f)
 
-  abbrev Ensured : S.R.Denot → Lasts (step-ended S b k) κs.1 a' → Type 0
-  Ensured r ws = Clause κs.1 (buffer' b) k (Said' r) a'.1 (at_exit (step-ended S b k) κs.1 a' ws).1
+  abbrev Ensured : S.R.Denot → Lasts (step_ended S b k) κs.1 a' → Type 0
+  Ensured r ws = Clause κs.1 (buffer' b) k (Said' r) a'.1 (at_exit (step_ended S b k) κs.1 a' ws).1
 
   -- and what the call says then
   abbrev Said : S.R.Denot → Nums k → Denots (types_at (buffer b) κs) → Outs κs (buffer b) (all yes (buffer b)) → Type 0
   Said r ns x f = Q h ns (contents b κs x) (S.first r) (S.second r) (seen b κs f)
 
   -- the last contents
-  abbrev last' : Lasts (step-ended S b k) κs.1 a' → Fins κs.1 (buffer' b) (all yes (buffer' b)) x'
+  abbrev last' : Lasts (step_ended S b k) κs.1 a' → Fins κs.1 (buffer' b) (all yes (buffer' b)) x'
   last' ws = last κs.1 (buffer' b) x' k ns ws.1
 
   abbrev answer : S.R.Denot → Val
   answer r = R.val (S.second r)
 
   abbrev Post : Val → SProp 𝓤
-  Post = (walk_of 𝓛 (lent-ended S b k) (stayed S b k) (lent-clauses S b k Q 𝓤)).post ((κs, qs, tt, a, av), tt)
+  Post = (walk_of 𝓛 (lent_ended S b k) (stayed S b k) (lent_clauses S b k Q 𝓤)).post ((κs, qs, tt, a, av), tt)
 
   -- what the triple of the step by value binds outside
   abbrev to : (Step S b k Q 𝓛).Ghost
@@ -195,7 +195,7 @@ module _ {M : Type 1} {𝓤 : Ura M} (𝓛 : Logic 𝓤) {T R : Plainly} (S : Bo
   exits r w e f is =
       qed 𝓛 (‵ (fobs γ (T.R.coded.code (S.first r))) ∷ ‵ (fbor κs.0 (Body (mem T.R) m o γ)) ∷ ‵ (flft κs.0 qs.0) ∷ raw
       (toks 𝓛 (lives b) κs.1 qs.1) ∷ ‵ (has_of κs (buffer b) (all yes (buffer b)) (gave b) x w vs) ∷ []) ∵
-      suffices ! _ (ends_at 𝓛 (lent-ended S b k) (stayed S b k) (lent-clauses S b k Q 𝓤) ((κs, qs, tt, a, av), tt) (answer r) (S.second r)
+      suffices ! _ (ends_at 𝓛 (lent_ended S b k) (stayed S b k) (lent_clauses S b k Q 𝓤) ((κs, qs, tt, a, av), tt) (answer r) (S.second r)
       (S.first r, lasts κs (buffer b) x k ns w) (tt, fit_in κs (buffer b) x (gave b) k ns w f)) $
       says ! (clause_in κs (buffer b) x k (Said r) ns w e) $ move ! (2 ∷ 3 ∷ []) $ join ! $ frame ! $
       -- [obs; the borrow; what is had of the buffer]
@@ -205,12 +205,12 @@ module _ {M : Type 1} {𝓤 : Ura M} (𝓛 : Logic 𝓤) {T R : Plainly} (S : Bo
       move ! (1 ∷ 0 ∷ []) $ fjoin ! $ frame ! $ owned ! R.R (Is R.R) (R.makes M 𝓤 𝓛) (S.second r) _ is $ done !
 
   module _ (C : Calls 𝓤 H) (Λ : Loops 𝓤 H) (fm : FmC 𝓤 H 𝓛.laws C) (known : Triple 𝓤 (C key) (Step S b k Q 𝓛)) where
-    walk : ent 𝓤 (on_entry 𝓛 (lent-ended S b k).signature κs qs a av) (WpFn 𝓤 H C Λ (lent-function S b k key)
-        (flat (types_at (lent-ended S b k).signature.params κs) av) Post)
+    walk : ent 𝓤 (on_entry 𝓛 (lent_ended S b k).signature κs qs a av) (WpFn 𝓤 H C Λ (lent_function S b k key)
+        (flat (types_at (lent_ended S b k).signature.params κs) av) Post)
     walk =
         qed 𝓛 ((‵ (flft κs.0 qs.0) ⊛ raw (toks 𝓛 (lives b) κs.1 qs.1)) ∷ ‵
-        (owns (types_at (lent-ended S b k).signature.params κs) a av) ∷ []) ∵ enter ! C Λ
-        (lent-function S b k key) (flat (types_at (lent-ended S b k).signature.params κs) av) _ $
+        (owns (types_at (lent_ended S b k).signature.params κs) a av) ∷ []) ∵ enter ! C Λ
+        (lent_function S b k key) (flat (types_at (lent_ended S b k).signature.params κs) av) _ $
         alloc1 ! (λ l₀. alloc1 ! (λ l₁. alloc_nums ! k (λ bs. alloc_buffer ! 1 b (λ p. alloc1 ! (λ r₀. alloc1 ! (λ r₁. alloc_borrow ! b (λ i j.
         alloc0 ! $ params1 ! $
         -- [the borrow's; r₁; …; r₀; …; the buffer's; the numbers; _1; …; room for _0; …; the tokens; what the parameters own]
@@ -239,9 +239,9 @@ module _ {M : Type 1} {𝓤 : Ura M} (𝓛 : Logic 𝓤) {T R : Plainly} (S : Bo
         (read_borrow ! 1 1 b κs x k 2 p i j (stand 𝓤 H S b k bs p r₀ r₁ i j) refl)))
         (λ v.
         use1 𝓛 (later (some (λ (r : S.R.Denot). (raw (toks 𝓛 (lives b) κs.1 qs.1) ⊛ ‵ (S.R.own r (v ∷ []))) ⊛ raw
-        (ensured 𝓛 (step-ended S b k) (step-clauses S b k Q 𝓤) κs.1 a' tt r)))) (id⊢ 𝓤 _) $ await ! tt $ pick ! (λ r.
+        (ensured 𝓛 (step_ended S b k) (step_clauses S b k Q 𝓤) κs.1 a' tt r)))) (id⊢ 𝓤 _) $ await ! tt $ pick ! (λ r.
         -- what the step ensures, at some last contents of the buffer
-        split ! $ move ! (1 ∷ []) $ use1 𝓛 (some (λ (ws : Lasts (step-ended S b k) κs.1 a'). ‵ (lasting (step-ended S b k) κs.1 a' ws) ⊛ raw
+        split ! $ move ! (1 ∷ []) $ use1 𝓛 (some (λ (ws : Lasts (step_ended S b k) κs.1 a'). ‵ (lasting (step_ended S b k) κs.1 a' ws) ⊛ raw
         (fact 𝓤 (Ensured r ws))))
         (id⊢ 𝓤 _) $ pick ! (λ ws. split ! $ move ! (1 ∷ []) $ heard ! (Ensured r ws) (λ e. fsplit ! $ drop ! $
         use1 𝓛 (‵ (lasts_of κs.1 (buffer' b) (all yes (buffer' b)) x' (last' ws))) (last_rest 𝓛 κs.1 (buffer' b) x' vs' k ns ws.1) $
@@ -277,18 +277,18 @@ module _ {M : Type 1} {𝓤 : Ura M} (𝓛 : Logic 𝓤) {T R : Plainly} (S : Bo
   abbrev Rest : Lfts (suc (lives b)) → Type 0
   Rest κs = Denots (types_at (nums k (buffer b)) κs) × Valss (types_at (nums k (buffer b)) κs)
 
-  lent-walks : (C : Calls 𝓤 H) (Λ : Loops 𝓤 H) → FmC 𝓤 H 𝓛.laws C → Triple 𝓤 (C key) (Step S b k Q 𝓛)
-      → Walks 𝓛 (lent-ended S b k) (stayed S b k) (WpFn 𝓤 H C Λ (lent-function S b k key)) (lent-clauses S b k Q 𝓤)
-  lent-walks C Λ fm known = walked 𝓛 (lent-ended S b k) (stayed S b k) (lent-clauses S b k Q 𝓤) (WpFn 𝓤 H C Λ (lent-function S b k key))
+  lent_walks : (C : Calls 𝓤 H) (Λ : Loops 𝓤 H) → FmC 𝓤 H 𝓛.laws C → Triple 𝓤 (C key) (Step S b k Q 𝓛)
+      → Walks 𝓛 (lent_ended S b k) (stayed S b k) (WpFn 𝓤 H C Λ (lent_function S b k key)) (lent_clauses S b k Q 𝓤)
+  lent_walks C Λ fm known = walked 𝓛 (lent_ended S b k) (stayed S b k) (lent_clauses S b k Q 𝓤) (WpFn 𝓤 H C Λ (lent_function S b k key))
       (λ κs. (mut_vals, spells κs (buffer b) k (spell b κs))) (λ κs. (
         mut_Tells (named 0) κs.0 T.R,
         tells κs (buffer b) k (spell b κs)
             (spell_tells b κs),
       ))
       (λ κs qs bounds a g are. via 𝓤 _ (fst∗ 𝓤 _ (emp 𝓤))
-      (subst (λ (y : Rest κs). ent 𝓤 (on_entry 𝓛 (lent-ended S b k).signature κs qs (a.0, y.0) (mut_vals a.0, y.1))
-      (WpFn 𝓤 H C Λ (lent-function S b k key) (flat (types_at (lent-ended S b k).signature.params κs) (mut_vals a.0, y.1))
-      ((walk_of 𝓛 (lent-ended S b k) (stayed S b k) (lent-clauses S b k Q 𝓤)).post ((κs, qs, tt, (a.0, y.0), (mut_vals a.0, y.1)), tt))))
+      (subst (λ (y : Rest κs). ent 𝓤 (on_entry 𝓛 (lent_ended S b k).signature κs qs (a.0, y.0) (mut_vals a.0, y.1))
+      (WpFn 𝓤 H C Λ (lent_function S b k key) (flat (types_at (lent_ended S b k).signature.params κs) (mut_vals a.0, y.1))
+      ((walk_of 𝓛 (lent_ended S b k) (stayed S b k) (lent_clauses S b k Q 𝓤)).post ((κs, qs, tt, (a.0, y.0), (mut_vals a.0, y.1)), tt))))
       (λ i. (args_is κs (buffer b) k a.1 i, vals_is κs (buffer b) k (spell b κs) a.1 i))
       (walk 𝓛 S b k Q key κs qs a.0.ref_ptr.0 a.0.ref_ptr.1 a.0.ghost_name a.0.now (front κs (buffer b) k a.1) (back κs (buffer b) k a.1)
       (fit_of κs (buffer b) (spell b κs) k a.1 are.1) (fine_of b κs (back κs (buffer b) k a.1)
@@ -296,19 +296,19 @@ module _ {M : Type 1} {𝓤 : Ura M} (𝓛 : Logic 𝓤) {T R : Plainly} (S : Bo
 
 lent_meets : {T R : Plainly} (S : Both T R) (b : Beside) (k : ℕ) (Q : Says S b k) (key : Name) {M : Type 1} {𝓤 : Ura M} (𝓛 : Logic 𝓤)
     → (𝓣 : Tables 𝓤 𝓛.H) → Triple 𝓤 (𝓣.C key) (Step S b k Q 𝓛)
-    → Triple 𝓤 (WpFn 𝓤 𝓛.H 𝓣.C 𝓣.Λ (lent-function S b k key)) (Lend S b k Q 𝓛)
+    → Triple 𝓤 (WpFn 𝓤 𝓛.H 𝓣.C 𝓣.Λ (lent_function S b k key)) (Lend S b k Q 𝓛)
 lent_meets {T} S b k Q key {𝓤 = 𝓤} 𝓛 𝓣 known =
-    walk_Meets 𝓛 (lent-ended S b k) (stayed S b k) (
+    walk_Meets 𝓛 (lent_ended S b k) (stayed S b k) (
       Goes-ref 𝓛 (suc (lives b)) 0 tt (plain (λ _. T.R)),
       go_nums 𝓛 k (buffer b) (gave b) (go_buffer 𝓛 b),
-    ) (lent-clauses S b k Q 𝓤)
-    (WpFn 𝓤 𝓛.H 𝓣.C 𝓣.Λ (lent-function S b k key)) (WpFn-mono 𝓤 𝓛.H 𝓛.laws 𝓣 (lent-function S b k key))
-    (lent-walks 𝓛 S b k Q key 𝓣.C 𝓣.Λ (fm_of 𝓤 𝓛.H 𝓛.laws 𝓣) known)
+    ) (lent_clauses S b k Q 𝓤)
+    (WpFn 𝓤 𝓛.H 𝓣.C 𝓣.Λ (lent_function S b k key)) (WpFn-mono 𝓤 𝓛.H 𝓛.laws 𝓣 (lent_function S b k key))
+    (lent_walks 𝓛 S b k Q key 𝓣.C 𝓣.Λ (fm_of 𝓤 𝓛.H 𝓛.laws 𝓣) known)
 
 pub lent_spec : {T R : Plainly} (S : Both T R) (b : Beside) (k : ℕ) (Q : Says S b k) {M : Type 1} {𝓤 : Ura M} (𝓛 : Logic 𝓤) (𝓜 : Model 𝓤 𝓛.H)
     (𝓡 : Running 𝓤 𝓛.H 𝓜) (γ : Env) (n key : Name) (r : Routine) → γ key ≡ r
-    → Closed 𝓤 𝓛.H (tables 𝓤 𝓛.H 𝓜 𝓡 γ).C (tables 𝓤 𝓛.H 𝓜 𝓡 γ).Λ n (lent-function S b k key)
+    → Closed 𝓤 𝓛.H (tables 𝓤 𝓛.H 𝓜 𝓡 γ).C (tables 𝓤 𝓛.H 𝓜 𝓡 γ).Λ n (lent_function S b k key)
     → Triple 𝓤 (𝓡.run r) (Step S b k Q 𝓛) → Triple 𝓤 (𝓡.run (γ n)) (Lend S b k Q 𝓛)
 lent_spec S b k Q {𝓤 = 𝓤} 𝓛 𝓜 𝓡 γ n key r at closed =
-    linked 𝓤 𝓛.H 𝓜 𝓡 γ n key r (lent-function S b k key) (Lend S b k Q 𝓛) (Step S b k Q 𝓛) at closed
+    linked 𝓤 𝓛.H 𝓜 𝓡 γ n key r (lent_function S b k key) (Lend S b k Q 𝓛) (Step S b k Q 𝓛) at closed
     (lent_meets S b k Q key 𝓛)

@@ -2,7 +2,7 @@
 --     nums, stays, args, vals, lasts     the slots and the tuples of a signature and of a walk, with k numbers put before those of ss
 --     Clause       what a contract says, as a relation of the numbers and of the rest
 --     locals, env, past, reads     the MIR: k locals, their part of the environment, the locals after them, and the operands that copy them
---     rooms, cells     one entry of the context for all k locals: `alloc-nums` makes it, `pass-nums` fills it, `read-nums` reads it, `free-nums` gives it back
+--     rooms, cells     one entry of the context for all k locals: `alloc_nums` makes it, `pass_nums` fills it, `read_nums` reads it, `free_nums` gives it back
 use mathlib.Core.Path.{◌≡◌, refl, sym, subst}
 use Prim.Native.Nat.{ℕ, zero, suc, ◌<◌, ◌^◌}
 use mathlib.Core.List.{List, [], ◌∷◌}
@@ -74,14 +74,14 @@ module _ {n : ℕ} where
     back zero a = a
     back (suc k) a = back k a.1
 
-    pub args-is : (k : ℕ) (a : Denots (types_at (nums k ss) κs)) → args k (front k a) (back k a) ≡ a
-    args-is zero a = refl
-    args-is (suc k) a = λ i. (a.0, args-is k a.1 i)
+    pub args_is : (k : ℕ) (a : Denots (types_at (nums k ss) κs)) → args k (front k a) (back k a) ≡ a
+    args_is zero a = refl
+    args_is (suc k) a = λ i. (a.0, args_is k a.1 i)
 
-    pub vals-is : (k : ℕ) (sp : Spells (types_at ss κs)) (a : Denots (types_at (nums k ss) κs))
+    pub vals_is : (k : ℕ) (sp : Spells (types_at ss κs)) (a : Denots (types_at (nums k ss) κs))
         → vals k (front k a) (valss (types_at ss κs) sp (back k a)) ≡ valss (types_at (nums k ss) κs) (spells k sp) a
-    vals-is zero sp a = refl
-    vals-is (suc k) sp a = λ i. (vint w64 a.0 ∷ [], vals-is k sp a.1 i)
+    vals_is zero sp a = refl
+    vals_is (suc k) sp a = λ i. (vint w64 a.0 ∷ [], vals_is k sp a.1 i)
 
     module _ (sp : Spells (types_at ss κs)) where
       pub fit_of : (k : ℕ) (a : Denots (types_at (nums k ss) κs))
@@ -89,11 +89,11 @@ module _ {n : ℕ} where
       fit_of zero a are = tt
       fit_of (suc k) a are = (are.0.1, fit_of k a.1 are.1)
 
-      pub are-of : (k : ℕ) (a : Denots (types_at (nums k ss) κs))
+      pub are_of : (k : ℕ) (a : Denots (types_at (nums k ss) κs))
           → Are (types_at (nums k ss) κs) (Ises (types_at (nums k ss) κs)) a (valss (types_at (nums k ss) κs) (spells k sp) a)
           → Are (types_at ss κs) (Ises (types_at ss κs)) (back k a) (valss (types_at ss κs) sp (back k a))
-      are-of zero a are = are
-      are-of (suc k) a are = are-of k a.1 are.1
+      are_of zero a are = are
+      are_of (suc k) a are = are_of k a.1 are.1
 
     -- what is bound at exit, and what a contract says
     abbrev pub Clause : (k : ℕ) → (Nums k → Denots (types_at ss κs) → Outs κs ss (all yes ss) → Type 0) → Denots (types_at (nums k ss) κs)
@@ -110,42 +110,42 @@ module _ {n : ℕ} where
       last zero ns w = w
       last (suc k) ns w = last k ns.1 w.1
 
-      pub clause-in : (k : ℕ) (P : Nums k → Denots (types_at ss κs) → Outs κs ss (all yes ss) → Type 0) (ns : Nums k) (w : Fins κs ss (all yes ss) x)
+      pub clause_in : (k : ℕ) (P : Nums k → Denots (types_at ss κs) → Outs κs ss (all yes ss) → Type 0) (ns : Nums k) (w : Fins κs ss (all yes ss) x)
           → P ns x (outs κs ss (all yes ss) x w) → Clause k P (args k ns x) (outs κs (nums k ss) (all yes (nums k ss)) (args k ns x) (lasts k ns w))
-      clause-in zero P ns w p = p
-      clause-in (suc k) P ns w p = clause-in k (λ ms. P (ns.0, ms)) ns.1 w p
+      clause_in zero P ns w p = p
+      clause_in (suc k) P ns w p = clause_in k (λ ms. P (ns.0, ms)) ns.1 w p
 
-      pub clause-out : (k : ℕ) (P : Nums k → Denots (types_at ss κs) → Outs κs ss (all yes ss) → Type 0) (ns : Nums k)
+      pub clause_out : (k : ℕ) (P : Nums k → Denots (types_at ss κs) → Outs κs ss (all yes ss) → Type 0) (ns : Nums k)
           (w : Fins κs (nums k ss) (all yes (nums k ss)) (args k ns x))
           → Clause k P (args k ns x) (outs κs (nums k ss) (all yes (nums k ss)) (args k ns x) w) → P ns x (outs κs ss (all yes ss) x (last k ns w))
-      clause-out zero P ns w p = p
-      clause-out (suc k) P ns w p = clause-out k (λ ms. P (ns.0, ms)) ns.1 w.1 p
+      clause_out zero P ns w p = p
+      clause_out (suc k) P ns w p = clause_out k (λ ms. P (ns.0, ms)) ns.1 w.1 p
 
-      pub fit-in : (hs : Stays ss (all yes ss)) (k : ℕ) (ns : Nums k) (w : Fins κs ss (all yes ss) x) → fits_of κs ss (all yes ss) hs x w
+      pub fit_in : (hs : Stays ss (all yes ss)) (k : ℕ) (ns : Nums k) (w : Fins κs ss (all yes ss) x) → fits_of κs ss (all yes ss) hs x w
           → fits_of κs (nums k ss) (all yes (nums k ss)) (stays k ss hs) (args k ns x) (lasts k ns w)
-      fit-in hs zero ns w f = f
-      fit-in hs (suc k) ns w f = (tt, fit-in hs k ns.1 w f)
+      fit_in hs zero ns w f = f
+      fit_in hs (suc k) ns w f = (tt, fit_in hs k ns.1 w f)
 
 -- ---- what the parameters own, and what is had of them
 module _ {M : Type 1} {𝓤 : Ura M} (𝓛 : Logic 𝓤) {n : ℕ} where
-  pub go-nums : (k : ℕ) (ss : List (Slot n)) (hs : Stays ss (all yes ss)) → AllGo 𝓛 n ss (all yes ss) hs
+  pub go_nums : (k : ℕ) (ss : List (Slot n)) (hs : Stays ss (all yes ss)) → AllGo 𝓛 n ss (all yes ss) hs
       → AllGo 𝓛 n (nums k ss) (all yes (nums k ss)) (stays k ss hs)
-  go-nums zero ss hs gs = gs
-  go-nums (suc k) ss hs gs = (Goes-none 𝓛 n (λ _. u64) yes (λ κs x f. refl), go-nums k ss hs gs)
+  go_nums zero ss hs gs = gs
+  go_nums (suc k) ss hs gs = (Goes-none 𝓛 n (λ _. u64) yes (λ κs x f. refl), go_nums k ss hs gs)
 
   module _ (κs : Lfts n) (ss : List (Slot n)) (x : Denots (types_at ss κs)) (vs : Valss (types_at ss κs)) where
-    pub own-rest : (k : ℕ) (ns : Nums k) → ent 𝓤 (sem 𝓛 (owns (types_at (nums k ss) κs) (args κs ss k ns x) (vals κs ss k ns vs)))
+    pub own_rest : (k : ℕ) (ns : Nums k) → ent 𝓤 (sem 𝓛 (owns (types_at (nums k ss) κs) (args κs ss k ns x) (vals κs ss k ns vs)))
         (sem 𝓛 (owns (types_at ss κs) x vs))
-    own-rest zero ns = id⊢ 𝓤 _
-    own-rest (suc k) ns = qed 𝓛 (‵ (owns (types_at (nums (suc k) ss) κs) (args κs ss (suc k) ns x) (vals κs ss (suc k) ns vs)) ∷ []) ∵ fsplit ! $ drop ! $
-        by ! (own-rest k ns.1)
+    own_rest zero ns = id⊢ 𝓤 _
+    own_rest (suc k) ns = qed 𝓛 (‵ (owns (types_at (nums (suc k) ss) κs) (args κs ss (suc k) ns x) (vals κs ss (suc k) ns vs)) ∷ []) ∵ fsplit ! $ drop ! $
+        by ! (own_rest k ns.1)
 
-    pub own-all : (k : ℕ) (ns : Nums k) → Fit k ns → ent 𝓤 (sem 𝓛 (owns (types_at ss κs) x vs))
+    pub own_all : (k : ℕ) (ns : Nums k) → Fit k ns → ent 𝓤 (sem 𝓛 (owns (types_at ss κs) x vs))
         (sem 𝓛 (owns (types_at (nums k ss) κs) (args κs ss k ns x) (vals κs ss k ns vs)))
-    own-all zero ns fit = id⊢ 𝓤 _
-    own-all (suc k) ns fit = qed 𝓛 (‵ (owns (types_at ss κs) x vs) ∷ []) ∵ use1 𝓛 (‵
+    own_all zero ns fit = id⊢ 𝓤 _
+    own_all (suc k) ns fit = qed 𝓛 (‵ (owns (types_at ss κs) x vs) ∷ []) ∵ use1 𝓛 (‵
         (owns (types_at (nums k ss) κs) (args κs ss k ns.1 x) (vals κs ss k ns.1 vs)))
-        (own-all k ns.1 fit.1) $
+        (own_all k ns.1 fit.1) $
         owned ! u64 (Is u64) (uint_Makes 𝓛 w64) ns.0 _ (refl, fit.0) $ fjoin ! $ done !
 
     pub has_all : (hs : Stays ss (all yes ss)) (w : Fins κs ss (all yes ss) x) (k : ℕ) (ns : Nums k) → Fit k ns
@@ -210,28 +210,28 @@ module _ {M : Type 1} {𝓤 : Ura M} {𝓛 : Logic 𝓤} {K : Type 0} where
       → Finds K 𝓛 Γ E (place i st) sp'
   from_at t {Γ} {E} {i} {st} e w = record { go = λ Kt h. subst (λ (s : Spot 𝓤 H). ent 𝓤 (⋆ 𝓛 Γ) (walk 𝓤 H E s st Kt)) (sym e) (w.go Kt h) }
 
-  pub alloc-nums : K → (k : ℕ) {Γ : List (Item 𝓤)} {ls : List Local} {Kt : Env 𝓤 H → Goal 𝓤 H}
+  pub alloc_nums : K → (k : ℕ) {Γ : List (Item 𝓤)} {ls : List Local} {Kt : Env 𝓤 H → Goal 𝓤 H}
       → ((bs : Nums k) → Seq K 𝓛 (rooms 𝓤 k bs ∷ Γ) (allocs ls (λ E. Kt (env k bs E)))) → Seq K 𝓛 Γ (allocs (locals k ls) Kt)
-  alloc-nums t zero h = nothing t $ h tt
-  alloc-nums t (suc k) h = alloc1 t (λ b. alloc-nums t k (λ bs. move t (1 ∷ 2 ∷ 0 ∷ []) $ join t $ join t $ h (b, bs)))
+  alloc_nums t zero h = nothing t $ h tt
+  alloc_nums t (suc k) h = alloc1 t (λ b. alloc_nums t k (λ bs. move t (1 ∷ 2 ∷ 0 ∷ []) $ join t $ join t $ h (b, bs)))
 
-  pub pass-nums : K → (k : ℕ) (bs ns : Nums k) → Fit k ns
+  pub pass_nums : K → (k : ℕ) (bs ns : Nums k) → Fit k ns
       → {n : ℕ} (κs : Lfts n) (ss : List (Slot n)) (vs : Valss (types_at ss κs)) {Γ : List (Item 𝓤)} {E : Env 𝓤 H} {g : Goal 𝓤 H}
       → Step K 𝓛 (cells 𝓤 k bs ns ∷ Γ) (passes E (flat (types_at ss κs) vs) g) (rooms 𝓤 k bs ∷ Γ)
       (passes (env k bs E) (flat (types_at (nums k ss) κs) (vals κs ss k ns vs)) g)
-  pass-nums t zero bs ns fit κs ss vs = step (λ s. s)
-  pass-nums t (suc k) bs ns fit κs ss vs = step (λ s. split t $ split t $ pass1 t (init t 0 refl (tt, record { fits = fit.0 })) $ move t (2 ∷ []) $
-      pass-nums t k bs.1 ns.1 fit.1 κs ss vs $ move t (1 ∷ 2 ∷ []) $ join t $ join t $ s)
+  pass_nums t zero bs ns fit κs ss vs = step (λ s. s)
+  pass_nums t (suc k) bs ns fit κs ss vs = step (λ s. split t $ split t $ pass1 t (init t 0 refl (tt, record { fits = fit.0 })) $ move t (2 ∷ []) $
+      pass_nums t k bs.1 ns.1 fit.1 κs ss vs $ move t (1 ∷ 2 ∷ []) $ join t $ join t $ s)
 
-  pub free-nums : K → (k : ℕ) (bs ns : Nums k) {Γ : List (Item 𝓤)} {E : Env 𝓤 H} {g : Goal 𝓤 H} → Step K 𝓛 Γ (frees E g) (cells 𝓤 k bs ns ∷ Γ)
+  pub free_nums : K → (k : ℕ) (bs ns : Nums k) {Γ : List (Item 𝓤)} {E : Env 𝓤 H} {g : Goal 𝓤 H} → Step K 𝓛 Γ (frees E g) (cells 𝓤 k bs ns ∷ Γ)
       (frees (env k bs E) g)
-  free-nums t zero bs ns = drop t
-  free-nums t (suc k) bs ns = step (λ s. split t $ split t $ forget t 0 refl $ free1 t $ free-nums t k bs.1 ns.1 $ s)
+  free_nums t zero bs ns = drop t
+  free_nums t (suc k) bs ns = step (λ s. split t $ split t $ forget t 0 refl $ free1 t $ free_nums t k bs.1 ns.1 $ s)
 
   -- a cell that is in the context, beside X
-  reads-by : K → {Γ : List (Item 𝓤)} {τ : Ty} {b : ℕ} {v : Val} (X : SProp 𝓤) → ent 𝓤 (⋆ 𝓛 Γ) (sep 𝓤 (H.at full_share τ b zero v) X)
+  reads_by : K → {Γ : List (Item 𝓤)} {τ : Ty} {b : ℕ} {v : Val} (X : SProp 𝓤) → ent 𝓤 (⋆ 𝓛 Γ) (sep 𝓤 (H.at full_share τ b zero v) X)
       → ent 𝓤 (sep 𝓤 (H.at full_share τ b zero v) X) (⋆ 𝓛 Γ) → Reads K 𝓛 Γ τ b zero v
-  reads-by t {Γ} {τ} {b} {v} X out into =
+  reads_by t {Γ} {τ} {b} {v} X out into =
       let At : Val → SProp 𝓤 = λ u. H.at full_share τ b zero u in
       record {
         go = λ Kt h. via 𝓤 (sep 𝓤 (At v) X) out
@@ -242,12 +242,12 @@ module _ {M : Type 1} {𝓤 : Ura M} {𝓛 : Logic 𝓤} {K : Type 0} where
       }
 
   -- entry p of the context begins with the cell
-  pub look-first : K → (p : ℕ) {Γ : List (Item 𝓤)} {τ : Ty} {b : ℕ} {v : Val} {j : Item 𝓤} → nth 𝓛 p Γ ≡ (‵ (fat full_share τ b zero v) ⊛ j)
+  pub look_first : K → (p : ℕ) {Γ : List (Item 𝓤)} {τ : Ty} {b : ℕ} {v : Val} {j : Item 𝓤} → nth 𝓛 p Γ ≡ (‵ (fat full_share τ b zero v) ⊛ j)
       → Reads K 𝓛 Γ τ b zero v
-  look-first t p {Γ} {τ} {b} {v} {j} is =
+  look_first t p {Γ} {τ} {b} {v} {j} is =
       let c : SProp 𝓤 = H.at full_share τ b zero v in
       let X : SProp 𝓤 = ⋆ 𝓛 (del 𝓛 p Γ) in
-      reads-by t (sep 𝓤 (mean 𝓛 j) X) (via 𝓤 (sep 𝓤 (sep 𝓤 c (mean 𝓛 j)) X) (taken 𝓛 Γ p is) (assoc∗ 𝓤 c (mean 𝓛 j) X))
+      reads_by t (sep 𝓤 (mean 𝓛 j) X) (via 𝓤 (sep 𝓤 (sep 𝓤 c (mean 𝓛 j)) X) (taken 𝓛 Γ p is) (assoc∗ 𝓤 c (mean 𝓛 j) X))
       (via 𝓤 (sep 𝓤 (sep 𝓤 c (mean 𝓛 j)) X) (assoc' 𝓤 c (mean 𝓛 j) X) (put_back 𝓛 Γ p is))
 
   -- the operands: the entry of the numbers is in the context, beside X
@@ -261,7 +261,7 @@ module _ {M : Type 1} {𝓤 : Ura M} {𝓛 : Logic 𝓤} {K : Type 0} where
       let c : Item 𝓤 = ‵ (fat full_share (ty_int w64) bs.0 zero (vint w64 ns.0)) in
       let d : Item 𝓤 = ‵ (fdies (ty_int w64) bs.0) in
       let cs : Item 𝓤 = cells 𝓤 k bs.1 ns.1 in
-      and_then t (load t (from_at t (at 0) (stop t)) (reads-by t (sep 𝓤 (mean 𝓛 d) (sep 𝓤 (mean 𝓛 cs) X))
+      and_then t (load t (from_at t (at 0) (stop t)) (reads_by t (sep 𝓤 (mean 𝓛 d) (sep 𝓤 (mean 𝓛 cs) X))
       (via 𝓤 _ out (qed 𝓛 (((c ⊛ d) ⊛ cs) ∷ raw X ∷ []) ∵ split ! $ split ! $ done !)) (via 𝓤 _ (qed 𝓛 (c ∷ d ∷ cs ∷ raw X ∷ []) ∵ join ! $ join ! $
       done !) into)))
       (reading t k bs.1 ns.1 κs ss vs (λ i. f (suc i)) E' (sep 𝓤 (mean 𝓛 (c ⊛ d)) X)
@@ -270,9 +270,9 @@ module _ {M : Type 1} {𝓤 : Ura M} {𝓛 : Logic 𝓤} {K : Type 0} where
       join ! $ done !) into) (λ i. at (suc i)) os)
 
   -- entry p of the context is that of the numbers
-  pub read-nums : K → (p : ℕ) (k : ℕ) (bs ns : Nums k) {n : ℕ} (κs : Lfts n) (ss : List (Slot n)) (vs : Valss (types_at ss κs)) (f : ℕ → ℕ) (E' : Env 𝓤 H)
+  pub read_nums : K → (p : ℕ) (k : ℕ) (bs ns : Nums k) {n : ℕ} (κs : Lfts n) (ss : List (Slot n)) (vs : Valss (types_at ss κs)) (f : ℕ → ℕ) (E' : Env 𝓤 H)
       {Γ : List
       (Item 𝓤)} {E : Env 𝓤 H} {xs : List Operand} → nth 𝓛 p Γ ≡ cells 𝓤 k bs ns
       → ((i : ℕ) → spot_of 𝓤 H E (f i) ≡ spot_of 𝓤 H (env k bs E') i) → Opds K 𝓛 Γ E xs (flat (types_at ss κs) vs)
       → Opds K 𝓛 Γ E (reads k f xs) (flat (types_at (nums k ss) κs) (vals κs ss k ns vs))
-  read-nums t p k bs ns κs ss vs f E' {Γ} is = reading t k bs ns κs ss vs f E' (⋆ 𝓛 (del 𝓛 p Γ)) (taken 𝓛 Γ p is) (put_back 𝓛 Γ p is)
+  read_nums t p k bs ns κs ss vs f E' {Γ} is = reading t k bs ns κs ss vs f E' (⋆ 𝓛 (del 𝓛 p Γ)) (taken 𝓛 Γ p is) (put_back 𝓛 Γ p is)

@@ -63,8 +63,8 @@ behind none = 3
 behind (slice X) = 5
 
 module _ {T R : Plainly} (S : Both T R) (b : Beside) (k : ℕ) where
-  abbrev pub own-function : Name → Fn
-  own-function key = record {
+  abbrev pub own_function : Name → Fn
+  own_function key = record {
     lifetimes = lives b;
     outlives = [];
     params = suc (past k (beyond b 0));
@@ -95,11 +95,11 @@ module _ {M : Type 1} {𝓤 : Ura M} {𝓛 : Logic 𝓤} {K : Type 0} {Γ : List
   -- the copy
   open 𝓛 use {H}
 
-  from-copy : K → {T R : Plainly} (S : Both T R) (b : Beside) (k : ℕ) (bs : Nums k) (p r₀ r₁ r₂ i j r₃ : ℕ) {e e' : Ty × ℕ} {st : List PStep} {sp : Spot 𝓤 H}
+  from_copy : K → {T R : Plainly} (S : Both T R) (b : Beside) (k : ℕ) (bs : Nums k) (p r₀ r₁ r₂ i j r₃ : ℕ) {e e' : Ty × ℕ} {st : List PStep} {sp : Spot 𝓤 H}
       → Follows K 𝓛 Γ (e ∷ e' ∷ env k bs (buffer_env 0 b p (rest S b r₀ r₁ r₂ i j r₃))) (spot_of 𝓤 H ((T.mir, r₃) ∷ []) 0) st sp
       → Finds K 𝓛 Γ (e ∷ e' ∷ env k bs (buffer_env 0 b p (rest S b r₀ r₁ r₂ i j r₃))) (place (after k (beyond b (behind b))) st) sp
-  from-copy t S none k bs p r₀ r₁ r₂ i j r₃ = from_rest t 3 0 none k bs p (rest S none r₀ r₁ r₂ i j r₃)
-  from-copy t S (slice X) k bs p r₀ r₁ r₂ i j r₃ = from_rest t 5 0 (slice X) k bs p (rest S (slice X) r₀ r₁ r₂ i j r₃)
+  from_copy t S none k bs p r₀ r₁ r₂ i j r₃ = from_rest t 3 0 none k bs p (rest S none r₀ r₁ r₂ i j r₃)
+  from_copy t S (slice X) k bs p r₀ r₁ r₂ i j r₃ = from_rest t 5 0 (slice X) k bs p (rest S (slice X) r₀ r₁ r₂ i j r₃)
 
 module _ {M : Type 1} {𝓤 : Ura M} (𝓛 : Logic 𝓤) {T R : Plainly} (S : Both T R) (b : Beside) (k : ℕ)
     (Q : Says S b k) (key : Name) (κs : Lfts (lives b)) (qs : Shares (lives b)) (h : T.R.Denot) (ns : Nums k) (x : Denots (types_at (buffer' b) κs))
@@ -185,11 +185,11 @@ module _ {M : Type 1} {𝓤 : Ura M} (𝓛 : Logic 𝓤) {T R : Plainly} (S : Bo
         move ! (2 ∷ 0 ∷ []) $ fjoin ! $ move ! (1 ∷ 0 ∷ []) $ join ! $ frame ! $ done !
 
   module _ (C : Calls 𝓤 H) (Λ : Loops 𝓤 H) (fm : FmC 𝓤 H 𝓛.laws C) (known : Triple 𝓤 (C key) (Lend S b k Q 𝓛)) where
-    walk : ent 𝓤 (on_entry 𝓛 (step_ended S b k).signature κs qs a av) (WpFn 𝓤 H C Λ (own-function S b k key)
+    walk : ent 𝓤 (on_entry 𝓛 (step_ended S b k).signature κs qs a av) (WpFn 𝓤 H C Λ (own_function S b k key)
         (flat (types_at (step_ended S b k).signature.params κs) av) Post)
     walk =
         qed 𝓛 (raw (toks 𝓛 (lives b) κs qs) ∷ ‵ (owns (types_at (step_ended S b k).signature.params κs) a av) ∷ []) ∵ enter ! C Λ
-        (own-function S b k key) (flat (types_at (step_ended S b k).signature.params κs) av) _ $
+        (own_function S b k key) (flat (types_at (step_ended S b k).signature.params κs) av) _ $
         alloc1 ! (λ l₀. alloc1 ! (λ l₁. alloc_nums ! k (λ bs. alloc_buffer ! 0 b (λ p. alloc1 ! (λ r₀. alloc1 ! (λ r₁. alloc1 ! (λ r₂. alloc_borrow ! b
         (λ i j. alloc1 ! (λ r₃. alloc0 ! $ params1 ! $
         -- [r₃; …; the borrow's; r₂; …; r₁; …; r₀; …; the buffer's; the numbers; _1; …; room for _0; …; the tokens; what the parameters own]
@@ -239,8 +239,8 @@ module _ {M : Type 1} {𝓤 : Ura M} (𝓛 : Logic 𝓤) {T R : Plainly} (S : Bo
         -- [r₀; what the table owns; the tokens; what is had of the buffer; the borrow's; the buffer's; the numbers; r₃; …; r₂; …; r₁; …; r₀'s end; _1; …; room
         -- for _0; …]
         assigns ! (of_opd ! (load ! (from_rest ! 0 0 b k bs p (rest S b r₀ r₁ r₂ i j r₃) (stop !)) (look ! 0 refl)))
-        (from-copy ! S b k bs p r₀ r₁ r₂ i j r₃ (stop !)) (init ! 7 refl (T.typed M 𝓤 𝓛 ws.0 _ g)) $
-        assigns ! (agg ! (and_then ! (load ! (from-copy ! S b k bs p r₀ r₁ r₂ i j r₃ (stop !)) (look ! 7 refl)) (and_then !
+        (from_copy ! S b k bs p r₀ r₁ r₂ i j r₃ (stop !)) (init ! 7 refl (T.typed M 𝓤 𝓛 ws.0 _ g)) $
+        assigns ! (agg ! (and_then ! (load ! (from_copy ! S b k bs p r₀ r₁ r₂ i j r₃ (stop !)) (look ! 7 refl)) (and_then !
         (load ! (from_rest ! 1 0 b k bs p (rest S b r₀ r₁ r₂ i j r₃) (stop !)) (look ! 11 refl)) (no_more !)))) (from ! (stop !))
         (init ! 16 refl (S.typed M 𝓤 𝓛 (S.both ws.0 r) _
         (S.is_both ws.0 r g (subst (Is R.R r) (R.tells r _ is) is)))) $
@@ -263,14 +263,14 @@ module _ {M : Type 1} {𝓤 : Ura M} (𝓛 : Logic 𝓤) {T R : Plainly} (S : Bo
   abbrev Rest : Lfts (lives b) → Type 0
   Rest κs = Denots (types_at (nums k (buffer' b)) κs) × Valss (types_at (nums k (buffer' b)) κs)
 
-  own-walks : (C : Calls 𝓤 H) (Λ : Loops 𝓤 H) → FmC 𝓤 H 𝓛.laws C → Triple 𝓤 (C key) (Lend S b k Q 𝓛)
-      → Walks 𝓛 (step_ended S b k) (stayed S b k) (WpFn 𝓤 H C Λ (own-function S b k key)) (step_clauses S b k Q 𝓤)
-  own-walks C Λ fm known = walked 𝓛 (step_ended S b k) (stayed S b k) (step_clauses S b k Q 𝓤) (WpFn 𝓤 H C Λ (own-function S b k key))
+  own_walks : (C : Calls 𝓤 H) (Λ : Loops 𝓤 H) → FmC 𝓤 H 𝓛.laws C → Triple 𝓤 (C key) (Lend S b k Q 𝓛)
+      → Walks 𝓛 (step_ended S b k) (stayed S b k) (WpFn 𝓤 H C Λ (own_function S b k key)) (step_clauses S b k Q 𝓤)
+  own_walks C Λ fm known = walked 𝓛 (step_ended S b k) (stayed S b k) (step_clauses S b k Q 𝓤) (WpFn 𝓤 H C Λ (own_function S b k key))
       (λ κs. ((λ y. T.val y ∷ []), spells κs (buffer' b) k (spell' b κs)))
       (λ κs. (T.tells, tells κs (buffer' b) k (spell' b κs) (spell_tells' b κs)))
       (λ κs qs bounds a g are. via 𝓤 _ (fst∗ 𝓤 _ (emp 𝓤))
       (subst (λ (y : Rest κs). ent 𝓤 (on_entry 𝓛 (step_ended S b k).signature κs qs (a.0, y.0) (T.val a.0 ∷ [], y.1))
-      (WpFn 𝓤 H C Λ (own-function S b k key) (flat (types_at (step_ended S b k).signature.params κs) (T.val a.0 ∷ [], y.1))
+      (WpFn 𝓤 H C Λ (own_function S b k key) (flat (types_at (step_ended S b k).signature.params κs) (T.val a.0 ∷ [], y.1))
       ((walk_of 𝓛 (step_ended S b k) (stayed S b k) (step_clauses S b k Q 𝓤)).post ((κs, qs, tt, (a.0, y.0), (T.val a.0 ∷ [], y.1)), tt))))
       (λ i. (args_is κs (buffer' b) k a.1 i, vals_is κs (buffer' b) k (spell' b κs) a.1 i))
       (walk 𝓛 S b k Q key κs qs a.0 (front κs (buffer' b) k a.1) (back κs (buffer' b) k a.1) are.0
@@ -279,19 +279,19 @@ module _ {M : Type 1} {𝓤 : Ura M} (𝓛 : Logic 𝓤) {T R : Plainly} (S : Bo
 
 own_meets : {T R : Plainly} (S : Both T R) (b : Beside) (k : ℕ) (Q : Says S b k) (key : Name) {M : Type 1} {𝓤 : Ura M} (𝓛 : Logic 𝓤)
     → (𝓣 : Tables 𝓤 𝓛.H) → Triple 𝓤 (𝓣.C key) (Lend S b k Q 𝓛)
-    → Triple 𝓤 (WpFn 𝓤 𝓛.H 𝓣.C 𝓣.Λ (own-function S b k key)) (Step S b k Q 𝓛)
+    → Triple 𝓤 (WpFn 𝓤 𝓛.H 𝓣.C 𝓣.Λ (own_function S b k key)) (Step S b k Q 𝓛)
 own_meets {T} S b k Q key {𝓤 = 𝓤} 𝓛 𝓣 known =
     walk_Meets 𝓛 (step_ended S b k) (stayed S b k) (
       Goes-none 𝓛 (lives b) (λ _. T.R) yes (λ κs. silent (T.still yes)),
       go_nums 𝓛 k (buffer' b) (gave' b) (go_buffer' 𝓛 b),
     ) (step_clauses S b k Q 𝓤)
-    (WpFn 𝓤 𝓛.H 𝓣.C 𝓣.Λ (own-function S b k key)) (WpFn-mono 𝓤 𝓛.H 𝓛.laws 𝓣 (own-function S b k key))
-    (own-walks 𝓛 S b k Q key 𝓣.C 𝓣.Λ (fm_of 𝓤 𝓛.H 𝓛.laws 𝓣) known)
+    (WpFn 𝓤 𝓛.H 𝓣.C 𝓣.Λ (own_function S b k key)) (WpFn-mono 𝓤 𝓛.H 𝓛.laws 𝓣 (own_function S b k key))
+    (own_walks 𝓛 S b k Q key 𝓣.C 𝓣.Λ (fm_of 𝓤 𝓛.H 𝓛.laws 𝓣) known)
 
 pub own_spec : {T R : Plainly} (S : Both T R) (b : Beside) (k : ℕ) (Q : Says S b k) {M : Type 1} {𝓤 : Ura M} (𝓛 : Logic 𝓤) (𝓜 : Model 𝓤 𝓛.H)
     (𝓡 : Running 𝓤 𝓛.H 𝓜) (γ : Env) (n key : Name) (r : Routine) → γ key ≡ r
-    → Closed 𝓤 𝓛.H (tables 𝓤 𝓛.H 𝓜 𝓡 γ).C (tables 𝓤 𝓛.H 𝓜 𝓡 γ).Λ n (own-function S b k key)
+    → Closed 𝓤 𝓛.H (tables 𝓤 𝓛.H 𝓜 𝓡 γ).C (tables 𝓤 𝓛.H 𝓜 𝓡 γ).Λ n (own_function S b k key)
     → Triple 𝓤 (𝓡.run r) (Lend S b k Q 𝓛) → Triple 𝓤 (𝓡.run (γ n)) (Step S b k Q 𝓛)
 own_spec S b k Q {𝓤 = 𝓤} 𝓛 𝓜 𝓡 γ n key r at closed =
-    linked 𝓤 𝓛.H 𝓜 𝓡 γ n key r (own-function S b k key) (Step S b k Q 𝓛) (Lend S b k Q 𝓛) at closed
+    linked 𝓤 𝓛.H 𝓜 𝓡 γ n key r (own_function S b k key) (Step S b k Q 𝓛) (Lend S b k Q 𝓛) at closed
     (own_meets S b k Q key 𝓛)

@@ -18,22 +18,22 @@ vals_same D L [] = refl
 vals_same D L (x ∷ xs) = ap (λ (vs : List Val). LL.val D L x ∷ vs) (vals_same D L xs)
 
 module _ (D : Declared) where
-  each-up : (xs : List D.D) (us : List Val) → shadow (each (field D).row.Denot (field D).row.own_val (map D.to xs) us)
+  each_up : (xs : List D.D) (us : List Val) → shadow (each (field D).row.Denot (field D).row.own_val (map D.to xs) us)
       → shadow (each (row D).Denot (row D).own xs us)
-  each-up [] [] s = s
-  each-up [] (u ∷ us) s = s
-  each-up (x ∷ xs) [] s = s
-  each-up (x ∷ xs) (u ∷ us) s = (s.0, each-up xs us s.1)
+  each_up [] [] s = s
+  each_up [] (u ∷ us) s = s
+  each_up (x ∷ xs) [] s = s
+  each_up (x ∷ xs) (u ∷ us) s = (s.0, each_up xs us s.1)
 
-  each-down : (xs : List D.D) (us : List Val) → shadow (each (row D).Denot (row D).own xs us)
+  each_down : (xs : List D.D) (us : List Val) → shadow (each (row D).Denot (row D).own xs us)
       → shadow (each (field D).row.Denot (field D).row.own_val (map D.to xs) us)
-  each-down [] [] s = s
-  each-down [] (u ∷ us) s = s
-  each-down (x ∷ xs) [] s = s
-  each-down (x ∷ xs) (u ∷ us) s = (s.0, each-down xs us s.1)
+  each_down [] [] s = s
+  each_down [] (u ∷ us) s = s
+  each_down (x ∷ xs) [] s = s
+  each_down (x ∷ xs) (u ∷ us) s = (s.0, each_down xs us s.1)
 
   pub up : (n : ℕ) (xs : List D.D) (vs : List Val) → Is (Array (field D).row n) (map D.to xs) vs → Is (Array (row D) n) xs vs
-  up n xs vs p = (p.0, ((p.1.0.0, sym (length-map xs D.to) ∙ p.1.0.1), each-up xs p.0 p.1.1))
+  up n xs vs p = (p.0, ((p.1.0.0, sym (length-map xs D.to) ∙ p.1.0.1), each_up xs p.0 p.1.1))
 
   pub down : (n : ℕ) (xs : List D.D) (vs : List Val) → Is (Array (row D) n) xs vs → Is (Array (field D).row n) (map D.to xs) vs
-  down n xs vs p = (p.0, ((p.1.0.0, length-map xs D.to ∙ p.1.0.1), each-down xs p.0 p.1.1))
+  down n xs vs p = (p.0, ((p.1.0.0, length-map xs D.to ∙ p.1.0.1), each_down xs p.0 p.1.1))

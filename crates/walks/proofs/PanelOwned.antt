@@ -9,7 +9,7 @@
 -- The table and the records are copied into locals. The table and the first records are lent to the call, each for a lifetime that is made for it, and come
 -- back
 -- as the call left them; the other records lie beside them meanwhile.
--- `own-spec`: the owner, whose MIR calls the two keys, meets each contract that follows (`Follows`), where the routines under the keys meet theirs.
+-- `own_spec`: the owner, whose MIR calls the two keys, meets each contract that follows (`Follows`), where the routines under the keys meet theirs.
 use mathlib.Core.Path.{◌≡◌, refl, sym, ap, subst, ◌∙◌}
 use Prim.Native.Nat.{ℕ, ◌≤◌, ◌<◌, ◌^◌, min}
 use native.Mathlib.Nat.{lt_of_le_of_lt, mul-le-mul_right}
@@ -86,11 +86,11 @@ module _ (R : Data) (w : ℕ) where
   abbrev Rs : RattleType
   Rs = Array (row R) w
 
-  abbrev rs-vals : List (row R).Denot → List Val
-  rs-vals = array_vals (vals R)
+  abbrev rs_vals : List (row R).Denot → List Val
+  rs_vals = array_vals (vals R)
 
   abbrev rv : List (row R).Denot → Val
-  rv ys = only (rs-vals ys)
+  rv ys = only (rs_vals ys)
 
   module _ {M : Type 1} {𝓤 : Ura M} (𝓛 : Logic 𝓤) (l : ℕ) where
     abbrev past : List (row R).Denot → ℕ
@@ -117,7 +117,7 @@ module _ (R : Data) (w : ℕ) where
         use2 𝓛 (‵ (cells (mem (row R)) (zs ++ ys) l 0)) (join_app 𝓛 (mem (row R)) zs ys l 0) $
         use1 𝓛 (‵ (elements (row R) full_share (zs ++ ys) l 0)) (whole_out 𝓛 (row R) (zs ++ ys) l 0) $ feq_i ! ℕ (length (zs ++ ys)) w e $ fjoin ! $
         use1 𝓛 (‵ (part_at Rs full_share (zs ++ ys) l 0)) (Array-whole 𝓛 (row R) full_share w (zs ++ ys) l 0) $ fpick ! (λ vs. fsplit ! $
-        spelt ! Rs (Is Rs) (shows 𝓛 Rs) rs-vals (Array-Tells (row R) (vals R) (tells R) w) full_share
+        spelt ! Rs (Is Rs) (shows 𝓛 Rs) rs_vals (Array-Tells (row R) (vals R) (tells R) w) full_share
         (zs ++ ys) vs l 0 $
         use1 𝓛 (‵ (fat full_share (ty_array (ty R) w) l 0 (rv (zs ++ ys)))) (𝓛.laws.raw_at full_share (ty_array (ty R) w) l 0 (rv (zs ++ ys))) $ done !)
 
@@ -138,17 +138,17 @@ module _ (Z : Board) where
   w = Z.width
 
   -- ---- the count of records that are lent
-  abbrev most-ended : Ended
-  most-ended = record {
+  abbrev most_ended : Ended
+  most_ended = record {
     signature = record { lifetimes = 0; outlives = []; params = plain (λ _. usize) ∷ []; result = plain (λ _. usize) };
     kept = (yes, tt);
   }
 
-  abbrev most-clauses : {M : Type 1} (𝓤 : Ura M) → Clauses 𝓤 most-ended
-  most-clauses 𝓤 κs a = record { ghost = Unit {0}; requires = λ _. emp 𝓤; ensures = λ _ r e. fact 𝓤 (r ≡ min a.0 w) }
+  abbrev most_clauses : {M : Type 1} (𝓤 : Ura M) → Clauses 𝓤 most_ended
+  most_clauses 𝓤 κs a = record { ghost = Unit {0}; requires = λ _. emp 𝓤; ensures = λ _ r e. fact 𝓤 (r ≡ min a.0 w) }
 
   abbrev pub Most : {M : Type 1} {𝓤 : Ura M} (𝓛 : Logic 𝓤) → Contract 𝓤
-  Most {𝓤 = 𝓤} 𝓛 = triple_of 𝓛 most-ended.signature (closing 𝓛 most-ended (most-clauses 𝓤))
+  Most {𝓤 = 𝓤} 𝓛 = triple_of 𝓛 most_ended.signature (closing 𝓛 most_ended (most_clauses 𝓤))
 
   -- ---- the call on what is lent
   abbrev pub said : Show Z → Says (both Z) (slice (row R)) 3
@@ -157,15 +157,15 @@ module _ (Z : Board) where
   abbrev pub Lend : Show Z → {M : Type 1} {𝓤 : Ura M} (𝓛 : Logic 𝓤) → Contract 𝓤
   Lend Shows = Lent.Lend (both Z) (slice (row R)) 3 (said Shows)
 
-  abbrev lent-ended : Ended
-  lent-ended = Lent.lent-ended (both Z) (slice (row R)) 3
+  abbrev lent_ended : Ended
+  lent_ended = Lent.lent_ended (both Z) (slice (row R)) 3
 
-  abbrev lent-clauses : Show Z → {M : Type 1} (𝓤 : Ura M) → Clauses 𝓤 lent-ended
-  lent-clauses Shows = Lent.lent-clauses (both Z) (slice (row R)) 3 (said Shows)
+  abbrev lent_clauses : Show Z → {M : Type 1} (𝓤 : Ura M) → Clauses 𝓤 lent_ended
+  lent_clauses Shows = Lent.lent_clauses (both Z) (slice (row R)) 3 (said Shows)
 
   -- ---- the owner: its signature, its contract, and its MIR, which calls the keys
-  abbrev own-ended : Ended
-  own-ended = record {
+  abbrev own_ended : Ended
+  own_ended = record {
     signature = record {
       lifetimes = 0;
       outlives = [];
@@ -183,13 +183,13 @@ module _ (Z : Board) where
   Owns Shows t c n j ys lent v = Shows t c n j (take lent ys) v.0 v.1.0 (take lent v.1.1.0) × (dropped lent v.1.1.0 ≡ dropped lent ys)
 
   -- a contract follows, if it promises nothing beyond this
-  abbrev pub Follows : Show Z → {M : Type 1} (𝓤 : Ura M) → Clauses 𝓤 own-ended → Type 1
-  Follows Shows 𝓤 C = (a : Args own-ended.signature tt) (g : (C tt a).ghost) (r : Z.shown.D) (e : AtExit own-ended tt)
+  abbrev pub Follows : Show Z → {M : Type 1} (𝓤 : Ura M) → Clauses 𝓤 own_ended → Type 1
+  Follows Shows 𝓤 C = (a : Args own_ended.signature tt) (g : (C tt a).ghost) (r : Z.shown.D) (e : AtExit own_ended tt)
       → Owns Shows a.0 a.1.0 a.1.1.0 a.1.1.1.0 a.1.1.1.1.0 a.1.1.1.1.1.0 (Z.shown.values r)
       → ent 𝓤 (emp 𝓤) ((C tt a).ensures g r e)
 
-  abbrev own-function : Name → Name → Fn
-  own-function most-key lent_key = record {
+  abbrev own_function : Name → Name → Fn
+  own_function most-key lent_key = record {
     lifetimes = 0;
     outlives = [];
     params = 6;
@@ -210,7 +210,7 @@ module _ (Z : Board) where
         (seq (assign (place 0 []) (aggregate (copy (place 14 []) ∷ copy (place 10 []) ∷ copy (place 15 []) ∷ []))) return)))))))));
   }
 
-  abbrev stayed : Stays own-ended.signature.params own-ended.kept
+  abbrev stayed : Stays own_ended.signature.params own_ended.kept
   stayed = (
     stay_none (λ _. row B) yes,
     (
@@ -242,14 +242,14 @@ module _ (Z : Board) where
       (vstruct (vcons (tv t) (vcons (pv r) (vcons (array_val us) vnil))) ∷ [])) same
       ((tv t ∷ [], (pv r ∷ [], (array_val (map (LL.tuple_val R.type R.laws) (map R.type.to zs)) ∷ [], tt))), (refl, (g, (is, (k', tt))))))
 
-  most-of : {M : Type 1} {𝓤 : Ura M} (𝓛 : Logic 𝓤) (n k : ℕ)
-      → ent 𝓤 (ensured 𝓛 most-ended (most-clauses 𝓤) tt (n, tt) tt k) (fact 𝓤 (k ≡ min n w))
-  most-of {𝓤 = 𝓤} 𝓛 n k = ex_e 𝓤 _ (λ ws. snd∗ 𝓤 (sem 𝓛 (lasts most-ended tt (n, tt) ws)) (fact 𝓤 (k ≡ min n w)))
+  most_of : {M : Type 1} {𝓤 : Ura M} (𝓛 : Logic 𝓤) (n k : ℕ)
+      → ent 𝓤 (ensured 𝓛 most_ended (most_clauses 𝓤) tt (n, tt) tt k) (fact 𝓤 (k ≡ min n w))
+  most_of {𝓤 = 𝓤} 𝓛 n k = ex_e 𝓤 _ (λ ws. snd∗ 𝓤 (sem 𝓛 (lasts most_ended tt (n, tt) ws)) (fact 𝓤 (k ≡ min n w)))
 
   module _ (Shows : Show Z) (most-key lent_key : Name) (wide : Room (row R) w) where
-    module _ {M : Type 1} {𝓤 : Ura M} (𝓛 : Logic 𝓤) (C : Clauses 𝓤 own-ended) (law : Follows Shows 𝓤 C)
+    module _ {M : Type 1} {𝓤 : Ura M} (𝓛 : Logic 𝓤) (C : Clauses 𝓤 own_ended) (law : Follows Shows 𝓤 C)
         (h : Table Z) (c n j : ℕ) (ys : List (Record Z)) (lent : ℕ) (is-h : Is (row B) h (tv h ∷ [])) (c-fits : c < 2 ^ 64) (n-fits : n < 2 ^ 64)
-        (j-fits : j < 2 ^ 64) (is-ys : Is (Rs R w) ys (rs-vals R w ys)) (lent_fits : lent < 2 ^ 64)
+        (j-fits : j < 2 ^ 64) (is-ys : Is (Rs R w) ys (rs_vals R w ys)) (lent_fits : lent < 2 ^ 64)
         (gh : (C tt (h, (c, (n, (j, (ys, (lent, tt))))))).ghost) where
       open 𝓛 use {H}
 
@@ -260,22 +260,22 @@ module _ (Z : Board) where
       av = (tv h ∷ [], (vint w64 c ∷ [], (vint w64 n ∷ [], (vint w64 j ∷ [], (rv R w ys ∷ [], (vint w64 lent ∷ [], tt))))))
 
       abbrev Post : Val → SProp 𝓤
-      Post = (walk_of 𝓛 own-ended stayed C).post ((tt, tt, tt, a, av), gh)
+      Post = (walk_of 𝓛 own_ended stayed C).post ((tt, tt, tt, a, av), gh)
 
       long : length ys ≡ w
       long = is-ys.1.0.1
 
-      typed-records : (zs : List (Record Z)) → Is (Rs R w) zs (rv R w zs ∷ []) → T (has_ty (ty_array (ty R) w) (rv R w zs)) × WT (rv R w zs)
-      typed-records zs is = ((Array-Lawful 𝓛 (row R) (lawful R 𝓛) w).typed zs _ is).0
+      typed_records : (zs : List (Record Z)) → Is (Rs R w) zs (rv R w zs ∷ []) → T (has_ty (ty_array (ty R) w) (rv R w zs)) × WT (rv R w zs)
+      typed_records zs is = ((Array-Lawful 𝓛 (row R) (lawful R 𝓛) w).typed zs _ is).0
 
-      abbrev rs-makes : ent 𝓤 (emp 𝓤) (sem 𝓛 ((Rs R w).own ys (rv R w ys ∷ [])))
-      rs-makes = Array-Makes 𝓛 (row R) (makes R 𝓛) w ys (rv R w ys ∷ []) is-ys
+      abbrev rs_makes : ent 𝓤 (emp 𝓤) (sem 𝓛 ((Rs R w).own ys (rv R w ys ∷ [])))
+      rs_makes = Array-Makes 𝓛 (row R) (makes R 𝓛) w ys (rv R w ys ∷ []) is-ys
 
-      abbrev to-most : (Most 𝓛).Ghost
-      to-most = ((tt, tt, tt, (lent, tt), (vint w64 lent ∷ [], tt)), tt)
+      abbrev to_most : (Most 𝓛).Ghost
+      to_most = ((tt, tt, tt, (lent, tt), (vint w64 lent ∷ [], tt)), tt)
 
-      goes-most : ent 𝓤 (emp 𝓤) ((Most 𝓛).pre to-most)
-      goes-most =
+      goes_most : ent 𝓤 (emp 𝓤) ((Most 𝓛).pre to_most)
+      goes_most =
           qed 𝓛 [] ∵ nothing ! $ owned ! usize (Is usize) (uint_Makes 𝓛 w64) lent _ (refl, lent_fits) $ fjoin ! $ nothing ! $ join ! $ frame ! $ done !
 
       -- the loan of the table in the local l under the name δ
@@ -314,8 +314,8 @@ module _ (Z : Board) where
 
         -- what its triple binds outside: the locals l and l' lent for the lifetimes ν and ν' under the names δ and δ'
         module _ (l l' ν ν' : ℕ) (δ δ' : GName) where
-          abbrev to-lent : (Lend Shows 𝓛).Ghost
-          to-lent = (
+          abbrev to_lent : (Lend Shows 𝓛).Ghost
+          to_lent = (
             (
               (ν ∷ [], (ν' ∷ [], tt)),
               (full_share, (full_share, tt)),
@@ -326,9 +326,9 @@ module _ (Z : Board) where
             tt,
           )
 
-          goes-lent : ent 𝓤 (⋆ 𝓛 ((‵ (flft (ν ∷ []) full_share) ⊛ ‵ (flft (ν' ∷ []) full_share)) ∷ ‵ ((MutRef (named 0) (ν ∷ []) (row B)).own_val (loan l δ)
-              (vptr l 0 ∷ [])) ∷ ‵ ((MutSlice (named 1) (ν' ∷ []) (row R)).own_val (x l' δ') (s l' ∷ [])) ∷ [])) ((Lend Shows 𝓛).pre to-lent)
-          goes-lent =
+          goes_lent : ent 𝓤 (⋆ 𝓛 ((‵ (flft (ν ∷ []) full_share) ⊛ ‵ (flft (ν' ∷ []) full_share)) ∷ ‵ ((MutRef (named 0) (ν ∷ []) (row B)).own_val (loan l δ)
+              (vptr l 0 ∷ [])) ∷ ‵ ((MutSlice (named 1) (ν' ∷ []) (row R)).own_val (x l' δ') (s l' ∷ [])) ∷ [])) ((Lend Shows 𝓛).pre to_lent)
+          goes_lent =
               qed 𝓛 ((‵ (flft (ν ∷ []) full_share) ⊛ ‵ (flft (ν' ∷ []) full_share)) ∷ ‵ ((MutRef (named 0) (ν ∷ []) (row B)).own_val (loan l δ)
               (vptr l 0 ∷ [])) ∷ ‵ ((MutSlice (named 1) (ν' ∷ []) (row R)).own_val (x l' δ') (s l' ∷ [])) ∷ []) ∵ nothing ! $ move ! (3 ∷ 0 ∷ []) $ fjoin ! $
               owned ! u64 (Is u64) (uint_Makes 𝓛 w64) j _ (refl, j-fits) $ fjoin ! $ owned ! u64 (Is u64) (uint_Makes 𝓛 w64) n _ (refl, n-fits) $
@@ -346,13 +346,13 @@ module _ (Z : Board) where
         exits : (r : Reply Z) (t : Table Z) (zs : List (Record Z)) → k ≡ min lent w → Ensured r t zs → length zs ≡ length front
             → Is (row S) (whole_of t r (back zs)) (mach t r (back zs) ∷ []) → ent 𝓤 (emp 𝓤) (Post (mach t r (back zs)))
         exits r t zs k-is e l is =
-            qed 𝓛 [] ∵ suffices ! _ (ends_at 𝓛 own-ended stayed C ((tt, tt, tt, a, av), gh) (mach t r (back zs))
+            qed 𝓛 [] ∵ suffices ! _ (ends_at 𝓛 own_ended stayed C ((tt, tt, tt, a, av), gh) (mach t r (back zs))
             (whole_of t r (back zs)) (last_same (same B) h, (tt, (tt, (tt, (last_same (array_same R w) ys, (tt, tt))))))
             (tt, (tt, (tt, (tt, (tt, (tt, tt))))))) $
             holds ! (law a gh _ _ (subst (Owns Shows h c n j ys lent) (sym (Z.shown.made (t, (r, (back zs, tt)))))
             (lent_said lent k w k-is ys zs long l (λ us vs. Shows h c n j us t r vs) e, others_stay lent k w k-is ys zs long l))) $ nothing ! $ frame ! $
             nothing ! $ owned ! usize (Is usize) (uint_Makes 𝓛 w64) lent _ (refl, lent_fits) $ fjoin ! $
-            use0 𝓛 (‵ ((Rs R w).own ys (rv R w ys ∷ []))) rs-makes $ fjoin ! $
+            use0 𝓛 (‵ ((Rs R w).own ys (rv R w ys ∷ []))) rs_makes $ fjoin ! $
             owned ! u64 (Is u64) (uint_Makes 𝓛 w64) j _ (refl, j-fits) $ fjoin ! $ owned ! u64 (Is u64) (uint_Makes 𝓛 w64) n _ (refl, n-fits) $
             fjoin ! $ owned ! u64 (Is u64) (uint_Makes 𝓛 w64) c _ (refl, c-fits) $ fjoin ! $
             owned ! (row B) (Is (row B)) (makes B 𝓛) h _ is-h $ fjoin ! $ frame ! $
@@ -360,26 +360,26 @@ module _ (Z : Board) where
 
       module _ (𝓣 : Tables 𝓤 H) (known-most : Triple 𝓤 (𝓣.C most-key) (Most 𝓛))
           (known-lent : Triple 𝓤 (𝓣.C lent_key) (Lend Shows 𝓛)) where
-        walk : ent 𝓤 (on_entry 𝓛 own-ended.signature tt tt a av)
-            (WpFn 𝓤 H 𝓣.C 𝓣.Λ (own-function most-key lent_key) (tv h ∷ vint w64 c ∷ vint w64 n ∷ vint w64 j ∷ rv R w ys ∷ vint w64 lent ∷ []) Post)
+        walk : ent 𝓤 (on_entry 𝓛 own_ended.signature tt tt a av)
+            (WpFn 𝓤 H 𝓣.C 𝓣.Λ (own_function most-key lent_key) (tv h ∷ vint w64 c ∷ vint w64 n ∷ vint w64 j ∷ rv R w ys ∷ vint w64 lent ∷ []) Post)
         walk =
             qed 𝓛 (‵ ftrue ∷ ‵ (owns ((row B) ∷ u64 ∷ u64 ∷ u64 ∷ (Rs R w) ∷ usize ∷ []) a av) ∷ []) ∵
-            enter ! 𝓣.C 𝓣.Λ (own-function most-key lent_key) (tv h ∷ vint w64 c ∷ vint w64 n ∷ vint w64 j ∷ rv R w ys ∷ vint w64 lent ∷ []) _ $
+            enter ! 𝓣.C 𝓣.Λ (own_function most-key lent_key) (tv h ∷ vint w64 c ∷ vint w64 n ∷ vint w64 j ∷ rv R w ys ∷ vint w64 lent ∷ []) _ $
             alloc1 ! (λ l₀. alloc1 ! (λ l₁. alloc1 ! (λ l₂. alloc1 ! (λ l₃. alloc1 ! (λ l₄. alloc1 ! (λ l₅. alloc1 ! (λ l₆. alloc1 ! (λ l₇. alloc1 ! (λ l₈.
             alloc1 ! (λ l₉. alloc1 ! (λ l₁₀. alloc1 ! (λ l₁₁. alloc1 ! (λ l₁₂. alloc1 ! (λ l₁₃. alloc1 ! (λ l₁₄. alloc1 ! (λ l₁₅. alloc0 ! $ params1 ! $
             pass1 ! (init ! 28 refl (typed B 𝓛 h _ is-h)) $ pass1 ! (init ! 26 refl (tt, record { fits = c-fits })) $
             pass1 ! (init ! 24 refl (tt, record { fits = n-fits })) $ pass1 ! (init ! 22 refl (tt, record { fits = j-fits })) $
-            pass1 ! (init ! 20 refl (typed-records ys is-ys)) $ pass1 ! (init ! 18 refl (tt, record { fits = lent_fits })) $ pass0 ! $
+            pass1 ! (init ! 20 refl (typed_records ys is-ys)) $ pass1 ! (init ! 18 refl (tt, record { fits = lent_fits })) $ pass0 ! $
             -- [_15; …; _14; …; _13; …; _12; …; _11; …; _10; …; _9; …; _8; …; _7; …; _6; …; _5; …; _4; …; _3; …; _2; …; _1; …; room for _0; …; true;
             -- what the parameters own]
             assigns ! (of_opd ! (load ! (from ! (stop !)) (look ! 28 refl))) (from ! (stop !))
             (init ! 16 refl (typed B 𝓛 h _ is-h)) $
-            assigns ! (of_opd ! (load ! (from ! (stop !)) (look ! 20 refl))) (from ! (stop !)) (init ! 14 refl (typed-records ys is-ys)) $
-            use0 𝓛 (raw ((Most 𝓛).pre to-most)) goes-most $
-            calls_at ! (fm_of 𝓤 H 𝓛.laws 𝓣) (Most 𝓛) known-most to-most (and_then ! (load ! (from ! (stop !)) (look ! 19 refl)) (no_more !)) (λ v.
+            assigns ! (of_opd ! (load ! (from ! (stop !)) (look ! 20 refl))) (from ! (stop !)) (init ! 14 refl (typed_records ys is-ys)) $
+            use0 𝓛 (raw ((Most 𝓛).pre to_most)) goes_most $
+            calls_at ! (fm_of 𝓤 H 𝓛.laws 𝓣) (Most 𝓛) known-most to_most (and_then ! (load ! (from ! (stop !)) (look ! 19 refl)) (no_more !)) (λ v.
             use1 𝓛 (later (some (λ (k : ℕ). (‵ ftrue ⊛ ‵ (usize.own_val k (v ∷ []))) ⊛ raw
-            (ensured 𝓛 most-ended (most-clauses 𝓤) tt (lent, tt) tt k)))) (id⊢ 𝓤 _) $ await ! tt $ pick ! (λ k.
-            split ! $ move ! (1 ∷ []) $ use1 𝓛 (raw (fact 𝓤 (k ≡ min lent w))) (most-of 𝓛 lent k) $ heard ! (k ≡ min lent w) (λ k-is.
+            (ensured 𝓛 most_ended (most_clauses 𝓤) tt (lent, tt) tt k)))) (id⊢ 𝓤 _) $ await ! tt $ pick ! (λ k.
+            split ! $ move ! (1 ∷ []) $ use1 𝓛 (raw (fact 𝓤 (k ≡ min lent w))) (most_of 𝓛 lent k) $ heard ! (k ≡ min lent w) (λ k-is.
             split ! $ drop ! $ peeks ! usize (Is usize) (shows 𝓛 usize) k (v ∷ []) (λ is-k.
             land ! (from ! (stop !)) (init ! 13 refl ((uint_Lawful 𝓛 w64).typed k _ is-k).0) $
             rewrite ! 13 (λ (u : Val). ‵ (fat full_share (ty_int w64) l₉ 0 u)) (ap only is-k.0) refl $ drop ! $
@@ -404,18 +404,18 @@ module _ (Z : Board) where
             (lends_slice 𝓛 (row R) (named 1) (ν' ∷ []) (front k) l₈ 0 (room k k-is)) $ await ! tt $ pick ! (λ δ'. split ! $
             -- [the records' loan; their lender's part; ν''s token; the other records; the table's loan; its lender's part; ν's token; what lent owns; _15; …]
             move ! (6 ∷ 2 ∷ []) $ join ! $ move ! (0 ∷ 4 ∷ 1 ∷ []) $
-            use3 𝓛 (raw ((Lend Shows 𝓛).pre (to-lent k l₇ l₈ ν ν' δ δ'))) (goes-lent k l₇ l₈ ν ν' δ δ') $
+            use3 𝓛 (raw ((Lend Shows 𝓛).pre (to_lent k l₇ l₈ ν ν' δ δ'))) (goes_lent k l₇ l₈ ν ν' δ δ') $
             -- [what the call asks; the records' lender's part; the other records; the table's lender's part; what lent owns; _15; …; _9; …; _8's end; _7's end;
             -- _6; …]
-            calls_at ! (fm_of 𝓤 H 𝓛.laws 𝓣) (Lend Shows 𝓛) known-lent (to-lent k l₇ l₈ ν ν' δ δ')
+            calls_at ! (fm_of 𝓤 H 𝓛.laws 𝓣) (Lend Shows 𝓛) known-lent (to_lent k l₇ l₈ ν ν' δ δ')
             (and_then ! (load ! (from ! (stop !)) (look ! 13 refl)) (and_then ! (load ! (from ! (stop !)) (look ! 29 refl))
             (and_then ! (load ! (from ! (stop !)) (look ! 27 refl)) (and_then ! (load ! (from ! (stop !)) (look ! 25 refl))
             (and_then ! (load ! (from ! (stop !)) (look ! 9 refl)) (no_more !)))))) (λ v'.
             use1 𝓛 (later (some (λ (r : Reply Z). ((‵ (flft (ν ∷ []) full_share) ⊛ ‵ (flft (ν' ∷ []) full_share) ⊛ ‵ ftrue) ⊛ ‵ ((row Q).own r (v' ∷ []))) ⊛ raw
-            (ensured 𝓛 lent-ended (lent-clauses Shows 𝓤) (ν ∷ [], (ν' ∷ [], tt)) (loan l₇ δ, Rest k l₈ δ') tt r)))) (id⊢ 𝓤 _) $
+            (ensured 𝓛 lent_ended (lent_clauses Shows 𝓤) (ν ∷ [], (ν' ∷ [], tt)) (loan l₇ δ, Rest k l₈ δ') tt r)))) (id⊢ 𝓤 _) $
             await ! tt $ pick ! (λ r.
             split ! $ move ! (1 ∷ []) $ use1 𝓛 (some (λ (zs : Left). ‵
-            (lasts lent-ended (ν ∷ [], (ν' ∷ [], tt)) (loan l₇ δ, Rest k l₈ δ') zs) ⊛ raw (fact 𝓤 (Ensured k r zs.0 (shown zs)))))
+            (lasts lent_ended (ν ∷ [], (ν' ∷ [], tt)) (loan l₇ δ, Rest k l₈ δ') zs) ⊛ raw (fact 𝓤 (Ensured k r zs.0 (shown zs)))))
             (id⊢ 𝓤 _) $ pick ! (λ zs.
             split ! $ move ! (1 ∷ []) $ heard ! (Ensured k r zs.0 (shown zs)) (λ e. fsplit ! $ move ! (1 ∷ []) $ fsplit ! $ drop ! $ fsplit ! $
             drop ! $ fsplit ! $ drop ! $ fsplit ! $ fsplit ! $ move ! (1 ∷ []) $ feq_l ! (λ l.
@@ -443,7 +443,7 @@ module _ (Z : Board) where
             -- …; _1; …; room for _0; …; true]
             assigns ! (of_opd ! (load ! (from ! (stop !)) (look ! 2 refl))) (from ! (stop !))
             (init ! 7 refl (typed B 𝓛 zs.0 _ g)) $
-            assigns ! (of_opd ! (load ! (from ! (stop !)) (look ! 0 refl))) (from ! (stop !)) (init ! 5 refl (typed-records (back k (shown zs)) g')) $
+            assigns ! (of_opd ! (load ! (from ! (stop !)) (look ! 0 refl))) (from ! (stop !)) (init ! 5 refl (typed_records (back k (shown zs)) g')) $
             assigns ! (agg ! (and_then ! (load ! (from ! (stop !)) (look ! 7 refl)) (and_then ! (load ! (from ! (stop !)) (look ! 15 refl))
             (and_then ! (load ! (from ! (stop !)) (look ! 5 refl)) (no_more !))))) (from ! (stop !))
             (init ! 33 refl (typed S 𝓛 (whole_of zs.0 r (back k (shown zs))) _
@@ -459,21 +459,21 @@ module _ (Z : Board) where
             keep ! [] $ by ! (exits k r zs.0 (shown zs) k-is e l (is_whole zs.0 r (back k (shown zs)) g
             (subst (Is (row Q) r) (tells Q r _ is) is) g'))))))))))))))))))))))))))))))))))
 
-    module _ {M : Type 1} {𝓤 : Ura M} (𝓛 : Logic 𝓤) (C : Clauses 𝓤 own-ended) (law : Follows Shows 𝓤 C) (𝓣 : Tables 𝓤 𝓛.H)
+    module _ {M : Type 1} {𝓤 : Ura M} (𝓛 : Logic 𝓤) (C : Clauses 𝓤 own_ended) (law : Follows Shows 𝓤 C) (𝓣 : Tables 𝓤 𝓛.H)
         (known-most : Triple 𝓤 (𝓣.C most-key) (Most 𝓛)) (known-lent : Triple 𝓤 (𝓣.C lent_key) (Lend Shows 𝓛)) where
       open 𝓛 use {H}
 
-      own-walks : Walks 𝓛 own-ended stayed (WpFn 𝓤 H 𝓣.C 𝓣.Λ (own-function most-key lent_key)) C
-      own-walks = walked 𝓛 own-ended stayed C (WpFn 𝓤 H 𝓣.C 𝓣.Λ (own-function most-key lent_key))
-          (λ κs. (vals B, (uint_vals w64, (uint_vals w64, (uint_vals w64, (rs-vals R w, (uint_vals w64, tt)))))))
+      own_walks : Walks 𝓛 own_ended stayed (WpFn 𝓤 H 𝓣.C 𝓣.Λ (own_function most-key lent_key)) C
+      own_walks = walked 𝓛 own_ended stayed C (WpFn 𝓤 H 𝓣.C 𝓣.Λ (own_function most-key lent_key))
+          (λ κs. (vals B, (uint_vals w64, (uint_vals w64, (uint_vals w64, (rs_vals R w, (uint_vals w64, tt)))))))
           (λ κs. (tells B, (uint_Tells w64, (uint_Tells w64, (uint_Tells w64, (Array-Tells (row R) (vals R) (tells R) w, (uint_Tells w64, tt)))))))
           (λ κs qs bounds a g are. via 𝓤 _ (fst∗ 𝓤 _ ((C tt a).requires g)) (walk 𝓛 C law a.0 a.1.0 a.1.1.0 a.1.1.1.0 a.1.1.1.1.0
           a.1.1.1.1.1.0 are.0 are.1.0.1 are.1.1.0.1 are.1.1.1.0.1 are.1.1.1.1.0 are.1.1.1.1.1.0.1
           g 𝓣 known-most known-lent))
 
-      own_meets : Meets 𝓛 own-ended.signature (WpFn 𝓤 H 𝓣.C 𝓣.Λ (own-function most-key lent_key)) (closing 𝓛 own-ended C)
+      own_meets : Meets 𝓛 own_ended.signature (WpFn 𝓤 H 𝓣.C 𝓣.Λ (own_function most-key lent_key)) (closing 𝓛 own_ended C)
       own_meets =
-          walk_Meets 𝓛 own-ended stayed (
+          walk_Meets 𝓛 own_ended stayed (
             Goes-none 𝓛 0 (λ _. row B) yes (λ κs. silent (same B)),
             (
               Goes-none 𝓛 0 (λ _. u64) yes (λ κs x f. refl),
@@ -485,16 +485,16 @@ module _ (Z : Board) where
                 ),
               ),
             ),
-          ) C (WpFn 𝓤 H 𝓣.C 𝓣.Λ (own-function most-key lent_key))
-          (WpFn-mono 𝓤 H 𝓛.laws 𝓣 (own-function most-key lent_key)) own-walks
+          ) C (WpFn 𝓤 H 𝓣.C 𝓣.Λ (own_function most-key lent_key))
+          (WpFn-mono 𝓤 H 𝓛.laws 𝓣 (own_function most-key lent_key)) own_walks
 
-    module _ {M : Type 1} {𝓤 : Ura M} (𝓛 : Logic 𝓤) (𝓜 : Model 𝓤 𝓛.H) (𝓡 : Running 𝓤 𝓛.H 𝓜) (C : Clauses 𝓤 own-ended)
+    module _ {M : Type 1} {𝓤 : Ura M} (𝓛 : Logic 𝓤) (𝓜 : Model 𝓤 𝓛.H) (𝓡 : Running 𝓤 𝓛.H 𝓜) (C : Clauses 𝓤 own_ended)
         (law : Follows Shows 𝓤 C) (γ : Env) (n : Name) (r r' : Routine) where
       open 𝓛 use {H}
 
-      pub own-spec : γ most-key ≡ r → γ lent_key ≡ r' → Closed 𝓤 H (tables 𝓤 H 𝓜 𝓡 γ).C (tables 𝓤 H 𝓜 𝓡 γ).Λ n (own-function most-key lent_key)
+      pub own_spec : γ most-key ≡ r → γ lent_key ≡ r' → Closed 𝓤 H (tables 𝓤 H 𝓜 𝓡 γ).C (tables 𝓤 H 𝓜 𝓡 γ).Λ n (own_function most-key lent_key)
           → Triple 𝓤 (𝓡.run r) (Most 𝓛) → Triple 𝓤 (𝓡.run r') (Lend Shows 𝓛)
-          → Meets 𝓛 own-ended.signature (𝓡.run (γ n)) (closing 𝓛 own-ended C)
-      own-spec at at' closed = linked_two 𝓤 H 𝓜 𝓡 γ n most-key lent_key r r' (own-function most-key lent_key)
-          (triple_of 𝓛 own-ended.signature (closing 𝓛 own-ended C)) (Most 𝓛)
+          → Meets 𝓛 own_ended.signature (𝓡.run (γ n)) (closing 𝓛 own_ended C)
+      own_spec at at' closed = linked_two 𝓤 H 𝓜 𝓡 γ n most-key lent_key r r' (own_function most-key lent_key)
+          (triple_of 𝓛 own_ended.signature (closing 𝓛 own_ended C)) (Most 𝓛)
           (Lend Shows 𝓛) at at' closed (own_meets 𝓛 C law)

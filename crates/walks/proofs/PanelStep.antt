@@ -118,8 +118,8 @@ module _ (Z : Board) where
   w = Z.width
 
   -- ---- the call up to the filling
-  abbrev with-ended : Ended
-  with-ended = record {
+  abbrev with_ended : Ended
+  with_ended = record {
     signature = record {
       lifetimes = 0;
       outlives = [];
@@ -129,19 +129,19 @@ module _ (Z : Board) where
     kept = (yes, (yes, (yes, (yes, (yes, tt)))));
   }
 
-  abbrev with-clauses : Hand → {M : Type 1} (𝓤 : Ura M) → Clauses 𝓤 with-ended
-  with-clauses Hands 𝓤 κs a = record {
+  abbrev with_clauses : Hand → {M : Type 1} (𝓤 : Ura M) → Clauses 𝓤 with_ended
+  with_clauses Hands 𝓤 κs a = record {
     ghost = Unit {0};
     requires = λ _. emp 𝓤;
     ensures = λ _ r e. fact 𝓤 (Hands a.0 a.1.0 a.1.1.0 a.1.1.1.0 a.1.1.1.1.0 r);
   }
 
   abbrev pub With : Hand → {M : Type 1} {𝓤 : Ura M} (𝓛 : Logic 𝓤) → Contract 𝓤
-  With Hands {𝓤 = 𝓤} 𝓛 = triple_of 𝓛 with-ended.signature (closing 𝓛 with-ended (with-clauses Hands 𝓤))
+  With Hands {𝓤 = 𝓤} 𝓛 = triple_of 𝓛 with_ended.signature (closing 𝓛 with_ended (with_clauses Hands 𝓤))
 
   -- ---- the whole call: its signature, its contract, and its MIR, which calls the keys
-  abbrev step-ended : Ended
-  step-ended = record {
+  abbrev step_ended : Ended
+  step_ended = record {
     signature = record {
       lifetimes = 1;
       outlives = [];
@@ -151,18 +151,18 @@ module _ (Z : Board) where
     kept = (yes, (yes, (yes, (yes, (yes, tt)))));
   }
 
-  abbrev step-clauses : Show → {M : Type 1} (𝓤 : Ura M) → Clauses 𝓤 step-ended
-  step-clauses Shows 𝓤 κs a = record {
+  abbrev step_clauses : Show → {M : Type 1} (𝓤 : Ura M) → Clauses 𝓤 step_ended
+  step_clauses Shows 𝓤 κs a = record {
     ghost = Unit {0};
     requires = λ _. emp 𝓤;
     ensures = λ _ r e. fact 𝓤 (Shows a.0 a.1.0 a.1.1.0 a.1.1.1.0 a.1.1.1.1.0.now (table r) (reply r) e.1.1.1.1.0.now);
   }
 
   abbrev pub Step : Show → {M : Type 1} {𝓤 : Ura M} (𝓛 : Logic 𝓤) → Contract 𝓤
-  Step Shows {𝓤 = 𝓤} 𝓛 = triple_of 𝓛 step-ended.signature (closing 𝓛 step-ended (step-clauses Shows 𝓤))
+  Step Shows {𝓤 = 𝓤} 𝓛 = triple_of 𝓛 step_ended.signature (closing 𝓛 step_ended (step_clauses Shows 𝓤))
 
-  abbrev step-function : Name → Name → Fn
-  step-function with-key fill-key = record {
+  abbrev step_function : Name → Name → Fn
+  step_function with-key fill-key = record {
     lifetimes = 1;
     outlives = [];
     params = 5;
@@ -179,7 +179,7 @@ module _ (Z : Board) where
         (seq (assign (place 0 []) (rv_opd (copy (place 6 (field 0 ∷ []))))) return))))));
   }
 
-  abbrev stayed : Stays step-ended.signature.params step-ended.kept
+  abbrev stayed : Stays step_ended.signature.params step_ended.kept
   stayed = (
     stay_none (λ _. row B) yes,
     (
@@ -202,21 +202,21 @@ module _ (Z : Board) where
   ev r = array_val (map (LL.tuple_val E.type E.laws) (map E.type.to (entries r)))
 
   -- what whoever holds what is handed out knows of its parts
-  is-outcome : (r : Unfilled) (vs : List Val) → Is (row S) r vs → Is (row O) (outcome r) (ov r ∷ [])
-  is-outcome r vs is = (LL.owed S.type S.laws r vs is).0
+  is_outcome : (r : Unfilled) (vs : List Val) → Is (row S) r vs → Is (row O) (outcome r) (ov r ∷ [])
+  is_outcome r vs is = (LL.owed S.type S.laws r vs is).0
 
-  is-entries : (r : Unfilled) (vs : List Val) → Is (row S) r vs → Is Es (entries r) (ev r ∷ [])
-  is-entries r vs is = up E.type w (entries r) _ (LL.owed S.type S.laws r vs is).1.0
+  is_entries : (r : Unfilled) (vs : List Val) → Is (row S) r vs → Is Es (entries r) (ev r ∷ [])
+  is_entries r vs is = up E.type w (entries r) _ (LL.owed S.type S.laws r vs is).1.0
 
-  is-count : (r : Unfilled) (vs : List Val) → Is (row S) r vs → count r < 2 ^ 64
-  is-count r vs is =
+  is_count : (r : Unfilled) (vs : List Val) → Is (row S) r vs → count r < 2 ^ 64
+  is_count r vs is =
       let Q : Data = held Z.reply in
-      (LL.owed Q.type Q.laws (reply (outcome r)) _ (LL.owed O.type O.laws (outcome r) _ (is-outcome r vs is)).1.0).1.0.1
+      (LL.owed Q.type Q.laws (reply (outcome r)) _ (LL.owed O.type O.laws (outcome r) _ (is_outcome r vs is)).1.0).1.0.1
 
   module _ (f : Makes E R) (Hands : Hand) (Shows : Show) (law : Filling f Hands Shows) (with-key fill-key : Name) where
-    with-of : {M : Type 1} {𝓤 : Ura M} (𝓛 : Logic 𝓤) (h : Table) (c n j m : ℕ) (r : Unfilled)
-        → ent 𝓤 (ensured 𝓛 with-ended (with-clauses Hands 𝓤) tt (h, (c, (n, (j, (m, tt))))) tt r) (fact 𝓤 (Hands h c n j m r))
-    with-of {𝓤 = 𝓤} 𝓛 h c n j m r = ex_e 𝓤 _ (λ ws. snd∗ 𝓤 (sem 𝓛 (lasts with-ended tt (h, (c, (n, (j, (m, tt))))) ws)) (fact 𝓤 (Hands h c n j m r)))
+    with_of : {M : Type 1} {𝓤 : Ura M} (𝓛 : Logic 𝓤) (h : Table) (c n j m : ℕ) (r : Unfilled)
+        → ent 𝓤 (ensured 𝓛 with_ended (with_clauses Hands 𝓤) tt (h, (c, (n, (j, (m, tt))))) tt r) (fact 𝓤 (Hands h c n j m r))
+    with_of {𝓤 = 𝓤} 𝓛 h c n j m r = ex_e 𝓤 _ (λ ws. snd∗ 𝓤 (sem 𝓛 (lasts with_ended tt (h, (c, (n, (j, (m, tt))))) ws)) (fact 𝓤 (Hands h c n j m r)))
 
     module _ {M : Type 1} {𝓤 : Ura M} (𝓛 : Logic 𝓤) (κ : Lft) (q : Share)
         (h : Table) (c n j : ℕ) (b o : ℕ) (γ : GName) (ys : List Record)
@@ -236,11 +236,11 @@ module _ (Z : Board) where
       av = (tv h ∷ [], (vint w64 c ∷ [], (vint w64 n ∷ [], (vint w64 j ∷ [], (s ∷ [], tt)))))
 
       abbrev Post : Val → SProp 𝓤
-      Post = (walk_of 𝓛 step-ended stayed (step-clauses Shows 𝓤)).post (((κ, tt), (q, tt), tt, a, av), tt)
+      Post = (walk_of 𝓛 step_ended stayed (step_clauses Shows 𝓤)).post (((κ, tt), (q, tt), tt, a, av), tt)
 
       -- what each callee's triple binds outside, and what makes what it asks
-      abbrev to-with : (With Hands 𝓛).Ghost
-      to-with = (
+      abbrev to_with : (With Hands 𝓛).Ghost
+      to_with = (
         (
           tt,
           tt,
@@ -251,7 +251,7 @@ module _ (Z : Board) where
         tt,
       )
 
-      goes_with : ent 𝓤 (sem 𝓛 ((row B).own h (tv h ∷ []))) ((With Hands 𝓛).pre to-with)
+      goes_with : ent 𝓤 (sem 𝓛 ((row B).own h (tv h ∷ []))) ((With Hands 𝓛).pre to_with)
       goes_with =
           qed 𝓛 (‵ ((row B).own h (tv h ∷ [])) ∷ []) ∵ nothing ! $ owned ! usize (Is usize) (uint_Makes 𝓛 w64) (length ys) _ (refl, room.0) $ fjoin ! $
           owned ! u64 (Is u64) (uint_Makes 𝓛 w64) j _ (refl, j-fits) $ fjoin ! $ owned ! u64 (Is u64) (uint_Makes 𝓛 w64) n _ (refl, n-fits) $
@@ -270,9 +270,9 @@ module _ (Z : Board) where
         tt,
       )
 
-      goes-fill : (r : Unfilled) → Hands h c n j (length ys) r → count r < 2 ^ 64 → ent 𝓤 (⋆ 𝓛 ((‵ (flft κ q) ⊛ ‵ ftrue) ∷ ‵
+      goes_fill : (r : Unfilled) → Hands h c n j (length ys) r → count r < 2 ^ 64 → ent 𝓤 (⋆ 𝓛 ((‵ (flft κ q) ⊛ ‵ ftrue) ∷ ‵
           ((MutSlice (named 0) κ (row R)).own_val x (s ∷ [])) ∷ ‵ (Es.own (entries r) (ev r ∷ [])) ∷ [])) ((Fill E R w f 𝓛).pre (to_fill r))
-      goes-fill r e fits =
+      goes_fill r e fits =
           qed 𝓛 ((‵ (flft κ q) ⊛ ‵ ftrue) ∷ ‵ ((MutSlice (named 0) κ (row R)).own_val x (s ∷ [])) ∷ ‵ (Es.own (entries r) (ev r ∷ [])) ∷ []) ∵
           says ! (law.fits ys e) $ nothing ! $ owned ! usize (Is usize) (uint_Makes 𝓛 w64) (count r) _ (refl, fits) $ fjoin ! $
           move ! (3 ∷ 0 ∷ []) $ fjoin ! $ move ! (2 ∷ 0 ∷ []) $ fjoin ! $ move ! (1 ∷ 0 ∷ []) $ frame ! $ done !
@@ -281,7 +281,7 @@ module _ (Z : Board) where
           → Is (row O) (outcome r) (ov r ∷ []) → ent 𝓤 (⋆ 𝓛 ((‵ (flft κ q) ⊛ ‵ ftrue) ∷ ‵ (finally (row R) γ zs) ∷ [])) (Post (ov r))
       exits r zs e same-zs l is =
           qed 𝓛 ((‵ (flft κ q) ⊛ ‵ ftrue) ∷ ‵ (finally (row R) γ zs) ∷ []) ∵
-          suffices ! _ (ends_at 𝓛 step-ended stayed (step-clauses Shows 𝓤) (((κ, tt), (q, tt), tt, a, av), tt) (ov r) (outcome r)
+          suffices ! _ (ends_at 𝓛 step_ended stayed (step_clauses Shows 𝓤) (((κ, tt), (q, tt), tt, a, av), tt) (ov r) (outcome r)
           (last_same (same B) h, (tt, (tt, (tt, (zs, tt))))) (tt, (tt, (tt, (tt, (l, tt)))))) $
           says ! (subst (λ (us : List Record). Shows h c n j ys (table (outcome r)) (reply (outcome r)) us) (sym same-zs) (law.shows ys e)) $ frame ! $
           nothing ! $ move ! (1 ∷ 0 ∷ []) $ fjoin ! $
@@ -293,11 +293,11 @@ module _ (Z : Board) where
 
       module _ (𝓣 : Tables 𝓤 H) (known-with : Triple 𝓤 (𝓣.C with-key) (With Hands 𝓛))
           (known-fill : Triple 𝓤 (𝓣.C fill-key) (Fill E R w f 𝓛)) where
-        walk : ent 𝓤 (on_entry 𝓛 step-ended.signature (κ, tt) (q, tt) a av)
-            (WpFn 𝓤 H 𝓣.C 𝓣.Λ (step-function with-key fill-key) (tv h ∷ vint w64 c ∷ vint w64 n ∷ vint w64 j ∷ s ∷ []) Post)
+        walk : ent 𝓤 (on_entry 𝓛 step_ended.signature (κ, tt) (q, tt) a av)
+            (WpFn 𝓤 H 𝓣.C 𝓣.Λ (step_function with-key fill-key) (tv h ∷ vint w64 c ∷ vint w64 n ∷ vint w64 j ∷ s ∷ []) Post)
         walk =
             qed 𝓛 ((‵ (flft κ q) ⊛ ‵ ftrue) ∷ ‵ (owns ((row B) ∷ u64 ∷ u64 ∷ u64 ∷ MutSlice (named 0) κ (row R) ∷ []) a av) ∷ []) ∵
-            enter ! 𝓣.C 𝓣.Λ (step-function with-key fill-key) (tv h ∷ vint w64 c ∷ vint w64 n ∷ vint w64 j ∷ s ∷ []) _ $
+            enter ! 𝓣.C 𝓣.Λ (step_function with-key fill-key) (tv h ∷ vint w64 c ∷ vint w64 n ∷ vint w64 j ∷ s ∷ []) _ $
             alloc1 ! (λ l₀. alloc1 ! (λ l₁. alloc1 ! (λ l₂. alloc1 ! (λ l₃. alloc1 ! (λ l₄. alloc1 !
             (λ l₅. alloc1 ! (λ l₆. alloc1 ! (λ l₇. alloc1 ! (λ l₈. alloc1 ! (λ l₉. alloc1 ! (λ l₁₀. alloc1 ! (λ l₁₁. alloc0 ! $ params1 ! $
             pass1 ! (init ! 20 refl (typed B 𝓛 h _ is-h)) $ pass1 ! (init ! 18 refl (tt, record { fits = c-fits })) $
@@ -308,26 +308,26 @@ module _ (Z : Board) where
             (init ! 6 refl (tt, record { fits = room.0 })) $
             move ! (25 ∷ []) $ fsplit ! $ move ! (1 ∷ []) $ fsplit ! $ drop ! $ fsplit ! $ drop ! $ fsplit ! $ drop ! $ fsplit ! $
             -- [what panel owns; true; what t owns; _11; …; the token]
-            move ! (2 ∷ 27 ∷ []) $ use1 𝓛 (raw ((With Hands 𝓛).pre to-with)) goes_with $
+            move ! (2 ∷ 27 ∷ []) $ use1 𝓛 (raw ((With Hands 𝓛).pre to_with)) goes_with $
             -- [what the first callee asks; the token; what panel owns; true; _11; …]
-            calls_at ! (fm_of 𝓤 H 𝓛.laws 𝓣) (With Hands 𝓛) known-with to-with (and_then ! (load ! (from ! (stop !)) (look ! 24 refl))
+            calls_at ! (fm_of 𝓤 H 𝓛.laws 𝓣) (With Hands 𝓛) known-with to_with (and_then ! (load ! (from ! (stop !)) (look ! 24 refl))
             (and_then ! (load ! (from ! (stop !)) (look ! 22 refl)) (and_then ! (load ! (from ! (stop !)) (look ! 20 refl))
             (and_then ! (load ! (from ! (stop !)) (look ! 18 refl)) (and_then ! (load ! (from ! (stop !)) (look ! 10 refl)) (no_more !)))))) (λ v.
             use1 𝓛 (later (some (λ (r : Unfilled). (‵ ftrue ⊛ ‵ ((row S).own r (v ∷ []))) ⊛ raw
-            (ensured 𝓛 with-ended (with-clauses Hands 𝓤) tt (h, (c, (n, (j, (length ys, tt))))) tt r)))) (id⊢ 𝓤 _) $ await ! tt $ pick ! (λ r.
-            split ! $ move ! (1 ∷ []) $ use1 𝓛 (raw (fact 𝓤 (Hands h c n j (length ys) r))) (with-of 𝓛 h c n j (length ys) r) $
+            (ensured 𝓛 with_ended (with_clauses Hands 𝓤) tt (h, (c, (n, (j, (length ys, tt))))) tt r)))) (id⊢ 𝓤 _) $ await ! tt $ pick ! (λ r.
+            split ! $ move ! (1 ∷ []) $ use1 𝓛 (raw (fact 𝓤 (Hands h c n j (length ys) r))) (with_of 𝓛 h c n j (length ys) r) $
             heard ! (Hands h c n j (length ys) r) (λ e. split ! $ drop ! $ peeks ! (row S) (Is (row S)) (shows 𝓛 (row S)) r (v ∷ []) (λ is.
             land ! (from ! (stop !)) (init ! 14 refl (typed S 𝓛 r _ is)) $
             rewrite ! 14 (λ (u : Val). ‵ (fat full_share (ty S) l₆ 0 u)) (ap only (tells S r _ is)) refl $ drop ! $
             -- [the token; what panel owns; true; _11; …]
             assigns ! (of_opd ! (load ! (from ! (fld ! refl (stop !))) (look_in ! 13 (sub ! 1 refl (whole !))))) (from ! (stop !))
-            (init ! 11 refl ((Array-Lawful 𝓛 (row E) (lawful E 𝓛) w).typed (entries r) _ (is-entries r _ is)).0) $
+            (init ! 11 refl ((Array-Lawful 𝓛 (row E) (lawful E 𝓛) w).typed (entries r) _ (is_entries r _ is)).0) $
             assigns ! (addr ! (from ! (fld ! refl (hop ! (look_in ! 15 (sub ! 0 refl (whole !))) (stop !))))) (from ! (stop !)) (init ! 5 refl (tt, tt)) $
             assigns ! (agg ! (and_then ! (load ! (from ! (stop !)) (look ! 5 refl)) (and_then !
             (load ! (from ! (fld ! refl (stop !))) (look_in ! 15 (sub ! 1 refl (whole !)))) (no_more !)))) (from ! (stop !))
             (init ! 3 refl (tt, (tt, (record { fits = room.0 }, tt)))) $
-            owned ! Es (Is Es) (Array-Makes 𝓛 (row E) (makes E 𝓛) w) (entries r) _ (is-entries r _ is) $
-            move ! (1 ∷ 2 ∷ 0 ∷ []) $ use3 𝓛 (raw ((Fill E R w f 𝓛).pre (to_fill r))) (goes-fill r e (is-count r _ is)) $
+            owned ! Es (Is Es) (Array-Makes 𝓛 (row E) (makes E 𝓛) w) (entries r) _ (is_entries r _ is) $
+            move ! (1 ∷ 2 ∷ 0 ∷ []) $ use3 𝓛 (raw ((Fill E R w f 𝓛).pre (to_fill r))) (goes_fill r e (is_count r _ is)) $
             -- [what the filling asks; true; _11; …]
             calls_at ! (fm_of 𝓤 H 𝓛.laws 𝓣) (Fill E R w f 𝓛) known-fill (to_fill r) (and_then ! (load ! (from ! (stop !)) (look ! 2 refl))
             (and_then ! (load ! (from ! (stop !)) (look ! 10 refl)) (and_then ! (load ! (from ! (fld ! refl (fld ! refl (fld ! Z.written_at (stop !)))))
@@ -342,30 +342,30 @@ module _ (Z : Board) where
             -- [what () owns; the token; the panel's last contents; true; true; _11; …]
             land ! (from ! (stop !)) (init ! 9 refl ((Nothing-Lawful 𝓛).typed z _ is-z).0) $ drop ! $
             assigns ! (of_opd ! (load ! (from ! (fld ! refl (stop !))) (look_in ! 14 (sub ! 0 refl (whole !))))) (from ! (stop !))
-            (init ! 26 refl (typed O 𝓛 (outcome r) _ (is-outcome r _ is))) $
+            (init ! 26 refl (typed O 𝓛 (outcome r) _ (is_outcome r _ is))) $
             returns ! (look ! 26 refl) $ forget ! 4 refl $ forget ! 6 refl $ forget ! 8 refl $ forget ! 10 refl $ forget ! 12 refl $ forget ! 14 refl $
             forget ! 16 refl $ forget ! 18 refl $ forget ! 20 refl $ forget ! 22 refl $ forget ! 24 refl $ forget ! 26 refl $
             move ! (26 ∷ 27 ∷ []) $ free1 ! $ move ! (24 ∷ 25 ∷ []) $ free1 ! $ move ! (22 ∷ 23 ∷ []) $ free1 ! $ move ! (20 ∷ 21 ∷ []) $ free1 ! $
             move ! (18 ∷ 19 ∷ []) $ free1 ! $ move ! (16 ∷ 17 ∷ []) $ free1 ! $ move ! (14 ∷ 15 ∷ []) $ free1 ! $ move ! (12 ∷ 13 ∷ []) $ free1 ! $
             move ! (10 ∷ 11 ∷ []) $ free1 ! $ move ! (8 ∷ 9 ∷ []) $ free1 ! $ move ! (6 ∷ 7 ∷ []) $ free1 ! $ move ! (4 ∷ 5 ∷ []) $ free1 ! $ free0 ! $
-            keep ! (0 ∷ 1 ∷ []) $ by ! (exits r zs.0 e same-zs l (is-outcome r _ is))))))))))))))))))))))))
+            keep ! (0 ∷ 1 ∷ []) $ by ! (exits r zs.0 e same-zs l (is_outcome r _ is))))))))))))))))))))))))
 
     module _ {M : Type 1} {𝓤 : Ura M} (𝓛 : Logic 𝓤) (𝓣 : Tables 𝓤 𝓛.H) (known-with : Triple 𝓤 (𝓣.C with-key) (With Hands 𝓛))
         (known-fill : Triple 𝓤 (𝓣.C fill-key) (Fill E R w f 𝓛)) where
       open 𝓛 use {H}
 
-      step-walks : Walks 𝓛 step-ended stayed (WpFn 𝓤 H 𝓣.C 𝓣.Λ (step-function with-key fill-key)) (step-clauses Shows 𝓤)
-      step-walks = walked 𝓛 step-ended stayed (step-clauses Shows 𝓤) (WpFn 𝓤 H 𝓣.C 𝓣.Λ (step-function with-key fill-key))
+      step_walks : Walks 𝓛 step_ended stayed (WpFn 𝓤 H 𝓣.C 𝓣.Λ (step_function with-key fill-key)) (step_clauses Shows 𝓤)
+      step_walks = walked 𝓛 step_ended stayed (step_clauses Shows 𝓤) (WpFn 𝓤 H 𝓣.C 𝓣.Λ (step_function with-key fill-key))
           (λ κs. (vals B, (uint_vals w64, (uint_vals w64, (uint_vals w64, (mut_slice_vals, tt))))))
           (λ κs. (tells B, (uint_Tells w64, (uint_Tells w64, (uint_Tells w64, (mut_slice_Tells (named 0) κs.0 (row R), tt))))))
           (λ κs qs bounds a g are. via 𝓤 _ (fst∗ 𝓤 _ (emp 𝓤)) (walk 𝓛 κs.0 qs.0 a.0 a.1.0 a.1.1.0 a.1.1.1.0
           a.1.1.1.1.0.ref_ptr.0 a.1.1.1.1.0.ref_ptr.1 a.1.1.1.1.0.ghost_name a.1.1.1.1.0.now are.0 are.1.0.1 are.1.1.0.1
           are.1.1.1.0.1 are.1.1.1.1.0.0.1 𝓣 known-with known-fill))
 
-      step-meets : Meets 𝓛 step-ended.signature (WpFn 𝓤 H 𝓣.C 𝓣.Λ (step-function with-key fill-key))
-          (closing 𝓛 step-ended (step-clauses Shows 𝓤))
-      step-meets =
-          walk_Meets 𝓛 step-ended stayed (
+      step_meets : Meets 𝓛 step_ended.signature (WpFn 𝓤 H 𝓣.C 𝓣.Λ (step_function with-key fill-key))
+          (closing 𝓛 step_ended (step_clauses Shows 𝓤))
+      step_meets =
+          walk_Meets 𝓛 step_ended stayed (
             Goes-none 𝓛 1 (λ _. row B) yes (λ κs. silent (same B)),
             (
               Goes-none 𝓛 1 (λ _. u64) yes (λ κs x f. refl),
@@ -374,14 +374,14 @@ module _ (Z : Board) where
                 (Goes-none 𝓛 1 (λ _. u64) yes (λ κs x f. refl), (Goes-gave_slice 𝓛 1 0 tt (plain (λ _. row R)), tt)),
               ),
             ),
-          ) (step-clauses Shows 𝓤) (WpFn 𝓤 H 𝓣.C 𝓣.Λ (step-function with-key fill-key))
-          (WpFn-mono 𝓤 H 𝓛.laws 𝓣 (step-function with-key fill-key)) step-walks
+          ) (step_clauses Shows 𝓤) (WpFn 𝓤 H 𝓣.C 𝓣.Λ (step_function with-key fill-key))
+          (WpFn-mono 𝓤 H 𝓛.laws 𝓣 (step_function with-key fill-key)) step_walks
 
     module _ {M : Type 1} {𝓤 : Ura M} (𝓛 : Logic 𝓤) (𝓜 : Model 𝓤 𝓛.H) (𝓡 : Running 𝓤 𝓛.H 𝓜) (γ : Env) (n : Name) (r r' : Routine) where
       open 𝓛 use {H}
 
       pub step_spec : γ with-key ≡ r → γ fill-key ≡ r'
-          → Closed 𝓤 H (tables 𝓤 H 𝓜 𝓡 γ).C (tables 𝓤 H 𝓜 𝓡 γ).Λ n (step-function with-key fill-key)
+          → Closed 𝓤 H (tables 𝓤 H 𝓜 𝓡 γ).C (tables 𝓤 H 𝓜 𝓡 γ).Λ n (step_function with-key fill-key)
           → Triple 𝓤 (𝓡.run r) (With Hands 𝓛) → Triple 𝓤 (𝓡.run r') (Fill E R w f 𝓛) → Triple 𝓤 (𝓡.run (γ n)) (Step Shows 𝓛)
-      step_spec at at' closed = linked_two 𝓤 H 𝓜 𝓡 γ n with-key fill-key r r' (step-function with-key fill-key) (Step Shows 𝓛)
-          (With Hands 𝓛) (Fill E R w f 𝓛) at at' closed (step-meets 𝓛)
+      step_spec at at' closed = linked_two 𝓤 H 𝓜 𝓡 γ n with-key fill-key r r' (step_function with-key fill-key) (Step Shows 𝓛)
+          (With Hands 𝓛) (Fill E R w f 𝓛) at at' closed (step_meets 𝓛)

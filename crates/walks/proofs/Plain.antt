@@ -1,6 +1,6 @@
 -- What the walks ask of a type: that it is plain data, with no reference inside. `Structs.antt` has declared structs as such.
 --     Plainly              a type that owns only facts, of one machine value: a table, an answer, a record of a panel
---     last-same, silent    what a contract can learn at exit of such a value: nothing new
+--     last_same, silent    what a contract can learn at exit of such a value: nothing new
 --     Both                 a struct of a table and an answer, in this order: what a step by value returns
 --     lies_in, lies_out    a value in a local of a walk is one that lies in memory, so that it can be lent; and back
 use mathlib.Core.Path.{◌≡◌, refl, sym, subst}
@@ -35,8 +35,8 @@ pub record Plainly : Type 2 where
 
 -- nothing is bound or said of what is seen at exit as it was passed
 module _ {D : Type 0} {e : Exit D} (same : e ≡ unchanged) (x : D) where
-  pub last-same : Last e x
-  last-same = subst (λ (e : Exit D). Last e x) (sym same) tt
+  pub last_same : Last e x
+  last_same = subst (λ (e : Exit D). Last e x) (sym same) tt
 
   pub silent : (w : Last e x) → left e x w ≡ ftrue
   silent = subst (λ (e : Exit D). (w : Last e x) → left e x w ≡ ftrue) (sym same) (λ w. refl)

@@ -46,38 +46,38 @@ Told T R = T.R.Denot → R.R.Denot → Type 0
 
 module _ (T R : Plainly) where
   -- ---- the signatures of the question by value and of the one to a lent table
-  abbrev pub ask-ended : Ended
-  ask-ended = record {
+  abbrev pub ask_ended : Ended
+  ask_ended = record {
     signature = record { lifetimes = 0; outlives = []; params = plain (λ _. T.R) ∷ []; result = plain (λ _. R.R) };
     kept = (yes, tt);
   }
 
-  abbrev pub lent-ended : Ended
-  lent-ended = record {
+  abbrev pub lent_ended : Ended
+  lent_ended = record {
     signature = record { lifetimes = 1; outlives = []; params = shr_ref_to (0 ∷ []) tt (plain (λ _. T.R)) ∷ []; result = plain (λ _. R.R) };
     kept = (yes, tt);
   }
 
   -- ---- their contracts: the lent table stays
-  abbrev pub ask-clauses : Told T R → {M : Type 1} (𝓤 : Ura M) → Clauses 𝓤 ask-ended
-  ask-clauses Q 𝓤 κs a = record { ghost = Unit {0}; requires = λ _. emp 𝓤; ensures = λ _ r e. fact 𝓤 (Q a.0 r) }
+  abbrev pub ask_clauses : Told T R → {M : Type 1} (𝓤 : Ura M) → Clauses 𝓤 ask_ended
+  ask_clauses Q 𝓤 κs a = record { ghost = Unit {0}; requires = λ _. emp 𝓤; ensures = λ _ r e. fact 𝓤 (Q a.0 r) }
 
-  abbrev pub lent-clauses : Told T R → {M : Type 1} (𝓤 : Ura M) → Clauses 𝓤 lent-ended
-  lent-clauses Q 𝓤 κs a = record {
+  abbrev pub lent_clauses : Told T R → {M : Type 1} (𝓤 : Ura M) → Clauses 𝓤 lent_ended
+  lent_clauses Q 𝓤 κs a = record {
     ghost = Unit {0};
     requires = λ _. emp 𝓤;
     ensures = λ _ r e. fact 𝓤 (Q a.0.now r × (e.0.now ≡ a.0.now));
   }
 
   abbrev pub Ask : Told T R → {M : Type 1} {𝓤 : Ura M} (𝓛 : Logic 𝓤) → Contract 𝓤
-  Ask Q {𝓤 = 𝓤} 𝓛 = triple_of 𝓛 ask-ended.signature (closing 𝓛 ask-ended (ask-clauses Q 𝓤))
+  Ask Q {𝓤 = 𝓤} 𝓛 = triple_of 𝓛 ask_ended.signature (closing 𝓛 ask_ended (ask_clauses Q 𝓤))
 
   abbrev pub AskLent : Told T R → {M : Type 1} {𝓤 : Ura M} (𝓛 : Logic 𝓤) → Contract 𝓤
-  AskLent Q {𝓤 = 𝓤} 𝓛 = triple_of 𝓛 lent-ended.signature (closing 𝓛 lent-ended (lent-clauses Q 𝓤))
+  AskLent Q {𝓤 = 𝓤} 𝓛 = triple_of 𝓛 lent_ended.signature (closing 𝓛 lent_ended (lent_clauses Q 𝓤))
 
   -- ---- the MIR of the question to a lent table, which calls the key
-  abbrev pub lent-function : Name → Fn
-  lent-function key = record {
+  abbrev pub lent_function : Name → Fn
+  lent_function key = record {
     lifetimes = 1;
     outlives = [];
     params = 1;
@@ -85,7 +85,7 @@ module _ (T R : Plainly) where
     body = seq (assign (place 2 []) (rv_opd (copy (place 1 (deref T.mir ∷ []))))) (seq (call key (copy (place 2 []) ∷ []) (place 0 [])) return);
   }
 
-  abbrev stayed : Stays lent-ended.signature.params lent-ended.kept
+  abbrev stayed : Stays lent_ended.signature.params lent_ended.kept
   stayed = (stay_none_ref (0 ∷ []) tt (plain (λ _. T.R)) yes, tt)
 
 module _ {M : Type 1} {𝓤 : Ura M} (𝓛 : Logic 𝓤) (T R : Plainly) (Q : Told T R) (key : Name) (κ : Lft) (q : Share)
@@ -99,7 +99,7 @@ module _ {M : Type 1} {𝓤 : Ura M} (𝓛 : Logic 𝓤) (T R : Plainly) (Q : To
   at = (vptr b o ∷ [], tt)
 
   abbrev Post : Val → SProp 𝓤
-  Post = (walk_of 𝓛 (lent-ended T R) (stayed T R) (lent-clauses T R Q 𝓤)).post (((κ, tt), (q, tt), tt, x, at), tt)
+  Post = (walk_of 𝓛 (lent_ended T R) (stayed T R) (lent_clauses T R Q 𝓤)).post (((κ, tt), (q, tt), tt, x, at), tt)
 
   abbrev to : (Ask T R Q 𝓛).Ghost
   to = ((tt, tt, tt, (h, tt), (T.val h ∷ [], tt)), tt)
@@ -108,21 +108,21 @@ module _ {M : Type 1} {𝓤 : Ura M} (𝓛 : Logic 𝓤) (T R : Plainly) (Q : To
   goes = qed 𝓛 (‵ (T.R.own h (T.val h ∷ [])) ∷ []) ∵ nothing ! $ move ! (1 ∷ 0 ∷ []) $ join ! $ nothing ! $ join ! $ frame ! $ done !
 
   -- of what the question ensures, the clause alone: there is no `&mut`
-  said : (r : R.R.Denot) → ent 𝓤 (ensured 𝓛 (ask-ended T R) (ask-clauses T R Q 𝓤) tt (h, tt) tt r) (fact 𝓤 (Q h r))
-  said r = ex_e 𝓤 _ (λ ws. snd∗ 𝓤 (sem 𝓛 (lasts (ask-ended T R) tt (h, tt) ws)) (fact 𝓤 (Q h r)))
+  said : (r : R.R.Denot) → ent 𝓤 (ensured 𝓛 (ask_ended T R) (ask_clauses T R Q 𝓤) tt (h, tt) tt r) (fact 𝓤 (Q h r))
+  said r = ex_e 𝓤 _ (λ ws. snd∗ 𝓤 (sem 𝓛 (lasts (ask_ended T R) tt (h, tt) ws)) (fact 𝓤 (Q h r)))
 
   exits : (r : R.R.Denot) (v : Val) → Q h r → ent 𝓤 (⋆ 𝓛 (‵ (R.R.own r (v ∷ [])) ∷ ‵ (flft κ q) ∷ ‵ (fres γ (T.R.coded.code h)) ∷ ‵
       (fshr_bor κ (λ s. part_at T.R s h b o)) ∷ [])) (Post v)
   exits r v e =
       qed 𝓛 (‵ (R.R.own r (v ∷ [])) ∷ ‵ (flft κ q) ∷ ‵ (fres γ (T.R.coded.code h)) ∷ ‵ (fshr_bor κ (λ s. part_at T.R s h b o)) ∷ []) ∵
-      suffices ! _ (ends_at 𝓛 (lent-ended T R) (stayed T R) (lent-clauses T R Q 𝓤) (((κ, tt), (q, tt), tt, x, at), tt) v r (tt, tt) (tt, tt)) $
+      suffices ! _ (ends_at 𝓛 (lent_ended T R) (stayed T R) (lent_clauses T R Q 𝓤) (((κ, tt), (q, tt), tt, x, at), tt) v r (tt, tt) (tt, tt)) $
       says ! (e, refl) $ move ! (1 ∷ 2 ∷ 3 ∷ []) $ nothing ! $ move ! (1 ∷ 0 ∷ []) $ join ! $ frame ! $
       feq_i ! (List Val) (vptr b o ∷ []) (vptr b o ∷ []) refl $ fjoin3 ! $ nothing ! $ move ! (1 ∷ 0 ∷ []) $ fjoin ! $ frame ! $ done !
 
   module _ (C : Calls 𝓤 H) (Λ : Loops 𝓤 H) (fm : FmC 𝓤 H 𝓛.laws C) (known : Triple 𝓤 (C key) (Ask T R Q 𝓛)) where
-    walk : ent 𝓤 (on_entry 𝓛 (lent-ended T R).signature (κ, tt) (q, tt) x at) (WpFn 𝓤 H C Λ (lent-function T R key) (vptr b o ∷ []) Post)
+    walk : ent 𝓤 (on_entry 𝓛 (lent_ended T R).signature (κ, tt) (q, tt) x at) (WpFn 𝓤 H C Λ (lent_function T R key) (vptr b o ∷ []) Post)
     walk =
-        qed 𝓛 ((‵ (flft κ q) ⊛ ‵ ftrue) ∷ ‵ (owns (ShrRef (named 0) κ T.R ∷ []) x at) ∷ []) ∵ enter ! C Λ (lent-function T R key) (vptr b o ∷ []) _ $
+        qed 𝓛 ((‵ (flft κ q) ⊛ ‵ ftrue) ∷ ‵ (owns (ShrRef (named 0) κ T.R ∷ []) x at) ∷ []) ∵ enter ! C Λ (lent_function T R key) (vptr b o ∷ []) _ $
         alloc1 ! (λ l₀. alloc1 ! (λ l₁. alloc1 ! (λ l₂. alloc0 ! $ params1 ! $ pass1 ! (init ! 2 refl (tt, tt)) $ pass0 ! $
         -- [room for _2; …; _1; …; room for _0; …; the token; what the parameter owns]
         move ! (7 ∷ []) $ fsplit ! $ fsplit3 ! $ drop ! $ move ! (9 ∷ []) $ split ! $ move ! (3 ∷ 0 ∷ []) $
@@ -139,7 +139,7 @@ module _ {M : Type 1} {𝓤 : Ura M} (𝓛 : Logic 𝓤) (T R : Plainly) (Q : To
         -- [what the question asks; the token; the borrow; true; res; true; _2; …; _1; …; room for _0; …]
         calls_at ! fm (Ask T R Q 𝓛) known to (and_then ! (load ! (from ! (stop !)) (look ! 6 refl)) (no_more !)) (λ v.
         use1 𝓛 (later (some (λ (r : R.R.Denot). (‵ ftrue ⊛ ‵ (R.R.own r (v ∷ []))) ⊛ raw
-        (ensured 𝓛 (ask-ended T R) (ask-clauses T R Q 𝓤) tt (h, tt) tt r)))) (id⊢ 𝓤 _) $ await ! tt $ pick ! (λ r.
+        (ensured 𝓛 (ask_ended T R) (ask_clauses T R Q 𝓤) tt (h, tt) tt r)))) (id⊢ 𝓤 _) $ await ! tt $ pick ! (λ r.
         split ! $ move ! (1 ∷ []) $ use1 𝓛 (raw (fact 𝓤 (Q h r))) (said r) $ heard ! (Q h r) (λ e. split ! $ drop ! $
         peeks ! R.R (Is R.R) (shows 𝓛 R.R) r (v ∷ []) (λ is.
         -- [what the answer owns; the token; the borrow; true; res; true; _2; …; _1; …; room for _0; …]
@@ -151,23 +151,23 @@ module _ {M : Type 1} {𝓤 : Ura M} (𝓛 : Logic 𝓤) (T R : Plainly) (Q : To
 module _ {M : Type 1} {𝓤 : Ura M} (𝓛 : Logic 𝓤) (T R : Plainly) (Q : Told T R) (key : Name) where
   open 𝓛 use {H}
 
-  ask-walks : (C : Calls 𝓤 H) (Λ : Loops 𝓤 H) → FmC 𝓤 H 𝓛.laws C → Triple 𝓤 (C key) (Ask T R Q 𝓛)
-      → Walks 𝓛 (lent-ended T R) (stayed T R) (WpFn 𝓤 H C Λ (lent-function T R key)) (lent-clauses T R Q 𝓤)
-  ask-walks C Λ fm known = walked 𝓛 (lent-ended T R) (stayed T R) (lent-clauses T R Q 𝓤) (WpFn 𝓤 H C Λ (lent-function T R key))
+  ask_walks : (C : Calls 𝓤 H) (Λ : Loops 𝓤 H) → FmC 𝓤 H 𝓛.laws C → Triple 𝓤 (C key) (Ask T R Q 𝓛)
+      → Walks 𝓛 (lent_ended T R) (stayed T R) (WpFn 𝓤 H C Λ (lent_function T R key)) (lent_clauses T R Q 𝓤)
+  ask_walks C Λ fm known = walked 𝓛 (lent_ended T R) (stayed T R) (lent_clauses T R Q 𝓤) (WpFn 𝓤 H C Λ (lent_function T R key))
       (λ κs. (shr_vals, tt)) (λ κs. (shr_Tells (named 0) κs.0 T.R, tt))
       (λ κs qs bounds a _ _. via 𝓤 _ (fst∗ 𝓤 _ (emp 𝓤)) (walk 𝓛 T R Q key κs.0 qs.0 a.0.ref_ptr.0 a.0.ref_ptr.1 0 a.0.now
       C Λ fm known))
 
-  ask-meets : (𝓣 : Tables 𝓤 H) → Triple 𝓤 (𝓣.C key) (Ask T R Q 𝓛)
-      → Triple 𝓤 (WpFn 𝓤 H 𝓣.C 𝓣.Λ (lent-function T R key)) (AskLent T R Q 𝓛)
-  ask-meets 𝓣 known =
-      walk_Meets 𝓛 (lent-ended T R) (stayed T R) (Goes-none_ref 𝓛 1 (0 ∷ []) tt (plain (λ _. T.R)) yes, tt) (lent-clauses T R Q 𝓤)
-      (WpFn 𝓤 H 𝓣.C 𝓣.Λ (lent-function T R key)) (WpFn-mono 𝓤 H 𝓛.laws 𝓣 (lent-function T R key))
-      (ask-walks 𝓣.C 𝓣.Λ (fm_of 𝓤 H 𝓛.laws 𝓣) known)
+  ask_meets : (𝓣 : Tables 𝓤 H) → Triple 𝓤 (𝓣.C key) (Ask T R Q 𝓛)
+      → Triple 𝓤 (WpFn 𝓤 H 𝓣.C 𝓣.Λ (lent_function T R key)) (AskLent T R Q 𝓛)
+  ask_meets 𝓣 known =
+      walk_Meets 𝓛 (lent_ended T R) (stayed T R) (Goes-none_ref 𝓛 1 (0 ∷ []) tt (plain (λ _. T.R)) yes, tt) (lent_clauses T R Q 𝓤)
+      (WpFn 𝓤 H 𝓣.C 𝓣.Λ (lent_function T R key)) (WpFn-mono 𝓤 H 𝓛.laws 𝓣 (lent_function T R key))
+      (ask_walks 𝓣.C 𝓣.Λ (fm_of 𝓤 H 𝓛.laws 𝓣) known)
 
 pub ask_spec : (T R : Plainly) (Q : Told T R) {M : Type 1} {𝓤 : Ura M} (𝓛 : Logic 𝓤) (𝓜 : Model 𝓤 𝓛.H) (𝓡 : Running 𝓤 𝓛.H 𝓜)
-    (γ : Env) (n key : Name) (r : Routine) → γ key ≡ r → Closed 𝓤 𝓛.H (tables 𝓤 𝓛.H 𝓜 𝓡 γ).C (tables 𝓤 𝓛.H 𝓜 𝓡 γ).Λ n (lent-function T R key)
+    (γ : Env) (n key : Name) (r : Routine) → γ key ≡ r → Closed 𝓤 𝓛.H (tables 𝓤 𝓛.H 𝓜 𝓡 γ).C (tables 𝓤 𝓛.H 𝓜 𝓡 γ).Λ n (lent_function T R key)
     → Triple 𝓤 (𝓡.run r) (Ask T R Q 𝓛) → Triple 𝓤 (𝓡.run (γ n)) (AskLent T R Q 𝓛)
 ask_spec T R Q {𝓤 = 𝓤} 𝓛 𝓜 𝓡 γ n key r at closed =
-    linked 𝓤 𝓛.H 𝓜 𝓡 γ n key r (lent-function T R key) (AskLent T R Q 𝓛) (Ask T R Q 𝓛) at closed
-    (ask-meets 𝓛 T R Q key)
+    linked 𝓤 𝓛.H 𝓜 𝓡 γ n key r (lent_function T R key) (AskLent T R Q 𝓛) (Ask T R Q 𝓛) at closed
+    (ask_meets 𝓛 T R Q key)

@@ -41,8 +41,8 @@ use Rattle.walks.proofs.Question.{Told, Ask, AskLent, ask_ended, ask_clauses, le
 
 module _ (T R : Plainly) where
   -- ---- the MIR of the owner, which calls the key
-  abbrev pub own-function : Name → Fn
-  own-function key = record {
+  abbrev pub own_function : Name → Fn
+  own_function key = record {
     lifetimes = 0;
     outlives = [];
     params = 1;
@@ -91,9 +91,9 @@ module _ {M : Type 1} {𝓤 : Ura M} (𝓛 : Logic 𝓤) (T R : Plainly) (Q : To
       says ! e.0 $ owned ! T.R (Is T.R) (T.makes M 𝓤 𝓛) h _ is-h $ nothing ! $ move ! (1 ∷ 0 ∷ []) $ fjoin ! $ nothing ! $ done !
 
   module _ (C : Calls 𝓤 H) (Λ : Loops 𝓤 H) (fm : FmC 𝓤 H 𝓛.laws C) (known : Triple 𝓤 (C key) (AskLent T R Q 𝓛)) where
-    walk : ent 𝓤 (on_entry 𝓛 (ask_ended T R).signature tt tt (h, tt) (T.val h ∷ [], tt)) (WpFn 𝓤 H C Λ (own-function T R key) (T.val h ∷ []) Post)
+    walk : ent 𝓤 (on_entry 𝓛 (ask_ended T R).signature tt tt (h, tt) (T.val h ∷ [], tt)) (WpFn 𝓤 H C Λ (own_function T R key) (T.val h ∷ []) Post)
     walk =
-        qed 𝓛 (‵ ftrue ∷ ‵ (owns (T.R ∷ []) (h, tt) (T.val h ∷ [], tt)) ∷ []) ∵ enter ! C Λ (own-function T R key) (T.val h ∷ []) _ $
+        qed 𝓛 (‵ ftrue ∷ ‵ (owns (T.R ∷ []) (h, tt) (T.val h ∷ [], tt)) ∷ []) ∵ enter ! C Λ (own_function T R key) (T.val h ∷ []) _ $
         alloc1 ! (λ l₀. alloc1 ! (λ l₁. alloc1 ! (λ l₂. alloc1 ! (λ l₃. alloc0 ! $ params1 ! $
         pass1 ! (init ! 4 refl (T.typed M 𝓤 𝓛 h _ is-h)) $ pass0 ! $
         -- [room for _3; …; room for _2; …; _1; …; room for _0; …; true; what the parameter owns]
@@ -125,22 +125,22 @@ module _ {M : Type 1} {𝓤 : Ura M} (𝓛 : Logic 𝓤) (T R : Plainly) (Q : To
 module _ {M : Type 1} {𝓤 : Ura M} (𝓛 : Logic 𝓤) (T R : Plainly) (Q : Told T R) (key : Name) where
   open 𝓛 use {H}
 
-  own-walks : (C : Calls 𝓤 H) (Λ : Loops 𝓤 H) → FmC 𝓤 H 𝓛.laws C → Triple 𝓤 (C key) (AskLent T R Q 𝓛)
-      → Walks 𝓛 (ask_ended T R) (stayed T R) (WpFn 𝓤 H C Λ (own-function T R key)) (ask_clauses T R Q 𝓤)
-  own-walks C Λ fm known = walked 𝓛 (ask_ended T R) (stayed T R) (ask_clauses T R Q 𝓤) (WpFn 𝓤 H C Λ (own-function T R key))
+  own_walks : (C : Calls 𝓤 H) (Λ : Loops 𝓤 H) → FmC 𝓤 H 𝓛.laws C → Triple 𝓤 (C key) (AskLent T R Q 𝓛)
+      → Walks 𝓛 (ask_ended T R) (stayed T R) (WpFn 𝓤 H C Λ (own_function T R key)) (ask_clauses T R Q 𝓤)
+  own_walks C Λ fm known = walked 𝓛 (ask_ended T R) (stayed T R) (ask_clauses T R Q 𝓤) (WpFn 𝓤 H C Λ (own_function T R key))
       (λ κs. ((λ y. T.val y ∷ []), tt)) (λ κs. (T.tells, tt))
       (λ κs qs bounds a g are. via 𝓤 _ (fst∗ 𝓤 _ (emp 𝓤)) (walk 𝓛 T R Q key a.0 are.0 C Λ fm known))
 
   own_meets : (𝓣 : Tables 𝓤 H) → Triple 𝓤 (𝓣.C key) (AskLent T R Q 𝓛)
-      → Triple 𝓤 (WpFn 𝓤 H 𝓣.C 𝓣.Λ (own-function T R key)) (Ask T R Q 𝓛)
+      → Triple 𝓤 (WpFn 𝓤 H 𝓣.C 𝓣.Λ (own_function T R key)) (Ask T R Q 𝓛)
   own_meets 𝓣 known =
       walk_Meets 𝓛 (ask_ended T R) (stayed T R) (Goes-none 𝓛 0 (λ _. T.R) yes (λ κs. silent (T.still yes)), tt) (ask_clauses T R Q 𝓤)
-      (WpFn 𝓤 H 𝓣.C 𝓣.Λ (own-function T R key)) (WpFn-mono 𝓤 H 𝓛.laws 𝓣 (own-function T R key))
-      (own-walks 𝓣.C 𝓣.Λ (fm_of 𝓤 H 𝓛.laws 𝓣) known)
+      (WpFn 𝓤 H 𝓣.C 𝓣.Λ (own_function T R key)) (WpFn-mono 𝓤 H 𝓛.laws 𝓣 (own_function T R key))
+      (own_walks 𝓣.C 𝓣.Λ (fm_of 𝓤 H 𝓛.laws 𝓣) known)
 
 pub ask_owned_spec : (T R : Plainly) (Q : Told T R) {M : Type 1} {𝓤 : Ura M} (𝓛 : Logic 𝓤) (𝓜 : Model 𝓤 𝓛.H) (𝓡 : Running 𝓤 𝓛.H 𝓜)
-    (γ : Env) (n key : Name) (r : Routine) → γ key ≡ r → Closed 𝓤 𝓛.H (tables 𝓤 𝓛.H 𝓜 𝓡 γ).C (tables 𝓤 𝓛.H 𝓜 𝓡 γ).Λ n (own-function T R key)
+    (γ : Env) (n key : Name) (r : Routine) → γ key ≡ r → Closed 𝓤 𝓛.H (tables 𝓤 𝓛.H 𝓜 𝓡 γ).C (tables 𝓤 𝓛.H 𝓜 𝓡 γ).Λ n (own_function T R key)
     → Triple 𝓤 (𝓡.run r) (AskLent T R Q 𝓛) → Triple 𝓤 (𝓡.run (γ n)) (Ask T R Q 𝓛)
 ask_owned_spec T R Q {𝓤 = 𝓤} 𝓛 𝓜 𝓡 γ n key r at closed =
-    linked 𝓤 𝓛.H 𝓜 𝓡 γ n key r (own-function T R key) (Ask T R Q 𝓛) (AskLent T R Q 𝓛) at closed
+    linked 𝓤 𝓛.H 𝓜 𝓡 γ n key r (own_function T R key) (Ask T R Q 𝓛) (AskLent T R Q 𝓛) at closed
     (own_meets 𝓛 T R Q key)

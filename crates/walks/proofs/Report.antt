@@ -3,7 +3,7 @@
 --     buffer, buffer'      its slot in the call on a lent table, where the table has the first lifetime, and in a function on a table by value
 --     contents, seen       what it holds at entry and at exit; nothing where there is no buffer
 --     hand_on, take_back   the lent call passes it on to the step by value for good, and what says its last contents comes back
---     hand-off, have-back  an owner passes it on to the lent call, likewise
+--     hand_off, have_back  an owner passes it on to the lent call, likewise
 --     prepare, passed      the MIR that borrows it again for the call, and the operand that passes it
 use mathlib.Core.Path.{◌≡◌, refl}
 use Prim.Native.Nat.{ℕ, zero, suc}
@@ -186,18 +186,18 @@ module _ {M : Type 1} {𝓤 : Ura M} (𝓛 : Logic 𝓤) where
   take_back (slice X) κs x w = qed 𝓛 (‵ (lasts_of κs.1 (buffer' (slice X)) (all yes (buffer' (slice X))) x w) ∷ []) ∵ fsplit ! $ fsplit ! $ move ! (1 ∷ []) $
       feq_l ! (λ l. check ! (l, tt) $ fjoin ! $ done !)
 
-  pub hand-off : (b : Beside) (κs : Lfts (suc (lives b))) (x : Denots (types_at (buffer' b) κs.1))
+  pub hand_off : (b : Beside) (κs : Lfts (suc (lives b))) (x : Denots (types_at (buffer' b) κs.1))
       → ent 𝓤 (sem 𝓛 (owns (types_at (buffer' b) κs.1) x (valss (types_at (buffer' b) κs.1) (spell' b κs.1) x)))
       (sem 𝓛 (owns (types_at (buffer b) κs) (off b κs x) (valss (types_at (buffer b) κs) (spell b κs) (off b κs x))))
-  hand-off none κs x = id⊢ 𝓤 _
-  hand-off (slice X) κs x = id⊢ 𝓤 _
+  hand_off none κs x = id⊢ 𝓤 _
+  hand_off (slice X) κs x = id⊢ 𝓤 _
 
-  pub have-back : (b : Beside) (κs : Lfts (suc (lives b))) (x : Denots (types_at (buffer' b) κs.1)) (w : Fins κs (buffer b) (all yes (buffer b)) (off b κs x))
+  pub have_back : (b : Beside) (κs : Lfts (suc (lives b))) (x : Denots (types_at (buffer' b) κs.1)) (w : Fins κs (buffer b) (all yes (buffer b)) (off b κs x))
       → ent 𝓤 (sem 𝓛 (lasts_of κs (buffer b) (all yes (buffer b)) (off b κs x) w))
       (mean 𝓛 (given (fits_of κs.1 (buffer' b) (all yes (buffer' b)) (gave' b) x (end' b κs x w))
       (‵ (has_of κs.1 (buffer' b) (all yes (buffer' b)) (gave' b) x (end' b κs x w) (valss (types_at (buffer' b) κs.1) (spell' b κs.1) x)))))
-  have-back none κs x w = qed 𝓛 (‵ ftrue ∷ []) ∵ check ! tt $ done !
-  have-back (slice X) κs x w = qed 𝓛 (‵ (lasts_of κs (buffer (slice X)) (all yes (buffer (slice X))) x w) ∷ []) ∵ fsplit ! $ fsplit ! $ move ! (1 ∷ []) $
+  have_back none κs x w = qed 𝓛 (‵ ftrue ∷ []) ∵ check ! tt $ done !
+  have_back (slice X) κs x w = qed 𝓛 (‵ (lasts_of κs (buffer (slice X)) (all yes (buffer (slice X))) x w) ∷ []) ∵ fsplit ! $ fsplit ! $ move ! (1 ∷ []) $
       feq_l ! (λ l. check ! (l, tt) $ fjoin ! $ done !)
 
 -- ---- the MIR
@@ -252,22 +252,22 @@ Stand 𝓤 H E n (slice X) k m p i j = (spot_of 𝓤 H E (past k 0) ≡ spot_of 
 
 -- ---- one entry of the context for the buffer's local, and one for the two of the borrow
 module _ {M : Type 1} (𝓤 : Ura M) where
-  abbrev pub buffer-room : ℕ → Beside → ℕ → Item 𝓤
-  buffer-room n none p = ‵ ftrue
-  buffer-room n (slice X) p = ‵ (froom (buffer_ty n X) p zero) ⊛ ‵ (fdies (buffer_ty n X) p)
+  abbrev pub buffer_room : ℕ → Beside → ℕ → Item 𝓤
+  buffer_room n none p = ‵ ftrue
+  buffer_room n (slice X) p = ‵ (froom (buffer_ty n X) p zero) ⊛ ‵ (fdies (buffer_ty n X) p)
 
-  abbrev pub buffer-cell : ℕ → (b : Beside) → Loan b → ℕ → Item 𝓤
-  buffer-cell n none y p = ‵ ftrue
-  buffer-cell n (slice X) y p = ‵ (fat full_share (buffer_ty n X) p zero (slice_val y.ref_ptr (length y.now))) ⊛ ‵ (fdies (buffer_ty n X) p)
+  abbrev pub buffer_cell : ℕ → (b : Beside) → Loan b → ℕ → Item 𝓤
+  buffer_cell n none y p = ‵ ftrue
+  buffer_cell n (slice X) y p = ‵ (fat full_share (buffer_ty n X) p zero (slice_val y.ref_ptr (length y.now))) ⊛ ‵ (fdies (buffer_ty n X) p)
 
-  abbrev pub borrow-rooms : Beside → ℕ → ℕ → Item 𝓤
-  borrow-rooms none i j = ‵ ftrue
-  borrow-rooms (slice X) i j =
+  abbrev pub borrow_rooms : Beside → ℕ → ℕ → Item 𝓤
+  borrow_rooms none i j = ‵ ftrue
+  borrow_rooms (slice X) i j =
       ‵ (froom (slice_ty (pointer_ty X)) j zero) ⊛ ‵ (fdies (slice_ty (pointer_ty X)) j) ⊛ ‵ (froom (pointer_ty X) i zero) ⊛ ‵ (fdies (pointer_ty X) i)
 
-  abbrev pub borrow-cells : (b : Beside) → Loan b → ℕ → ℕ → Item 𝓤
-  borrow-cells none y i j = ‵ ftrue
-  borrow-cells (slice X) y i j =
+  abbrev pub borrow_cells : (b : Beside) → Loan b → ℕ → ℕ → Item 𝓤
+  borrow_cells none y i j = ‵ ftrue
+  borrow_cells (slice X) y i j =
       ‵ (fat full_share (slice_ty (pointer_ty X)) j zero (slice_val y.ref_ptr (length y.now))) ⊛ ‵ (fdies (slice_ty (pointer_ty X)) j) ⊛ ‵
       (fat full_share (pointer_ty X) i zero (vptr y.ref_ptr.0 y.ref_ptr.1)) ⊛ ‵ (fdies (pointer_ty X) i)
 
@@ -275,41 +275,41 @@ module _ {M : Type 1} {𝓤 : Ura M} {𝓛 : Logic 𝓤} {K : Type 0} {Γ : List
   -- a local after the buffer
   open 𝓛 use {H}
 
-  pub from-rest : K → (m : ℕ) (n : ℕ) (b : Beside) (k : ℕ) (bs : Nums k) (p : ℕ) (E : Env 𝓤 H) {e e' : Ty × ℕ} {st : List PStep} {sp : Spot 𝓤 H}
+  pub from_rest : K → (m : ℕ) (n : ℕ) (b : Beside) (k : ℕ) (bs : Nums k) (p : ℕ) (E : Env 𝓤 H) {e e' : Ty × ℕ} {st : List PStep} {sp : Spot 𝓤 H}
       → Walks K 𝓛 Γ (e ∷ e' ∷ env k bs (buffer_env n b p E)) (spot_of 𝓤 H E m) st sp
       → Finds K 𝓛 Γ (e ∷ e' ∷ env k bs (buffer_env n b p E)) (place (after k (beyond b m)) st) sp
-  from-rest t m n none k bs p E = from_at t (past_is 𝓤 H k bs E m)
-  from-rest t m n (slice X) k bs p E = from_at t (past_is 𝓤 H k bs (buffer_env n (slice X) p E) (suc m))
+  from_rest t m n none k bs p E = from_at t (past_is 𝓤 H k bs E m)
+  from_rest t m n (slice X) k bs p E = from_at t (past_is 𝓤 H k bs (buffer_env n (slice X) p E) (suc m))
 
-  pub alloc-buffer : K → (n : ℕ) (b : Beside) {ls : List Local} {Kt : Env 𝓤 H → Goal 𝓤 H} →
-      ((p : ℕ) → Seq K 𝓛 (buffer-room 𝓤 n b p ∷ Γ) (allocs ls (λ E. Kt (buffer_env n b p E))))
+  pub alloc_buffer : K → (n : ℕ) (b : Beside) {ls : List Local} {Kt : Env 𝓤 H → Goal 𝓤 H} →
+      ((p : ℕ) → Seq K 𝓛 (buffer_room 𝓤 n b p ∷ Γ) (allocs ls (λ E. Kt (buffer_env n b p E))))
       → Seq K 𝓛 Γ (allocs (buffer_local n b ls) Kt)
-  alloc-buffer t n none h = nothing t $ h 0
-  alloc-buffer t n (slice X) h = alloc1 t (λ p. join t $ h p)
+  alloc_buffer t n none h = nothing t $ h 0
+  alloc_buffer t n (slice X) h = alloc1 t (λ p. join t $ h p)
 
-  pub alloc-borrow : K → (b : Beside) {ls : List Local} {Kt : Env 𝓤 H → Goal 𝓤 H}
-      → ((i j : ℕ) → Seq K 𝓛 (borrow-rooms 𝓤 b i j ∷ Γ) (allocs ls (λ E. Kt (borrow_env b i j E)))) → Seq K 𝓛 Γ (allocs (borrow_locals b ls) Kt)
-  alloc-borrow t none h = nothing t $ h 0 0
-  alloc-borrow t (slice X) h = alloc1 t (λ i. alloc1 t (λ j. group t 4 $ h i j))
+  pub alloc_borrow : K → (b : Beside) {ls : List Local} {Kt : Env 𝓤 H → Goal 𝓤 H}
+      → ((i j : ℕ) → Seq K 𝓛 (borrow_rooms 𝓤 b i j ∷ Γ) (allocs ls (λ E. Kt (borrow_env b i j E)))) → Seq K 𝓛 Γ (allocs (borrow_locals b ls) Kt)
+  alloc_borrow t none h = nothing t $ h 0 0
+  alloc_borrow t (slice X) h = alloc1 t (λ i. alloc1 t (λ j. group t 4 $ h i j))
 
-  pub pass-buffer : K → (b : Beside) (κs : Lfts (suc (lives b))) (x : Denots (types_at (buffer b) κs)) → Fine b (held b κs x) → (p : ℕ) (E : Env 𝓤 H)
+  pub pass_buffer : K → (b : Beside) (κs : Lfts (suc (lives b))) (x : Denots (types_at (buffer b) κs)) → Fine b (held b κs x) → (p : ℕ) (E : Env 𝓤 H)
       {g : Goal 𝓤 H}
-      → Step K 𝓛 (buffer-cell 𝓤 1 b (held b κs x) p ∷ Γ) g (buffer-room 𝓤 1 b p ∷ Γ) (passes (buffer_env 1 b p E)
+      → Step K 𝓛 (buffer_cell 𝓤 1 b (held b κs x) p ∷ Γ) g (buffer_room 𝓤 1 b p ∷ Γ) (passes (buffer_env 1 b p E)
       (flat (types_at (buffer b) κs) (valss (types_at (buffer b) κs) (spell b κs) x)) g)
-  pass-buffer t none κs x fine p E = pass0 t
-  pass-buffer t (slice X) κs x fine p E = step (λ s. split t $ pass1 t (init t 0 refl (tt, (tt, (record { fits = fine.0 }, tt)))) $ pass0 t $ join t $ s)
+  pass_buffer t none κs x fine p E = pass0 t
+  pass_buffer t (slice X) κs x fine p E = step (λ s. split t $ pass1 t (init t 0 refl (tt, (tt, (record { fits = fine.0 }, tt)))) $ pass0 t $ join t $ s)
 
-  pub pass-buffer' : K → (b : Beside) (κs : Lfts (lives b)) (x : Denots (types_at (buffer' b) κs)) → Fine b (held' b κs x) → (p : ℕ) (E : Env 𝓤 H)
+  pub pass_buffer' : K → (b : Beside) (κs : Lfts (lives b)) (x : Denots (types_at (buffer' b) κs)) → Fine b (held' b κs x) → (p : ℕ) (E : Env 𝓤 H)
       {g : Goal 𝓤 H}
-      → Step K 𝓛 (buffer-cell 𝓤 0 b (held' b κs x) p ∷ Γ) g (buffer-room 𝓤 0 b p ∷ Γ) (passes (buffer_env 0 b p E)
+      → Step K 𝓛 (buffer_cell 𝓤 0 b (held' b κs x) p ∷ Γ) g (buffer_room 𝓤 0 b p ∷ Γ) (passes (buffer_env 0 b p E)
       (flat (types_at (buffer' b) κs) (valss (types_at (buffer' b) κs) (spell' b κs) x)) g)
-  pass-buffer' t none κs x fine p E = pass0 t
-  pass-buffer' t (slice X) κs x fine p E = step (λ s. split t $ pass1 t (init t 0 refl (tt, (tt, (record { fits = fine.0 }, tt)))) $ pass0 t $ join t $ s)
+  pass_buffer' t none κs x fine p E = pass0 t
+  pass_buffer' t (slice X) κs x fine p E = step (λ s. split t $ pass1 t (init t 0 refl (tt, (tt, (record { fits = fine.0 }, tt)))) $ pass0 t $ join t $ s)
 
   pub prepares : K → (n : ℕ) (b : Beside) (y : Loan b) → Fine b y → (k m p i j : ℕ) {e e' : Ty × ℕ} {E : Env 𝓤 H} → Stand 𝓤 H E n b k m p i j
       → {C : Calls 𝓤 H} {Λ : Loops 𝓤 H} {body : Body} {q : Post 𝓤 H}
-      → Step K 𝓛 (borrow-cells 𝓤 b y i j ∷ buffer-cell 𝓤 n b y p ∷ Γ) (runs C Λ (e ∷ e' ∷ E) body q)
-      (borrow-rooms 𝓤 b i j ∷ buffer-cell 𝓤 n b y p ∷ Γ) (runs C Λ (e ∷ e' ∷ E) (prepare b k m body) q)
+      → Step K 𝓛 (borrow_cells 𝓤 b y i j ∷ buffer_cell 𝓤 n b y p ∷ Γ) (runs C Λ (e ∷ e' ∷ E) body q)
+      (borrow_rooms 𝓤 b i j ∷ buffer_cell 𝓤 n b y p ∷ Γ) (runs C Λ (e ∷ e' ∷ E) (prepare b k m body) q)
   prepares t n none y fine k m p i j at = step (λ s. s)
   prepares t n (slice X) y fine k m p i j at = step (λ s.
       -- [the slice; …; the pointer; …; the buffer; …]
@@ -324,25 +324,25 @@ module _ {M : Type 1} {𝓤 : Ura M} {𝓛 : Logic 𝓤} {K : Type 0} {Γ : List
       move t (1 ∷ 2 ∷ 3 ∷ 4 ∷ []) $ group t 4 $ s)
 
   -- entry l of the context is that of the borrow
-  pub read-borrow : K → (l n : ℕ) (b : Beside) (κs : Lfts (suc (lives b))) (x : Denots (types_at (buffer b) κs)) (k m p i j : ℕ) {e e' : Ty × ℕ}
-      {E : Env 𝓤 H} → Stand 𝓤 H E n b k m p i j → nth 𝓛 l Γ ≡ borrow-cells 𝓤 b (held b κs x) i j
+  pub read_borrow : K → (l n : ℕ) (b : Beside) (κs : Lfts (suc (lives b))) (x : Denots (types_at (buffer b) κs)) (k m p i j : ℕ) {e e' : Ty × ℕ}
+      {E : Env 𝓤 H} → Stand 𝓤 H E n b k m p i j → nth 𝓛 l Γ ≡ borrow_cells 𝓤 b (held b κs x) i j
       → Opds K 𝓛 Γ (e ∷ e' ∷ E) (passed b k m) (flat (types_at (buffer' b) κs.1) (valss (types_at (buffer' b) κs.1) (spell' b κs.1) (on b κs x)))
-  read-borrow t l n none κs x k m p i j at is = no_more t
-  read-borrow t l n (slice X) κs x k m p i j at is = and_then t (load t (from_at t at.2 (stop t)) (look_first t l is)) (no_more t)
+  read_borrow t l n none κs x k m p i j at is = no_more t
+  read_borrow t l n (slice X) κs x k m p i j at is = and_then t (load t (from_at t at.2 (stop t)) (look_first t l is)) (no_more t)
 
-  pub read-borrow' : K → (l n : ℕ) (b : Beside) (κs : Lfts (suc (lives b))) (x : Denots (types_at (buffer' b) κs.1)) (k m p i j : ℕ) {e e' : Ty × ℕ}
-      {E : Env 𝓤 H} → Stand 𝓤 H E n b k m p i j → nth 𝓛 l Γ ≡ borrow-cells 𝓤 b (held' b κs.1 x) i j
+  pub read_borrow' : K → (l n : ℕ) (b : Beside) (κs : Lfts (suc (lives b))) (x : Denots (types_at (buffer' b) κs.1)) (k m p i j : ℕ) {e e' : Ty × ℕ}
+      {E : Env 𝓤 H} → Stand 𝓤 H E n b k m p i j → nth 𝓛 l Γ ≡ borrow_cells 𝓤 b (held' b κs.1 x) i j
       → Opds K 𝓛 Γ (e ∷ e' ∷ E) (passed b k m) (flat (types_at (buffer b) κs) (valss (types_at (buffer b) κs) (spell b κs) (off b κs x)))
-  read-borrow' t l n none κs x k m p i j at is = no_more t
-  read-borrow' t l n (slice X) κs x k m p i j at is = and_then t (load t (from_at t at.2 (stop t)) (look_first t l is)) (no_more t)
+  read_borrow' t l n none κs x k m p i j at is = no_more t
+  read_borrow' t l n (slice X) κs x k m p i j at is = and_then t (load t (from_at t at.2 (stop t)) (look_first t l is)) (no_more t)
 
-  pub free-buffer : K → (n : ℕ) (b : Beside) (y : Loan b) (p : ℕ) {E : Env 𝓤 H} {g : Goal 𝓤 H}
-      → Step K 𝓛 Γ (frees E g) (buffer-cell 𝓤 n b y p ∷ Γ) (frees (buffer_env n b p E) g)
-  free-buffer t n none y p = drop t
-  free-buffer t n (slice X) y p = step (λ s. split t $ forget t 0 refl $ free1 t $ s)
+  pub free_buffer : K → (n : ℕ) (b : Beside) (y : Loan b) (p : ℕ) {E : Env 𝓤 H} {g : Goal 𝓤 H}
+      → Step K 𝓛 Γ (frees E g) (buffer_cell 𝓤 n b y p ∷ Γ) (frees (buffer_env n b p E) g)
+  free_buffer t n none y p = drop t
+  free_buffer t n (slice X) y p = step (λ s. split t $ forget t 0 refl $ free1 t $ s)
 
-  pub free-borrow : K → (b : Beside) (y : Loan b) (i j : ℕ) {E : Env 𝓤 H} {g : Goal 𝓤 H}
-      → Step K 𝓛 Γ (frees E g) (borrow-cells 𝓤 b y i j ∷ Γ) (frees (borrow_env b i j E) g)
-  free-borrow t none y i j = drop t
-  free-borrow t (slice X) y i j = step (λ s. split t $ move t (1 ∷ []) $ split t $ move t (1 ∷ []) $ split t $ forget t 0 refl $ free1 t $
+  pub free_borrow : K → (b : Beside) (y : Loan b) (i j : ℕ) {E : Env 𝓤 H} {g : Goal 𝓤 H}
+      → Step K 𝓛 Γ (frees E g) (borrow_cells 𝓤 b y i j ∷ Γ) (frees (borrow_env b i j E) g)
+  free_borrow t none y i j = drop t
+  free_borrow t (slice X) y i j = step (λ s. split t $ move t (1 ∷ []) $ split t $ move t (1 ∷ []) $ split t $ forget t 0 refl $ free1 t $
       move t (1 ∷ 0 ∷ []) $ forget t 0 refl $ free1 t $ s)

@@ -5,7 +5,7 @@ use mathlib.Core.Logic.{by_cases}
 use Rattle.basics.specs.Tests.{within, every, count}
 use Rattle.basics.proofs.Facts.{and_both, both, last, left_no, within_true, within_of, every_all, every_at, every_same, get_d_tabulate, get_d_any}
 use Rattle.basics.proofs.Loops.{same_test, every_and}
-use Rattle.label.specs.Rows.{digit, row_fits, no_ring}
+use Rattle.label.specs.Rows.{digit, row_fits_lem, no_ring}
 use Rattle.well_formed.specs.Loops.{tops, fits_at, half_fits, both_fit, control_at, none_from}
 use Rattle.arrays.specs.Arrays.{Arrays, Planes, Rows, cell, shown_in, label_row}
 use Rattle.arrays.specs.WellFormed.{entry_fits, result_fits, result_fresh, control_fits, control_fresh, station_fits, place_fresh, well_formed}
@@ -34,8 +34,8 @@ parts f a b k l h = same_test _ _
     (λ v. every_at a f t.0 p v)
     (λ v. let q : p ≡ b + (p - b) = omega arith in ap f q ∙ every_at (k - b) _ t.1 (p - b) (omega arith))))
 
-row_fits_lem : (m : ℕ) (l : List ℕ) → m ≤ 31 → length l ≡ 31 → every 31 (fits_at m l) ≡ row_fits 31 m l
-unfolding row_fits
+row_fits_lem : (m : ℕ) (l : List ℕ) → m ≤ 31 → length l ≡ 31 → every 31 (fits_at m l) ≡ row_fits_lem 31 m l
+unfolding row_fits_lem
 row_fits_lem m l h long = parts (fits_at m l) m m 31 (omega arith) h
     ∙ ap₂ ◌&&◌ (every_same m _ _ (λ p u. rw (lt-ltb p m u, get_d_any l p 0 1 (omega arith)) refl)) (every_same (31 - m) _ _ (λ p u. past p (omega arith)))
   where
@@ -47,7 +47,7 @@ row_fits_lem m l h long = parts (fits_at m l) m m 31 (omega arith) h
     past p u = rw (le-ltb (m + p) m (omega arith), get_d_any l (m + p) 0 1 (omega arith)) (one (digit l (m + p)))
 
 -- two labels fit if both halves do
-both_fit_lem : (m : ℕ) (x y : List ℕ) → m ≤ 31 → length x ≡ 31 → length y ≡ 31 → (half_fits m x y 0 && half_fits m x y 15) ≡ (row_fits 31 m x && row_fits 31 m y)
+both_fit_lem : (m : ℕ) (x y : List ℕ) → m ≤ 31 → length x ≡ 31 → length y ≡ 31 → (half_fits m x y 0 && half_fits m x y 15) ≡ (row_fits_lem 31 m x && row_fits_lem 31 m y)
 both_fit_lem m x y h e f = ap (λ b. b && half_fits m x y 15) (every_same 16 _ fit (λ p _. ap fit (zero-add p)))
     ∙ sym (parts fit 16 15 31 (omega arith) (omega arith)) ∙ every_and 31 _ _ ∙ ap₂ ◌&&◌ (row_fits_lem m x h e) (row_fits_lem m y h f)
   where
@@ -69,15 +69,15 @@ module _ (n : ℕ) (rows : Rows) (k : ℕ) (shown : k ≡ shown_in n (get_or row
   abbrev entry_at : ℕ → Bool
   entry_at p = entry_fits n (cell rows 0 p 0) (cell rows 1 p 0)
 
-  pub shown-most : k ≤ n
-  shown-most = omega (arith, shown, (last n (λ p. not (eqb (cell rows 0 p 0) 0))).upto)
+  pub shown_most : k ≤ n
+  shown_most = omega (arith, shown, (last n (λ p. not (eqb (cell rows 0 p 0) 0))).upto)
 
-  pub result-wrong : every k entry_at ≡ false → false ≡ result_fits n rows
+  pub result_wrong : every k entry_at ≡ false → false ≡ result_fits n rows
   unfolding result_fits
-  result-wrong e = sym (left_no _ (left_no _ (left_no _ (ap (λ j. every j entry_at) (sym shown) ∙ e))))
+  result_wrong e = sym (left_no _ (left_no _ (left_no _ (ap (λ j. every j entry_at) (sym shown) ∙ e))))
 
-  pub station-small : every k entry_at ≡ true → n ≤ 32 → (p : ℕ) → p < k → cell rows 0 p 0 ≤ 32
-  station-small e h p l =
+  pub station_small : every k entry_at ≡ true → n ≤ 32 → (p : ℕ) → p < k → cell rows 0 p 0 ≤ 32
+  station_small e h p l =
       let w = (and_both (within 1 n (cell rows 0 p 0)) (not (eqb (cell rows 1 p 0) 0)) (every_at k entry_at e p l)).0 in
       omega (arith, (within_true 1 n (cell rows 0 p 0) w).1)
 
@@ -97,12 +97,12 @@ control_parts : (n : ℕ) (control : Rows) → n ≤ 32 → every 32 (control_at
     ≡ (every n (λ i. control_fits (cell control 0 i 0) (cell control 1 i 0))
     && every (32 - n) (λ i. control_fresh (cell control 0 (n + i) 0) (cell control 1 (n + i) 0)))
 control_parts n control h = parts (control_at n control) n n 32 (omega arith) h ∙ ap₂ ◌&&◌
-    (every_same n _ _ (λ i l. rw (lt-ltb i n l) (and-true (control_fits (cell control 0 i 0) (cell control 1 i 0)))))
+    (every_same n _ _ (λ i l. rw (lt-ltb i n l) (and_true (control_fits (cell control 0 i 0) (cell control 1 i 0)))))
     (every_same (32 - n) _ _ (λ i l. rw (le-ltb (n + i) n (omega arith)) (zeros (cell control 0 (n + i) 0) (cell control 1 (n + i) 0))))
   where
-    and-true : (b : Bool) → (b && true) ≡ b
-    and-true true = refl
-    and-true false = refl
+    and_true : (b : Bool) → (b && true) ≡ b
+    and_true true = refl
+    and_true false = refl
 
     zeros : (x y : ℕ) → (control_fits x y && control_fresh x y) ≡ control_fresh x y
     zeros x y = same_test _ _
@@ -121,16 +121,16 @@ module _ (a : Arrays) where
   abbrev fresh : ℕ → Bool
   fresh i = control_fresh (cell a.control 0 i 0) (cell a.control 1 i 0)
 
-  pub wrong-count : within 2 32 n ≡ false → false ≡ well_formed a
+  pub wrong_count : within 2 32 n ≡ false → false ≡ well_formed a
   unfolding well_formed
-  wrong-count e = sym (left_no _ (left_no _ (left_no _ e)))
+  wrong_count e = sym (left_no _ (left_no _ (left_no _ e)))
 
   -- the stations pass, the places past them do, the control bytes of both do, and what is left is the test for rings
-  pub all-tests : (s p : Bool) {c r : Bool} → 2 ≤ n → n ≤ 32 → (s && every n fits) ≡ every n (station_fits a)
+  pub all_tests : (s p : Bool) {c r : Bool} → 2 ≤ n → n ≤ 32 → (s && every n fits) ≡ every n (station_fits a)
       → (p && every (32 - n) (λ i. fresh (n + i))) ≡ every (32 - n) (λ i. place_fresh a (n + i)) → c ≡ every 32 (control_at n a.control)
       → r ≡ no_ring (n - 1) (λ i. digit (label_row a false i)) → (s && p && c && r) ≡ well_formed a
   unfolding well_formed
-  all-tests s p {c} {r} low high e f g h = ap (λ x. s && p && x && r) (g ∙ control_parts n a.control high)
+  all_tests s p {c} {r} low high e f g h = ap (λ x. s && p && x && r) (g ∙ control_parts n a.control high)
       ∙ swapped s p (every n fits) (every (32 - n) (λ i. fresh (n + i))) r ∙ rw (e, f, h, within_of 2 32 n low high) refl
     where
       swapped : (s p x y r : Bool) → (s && p && (x && y) && r) ≡ ((s && x) && (p && y) && r)
