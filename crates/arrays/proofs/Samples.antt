@@ -16,10 +16,9 @@ use Rattle.simulation.specs.Calls.{original, sized, Call, unless, judge_in, repo
 use Rattle.simulation.specs.Machine.{digits, fresh_label, pending_after, relabelled, scan_of, carry_out, State, fresh, step, snaps_of, run, snaps, number_before}
 use Rattle.simulation.specs.Numbered.{met, label_snaps, Fit, newest_snap, newest_snaps}
 use Rattle.simulation.specs.Numbering.{bump, highest, slot_of, renumber, renumbered, numbers_of}
-use Rattle.transition.specs.Forms.{Form, TableAnswer, fresh_table, answered, step_of}
-use Rattle.transition.specs.Lent.{after}
+use Rattle.transition.specs.Forms.{Form, TableAnswer, fresh_table, answered, step_of, after}
 use Rattle.transition.specs.Questions.{top_holders, Tells}
-use Rattle.transition.specs.Logs.{fits_snap, at_front, right}
+use Rattle.transition.specs.Logs.{fits_next, at_front, right}
 use Rattle.transition.specs.Samples.{Sample, digits_below, labels_below, reaches, scan_shows, top_held, numbers_do, numbers_found, log_right, log_wrong, answers, replies}
 use Rattle.transition.specs.Samples.{call_with, call, takes_job, labelled, shown, order, shown_by, SampleHolds, one, two, three, nine, together, stalled, absent}
 use Rattle.transition.specs.Samples.{overtaken, scan_bytes, scan_ended, codes, codes_with, ascii, two_of_three, samples, habit_samples, service_samples, top_samples}
@@ -125,10 +124,10 @@ numbered : All Computed number_samples
 unfolding renumbered renumber highest slot_of bump snaps_of unless judge_in pending_after relabelled scan_of carry_out step below next agrees first_difference
     label_below label_before next_label others level new_label every count first_from newest inserted ordered passing tabulate call call_with labelled one two three
     together overtaken
-numbered = refl and refl and refl and (refl, (numbering original_proper refl 3 (omega arith) _).0) and (refl, apart) and tt
+numbered = refl and refl and refl and (refl, (numbering original_proper 3 (omega arith) _).0) and (refl, apart) and tt
 
 logs : All Computed log_samples
-unfolding right fits_snap at_front number_before snaps_of unless judge_in pending_after relabelled scan_of carry_out step every first_from newest inserted ordered
+unfolding right fits_next at_front number_before snaps_of unless judge_in pending_after relabelled scan_of carry_out step every first_from newest inserted ordered
     passing report_lines report_line line_head line_tail scan_bytes call call_with labelled one two three overtaken scan_ended
 logs = refl and refl and refl and refl and refl and refl and refl and refl and refl and refl and refl and refl and tt
 

@@ -16,13 +16,12 @@ use Rattle.basics.proofs.Facts.{tf, both, within_of, every_all, every_at, last, 
 use Rattle.label.specs.Labels as Labels
 use Rattle.label.specs.Rows.{digit, row, row_fits, no_ring}
 use Rattle.label.proofs.RowLaws.{digit_row, row_digit, label_fits, fits_behind}
-use Rattle.simulation.specs.Calls.{original, Call, Phase, Idle, Snap, Update, End, Label, Scan, Process, Rest}
-use Rattle.simulation.specs.Boards.{has_phase}
+use Rattle.simulation.specs.Calls.{original, has_phase, Call, Phase, Idle, Snap, Update, End, Label, Scan, Process, Rest}
 use Rattle.simulation.specs.Machine.{digits, fresh_rest, State, step}
 use Rattle.simulation.proofs.Simulation.{original_proper}
 use Rattle.transition.specs.Forms.{TableAnswer, step_of}
 use Rattle.transition.proofs.Written.{original_sized, WritableRest, Writable, writable_step}
-use Rattle.simulation.proofs.Records.{Idles}
+use Rattle.transition.proofs.Reached.{Idles}
 use Rattle.transition.proofs.Fits.{Fitting, reached_fitting}
 use Rattle.transition.proofs.Theorem.{Lawful, step_written}
 use Rattle.arrays.specs.Arrays.{Rows, Arrays, arrays, cell, plane, planes, phase_number, phase_for, out_number, out_for, result_rows, shown_in, result_of}

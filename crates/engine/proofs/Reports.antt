@@ -17,7 +17,7 @@ use Rattle.columns.proofs.ColumnLaws.{length_report_line}
 use Rattle.columns.proofs.Stores.{length_head}
 use Rattle.simulation.specs.Calls.{Entry, entry, PanelRecord, report_lines, panel_records}
 use Rattle.simulation.proofs.Reports.{lines_length, records_tabulate}
-use Rattle.transition.specs.Lent.{over}
+use Rattle.transition.specs.Forms.{over}
 use Rattle.arrays.specs.Arrays.{Rows, cell, entries_in}
 use Rattle.engine.specs.Clauses.{row_of, record_of}
 

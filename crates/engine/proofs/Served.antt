@@ -15,14 +15,11 @@ use Rattle.label.specs.Labels.{holders}
 use Rattle.rows.specs.Held.{held, stands_in, Orderly}
 use Rattle.rows.proofs.OrderLaws.{listed_below, order_front}
 use Rattle.simulation.specs.Calls as Calls
-use Rattle.simulation.specs.Calls.{Room, Call, place, standing, Entry, holds, judge_in, judge, PanelRecord, report_lines, panel_records, Report, written, original}
-use Rattle.simulation.specs.Reports.{size}
-use Rattle.simulation.specs.Machine.{digits, label_step, relabelled, answer, step}
-use Rattle.simulation.proofs.Judged.{single_alone, Verdict, turned, begins, labels, begins_scan, scans, updates, snaps, snaps_scan, ends, service}
-use Rattle.simulation.proofs.Judged.{judge_unknown_station, scan_ends, verdict}
+use Rattle.simulation.specs.Calls.{Room, Call, place, standing, Entry, holds, judge_in, judge, PanelRecord, report_lines, panel_records, Report, size, written, original}
+use Rattle.simulation.specs.Machine.{digits, labels_after, answer, step}
+use Rattle.simulation.proofs.Judged.{single_alone, Verdict, turned, begins, begins_scan, scans, updates, snaps, ends, service, judge_unknown_station, scan_ends, verdict}
 use Rattle.simulation.proofs.Reports.{records_length}
-use Rattle.transition.specs.Forms.{Form, TableAnswer, answered, step_of}
-use Rattle.transition.specs.Lent.{over, onto}
+use Rattle.transition.specs.Forms.{Form, TableAnswer, over, onto, answered, step_of}
 use Rattle.transition.specs.Questions.{top_holders, Tells}
 use Rattle.transition.specs.Sequences.{Steps}
 use Rattle.transition.proofs.Theorem.{step_written, step_ill_formed}
@@ -58,8 +55,7 @@ due_same n k out b c h = ap (λ x. judge_in original n (standing_for (phase_for 
   where
     go : (ph : Calls.Phase) → judge_in original n (standing_for ph out (due (phase_number ph) k)) c ≡ judge_in original n (standing_for ph out k) c
     go Calls.Idle = refl
-    go (Calls.Snap Calls.Label) = refl
-    go (Calls.Snap Calls.Scan) = refl
+    go (Calls.Snap o) = refl
     go Calls.Update = refl
     go (Calls.End Calls.Label) = refl
     go (Calls.End Calls.Scan) = refl
@@ -75,7 +71,6 @@ due_few b n stations h = go (eqb b 4)
 abbrev Roomy : ℕ → Room → Calls.Move → Type 0
 Roomy k room (Calls.Move.refused x) = Unit {0}
 Roomy k room (Calls.Move.begins i job o) = Unit {0}
-Roomy k room (Calls.Move.labels i job) = Unit {0}
 Roomy k room (Calls.Move.updates i) = Unit {0}
 Roomy k room (Calls.Move.snaps i o) = Unit {0}
 Roomy k room (Calls.Move.ends i Calls.Label) = Unit {0}
@@ -83,14 +78,12 @@ Roomy k room (Calls.Move.ends i Calls.Scan) = holds room k ≡ true
 Roomy k room (Calls.Move.sets_out i b) = Unit {0}
 
 roomy : {n : ℕ} {t : Calls.Standing} {c : Call} {w : Calls.Move} → Verdict original n t c w → Roomy t.shown c.room w
-roomy (turned x z f) = tt
-roomy (begins own f e) = tt
-roomy (labels own f q e) = tt
+roomy (turned x f) = tt
+roomy (begins own f) = tt
 roomy (begins_scan own f e) = tt
 roomy (scans own f e) = tt
 roomy (updates own q) = tt
-roomy (snaps own q t e) = tt
-roomy (snaps_scan own q) = tt
+roomy (snaps own o q t) = tt
 roomy (ends own Calls.Label q f) = tt
 roomy (ends own Calls.Scan q f) = f
 roomy (service own b q) = tt
@@ -222,8 +215,8 @@ module _ (a : Arrays) (ok : well_formed a ≡ true) (q : Request) (room : Room) 
   unfolding step
   served {a'} {r} f =
       let p = f.0 in
-      let s : answered lent a.count (answer c (relabelled n (digits original n) (state_of a).labels (label_step (action_of x))) (outcome_of a (action_of x))) ≡ step_of lent a c
-      = (λ y. answered lent n (answer c (relabelled n (digits original n) (state_of a).labels (label_step (judged y))) (outcome_of a (judged y)))) ∙ sym (step_written lent a c ok) in
+      let s : answered lent a.count (answer c (labels_after n (digits original n) (state_of a) (action_of x)) (outcome_of a (action_of x))) ≡ step_of lent a c
+      = (λ y. answered lent n (answer c (labels_after n (digits original n) (state_of a) (judged y)) (outcome_of a (judged y)))) ∙ sym (step_written lent a c ok) in
       record {
         table = p.table ∙ ap (λ (u : TableAnswer Arrays). u.table) s;
         number = p.number ∙ ap (λ (u : TableAnswer Arrays). u.refusal) s;

@@ -1,16 +1,16 @@
 -- What the contracts of the engine say.
 use Rattle.std.specs.Prelude.{ℕ, ◌≤◌, ◌<◌, ◌≡◌, true, cond, [], ◌∷◌, length, get_or, take, eqb}
 use mathlib.Core.List as Lists
-use Rattle.basics.specs.Tests.{newest, ordered}
+use Rattle.basics.specs.Tests.{newest}
 use Rattle.label.specs.Labels as Labels
 use Rattle.rows.specs.Held.{stands_in, Orderly}
 use Rattle.simulation.specs.Calls as Calls
 use Rattle.simulation.specs.Calls.{Room, Call, holds, judge_in, PanelRecord, written, original}
 use Rattle.simulation.specs.Machine as Machine
-use Rattle.simulation.specs.Machine.{digits, stands, State, label_step, relabelled, carry_out}
+use Rattle.simulation.specs.Machine.{digits, State, labels_after, outcome, carry_out}
 use Rattle.transition.specs.Forms.{step_of}
 use Rattle.moves.specs.Moves.{refusal_number, move_of, call_of, place_of, standing_for}
-use Rattle.arrays.specs.Arrays.{Rows, Planes, Arrays, cell, phase_for, out_for, entries_in, shown_in, rest_in, rest_of, labels_in, state_of, labels_of, arrays_of, Holds}
+use Rattle.arrays.specs.Arrays.{Rows, Planes, Arrays, cell, phase_for, out_for, entries_in, shown_in, rest_in, labels_in, state_of, labels_of, arrays_of, Holds}
 use Rattle.arrays.specs.WellFormed.{well_formed}
 use Rattle.arrays.specs.Form.{lent}
 use Rattle.engine.specs.Scans.{order_of}
@@ -76,11 +76,10 @@ due number k = cond (eqb number 4) k 0
 
 -- what the machine makes of the state that the arrays hold: the state after a move, and the outcome for what is not labels
 abbrev pub outcome_of : Arrays → Calls.Move → Machine.Outcome
-outcome_of a w = carry_out original (ordered a.count (stands (digits original a.count) (state_of a).labels)) (rest_of a) w
+outcome_of a w = outcome original a.count (digits original a.count) (state_of a) w
 
 abbrev pub state_after : Arrays → Calls.Move → State Labels.Label
-state_after a w =
-    record { labels = relabelled a.count (digits original a.count) (state_of a).labels (label_step w); rest = (outcome_of a w).rest }
+state_after a w = record { labels = labels_after a.count (digits original a.count) (state_of a) w; rest = (outcome_of a w).rest }
 
 -- the move w of the process at place k, carried out on the arrays a: the arrays left, the refusal, and the entries of the result there, all of it
 pub record Performs (a : Arrays) (k : ℕ) (w : Calls.Move) (a' : Arrays) (r : Handed) : Type 0 where

@@ -4,7 +4,7 @@ ghost use Rattle.basics.specs.Tests.{newest};
 ghost use Rattle.rows.specs.Held.{stands_in, Orderly};
 ghost use Rattle.simulation.specs.Calls.{Buffer, Panel, report_lines, panel_records, Bytes, Records, original};
 ghost use Rattle.simulation.specs.Machine.{digits, label_step, relabelled};
-ghost use Rattle.transition.specs.Lent.{over};
+ghost use Rattle.transition.specs.Forms.{over};
 ghost use Rattle.transition.specs.Questions.{Tells};
 ghost use Rattle.transition.specs.Sequences.{Steps};
 ghost use Rattle.moves.specs.Moves.{room_of, refusal_number, move_of, call_of};

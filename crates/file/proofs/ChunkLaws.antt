@@ -11,8 +11,7 @@ use lib.ListN.{length, take, drop, length-append, length-take, length-drop}
 use lib.Seq.{length-take-le}
 use borrow.Rule.Slice.PartMut.{mid_of, put_mid}
 use Rattle.simulation.specs.Calls.{Buffer, Call}
-use Rattle.transition.specs.Forms.{step_of}
-use Rattle.transition.specs.Lent.{over}
+use Rattle.transition.specs.Forms.{over, step_of}
 use Rattle.moves.specs.Moves.{refusal_number, call_of}
 use Rattle.moves.specs.declared.Request.{Request}
 use Rattle.moves.specs.declared.Refusal.{Refusal}

@@ -12,8 +12,7 @@ use lib.Seq.{take_at, take-append-le, drop-append-le}
 use lib.Dec.{eqb, ltb}
 use borrow.Author.Tests.{eq-eqb, ne_eqb, lt-ltb, eqb-true, ltb-true, ltb-false}
 use Rattle.basics.proofs.Facts.{and_both}
-use Rattle.transition.specs.Forms.{fresh_table}
-use Rattle.transition.specs.Lent.{over}
+use Rattle.transition.specs.Forms.{over, fresh_table}
 use Rattle.moves.specs.Moves.{refusal_number}
 use Rattle.moves.specs.declared.Refusal.TheVariants.{Accepted}
 use Rattle.arrays.specs.Arrays.{Arrays}

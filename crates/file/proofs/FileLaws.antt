@@ -11,8 +11,7 @@ use lib.ListN.{length, get_or, take, drop, set, length-append, length-take, leng
 use lib.Seq.{take_at, drop_at, drop-drop, take-suc, drop-cons, set_at, length-take-le}
 use lib.Dec.{leb}
 use borrow.Author.Tests.{le-leb, lt-leb}
-use Rattle.transition.specs.Forms.{fresh_table}
-use Rattle.transition.specs.Lent.{over}
+use Rattle.transition.specs.Forms.{over, fresh_table}
 use Rattle.moves.specs.Moves.{refusal_number}
 use Rattle.moves.specs.declared.Refusal.TheVariants.{Accepted}
 use Rattle.arrays.specs.Arrays.{Arrays}

@@ -15,12 +15,10 @@ use Rattle.label.specs.Labels as Labels
 use Rattle.label.specs.Labels.{label_before}
 use Rattle.rows.specs.Held.{stands_in, Orderly, OrderedBefore}
 use Rattle.rows.proofs.OrderLaws.{order_front, orderly_total, last_newest}
-use Rattle.simulation.specs.Calls.{Buffer, Call, report_lines, written, original}
-use Rattle.simulation.specs.Reports.{bytes_of}
+use Rattle.simulation.specs.Calls.{Buffer, Call, report_lines, bytes_of, written, original}
 use Rattle.simulation.specs.Machine.{digits, Labelling, label_step, relabelled, State, step}
 use Rattle.simulation.proofs.Touched.{touched, labels_kept}
-use Rattle.transition.specs.Forms.{Form, TableAnswer, fresh_table, step_of}
-use Rattle.transition.specs.Lent.{over, after}
+use Rattle.transition.specs.Forms.{Form, TableAnswer, over, fresh_table, step_of, after}
 use Rattle.transition.proofs.Written.{Sized, original_sized}
 use Rattle.transition.proofs.Theorem.{step_kept, reached_held, reached_written, reached_next}
 use Rattle.transition.proofs.Theorem.{ReachedTable, table_fresh, table_count, table_passes, table_step, table_after}

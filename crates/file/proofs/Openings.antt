@@ -14,8 +14,7 @@ use lib.Dec.{eqb, ltb}
 use borrow.Author.Tests.{eq-eqb, ne_eqb, lt-ltb, le-ltb, eqb-true, ltb-true, ltb-false, not-true}
 use Rattle.basics.proofs.Facts.{and_both}
 use Rattle.simulation.specs.Calls.{original}
-use Rattle.transition.specs.Forms.{fresh_table}
-use Rattle.transition.specs.Lent.{over}
+use Rattle.transition.specs.Forms.{over, fresh_table}
 use Rattle.moves.specs.Moves.{refusal_number}
 use Rattle.moves.proofs.MoveLaws.{accepted}
 use Rattle.moves.specs.declared.Refusal.{Refusal}

@@ -3,10 +3,8 @@ use Rattle.std.specs.Prelude.{ℕ, ◌+◌, ◌*◌, ◌/◌, ◌≤◌, ◌<◌
 use mathlib.Core.List as Lists
 use Rattle.basics.specs.Tests.{newest}
 use Rattle.rows.specs.Held.{stands_in}
-use Rattle.simulation.specs.Calls.{original, Call, judge}
-use Rattle.simulation.specs.Reports.{bytes_of}
-use Rattle.transition.specs.Forms.{fresh_table, step_of}
-use Rattle.transition.specs.Lent.{over, after}
+use Rattle.simulation.specs.Calls.{original, Call, judge, bytes_of}
+use Rattle.transition.specs.Forms.{over, fresh_table, step_of, after}
 use Rattle.moves.specs.Moves.{refusal_number, move_of}
 use Rattle.arrays.specs.Arrays.{Arrays, rest_of}
 use Rattle.arrays.specs.Form.{lent}

@@ -2,8 +2,7 @@
 use Rattle.std.specs.Prelude.{ℕ, suc, ◌+◌, ◌*◌, ◌/◌, ◌≤◌, ◌<◌, min, ◌≡◌, ◌≢◌, ◌⊎◌, Bool, true, false, ◌&&◌, cond, [], ◌∷◌, ◌++◌, length, take, drop, eqb, ltb}
 use mathlib.Core.List as Lists
 use Rattle.simulation.specs.Calls.{original}
-use Rattle.transition.specs.Forms.{fresh_table}
-use Rattle.transition.specs.Lent.{over}
+use Rattle.transition.specs.Forms.{over, fresh_table}
 use Rattle.moves.specs.Moves.{refusal_number}
 use Rattle.moves.specs.declared.Refusal.TheVariants.{Accepted}
 use Rattle.arrays.specs.Arrays.{Arrays}

@@ -2,8 +2,7 @@
 ghost use Rattle.std.specs.Prelude.{◌≡◌, ◌≢◌, cond, [], ◌++◌, ◌+◌, ◌*◌, ◌/◌, ◌≤◌, ◌<◌, length, take};
 ghost use Rattle.rows.specs.Held.{Orderly, OrderedBefore};
 ghost use Rattle.simulation.specs.Calls.{Buffer};
-ghost use Rattle.transition.specs.Forms.{fresh_table};
-ghost use Rattle.transition.specs.Lent.{over};
+ghost use Rattle.transition.specs.Forms.{over, fresh_table};
 ghost use Rattle.moves.specs.Moves.{refusal_number, call_of};
 ghost use Rattle.moves.specs.declared.Refusal.TheVariants.{Accepted};
 ghost use Rattle.moves.specs.declared.Move.TheVariants.{Update};

@@ -15,7 +15,7 @@ use borrow.Author.Tests.{eq-eqb, ne_eqb, eqb-true, eqb-false}
 use Rattle.basics.proofs.Facts.{tf}
 use Rattle.simulation.specs.Calls.{Call, Buffer, judge, report_lines, original}
 use Rattle.simulation.specs.Machine.{label_step, snaps_of}
-use Rattle.transition.specs.Lent.{over}
+use Rattle.transition.specs.Forms.{over}
 use Rattle.transition.specs.Logs.{fits_next, at_front, right}
 use Rattle.transition.proofs.Logs.{front_from, front_end, front_short}
 use Rattle.moves.specs.Moves.{call_of}

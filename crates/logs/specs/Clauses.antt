@@ -1,8 +1,7 @@
 -- What the contracts of the parts of a check say.
 use Rattle.std.specs.Prelude.{ℕ, ◌+◌, ◌-◌, ◌*◌, ◌≤◌, ◌≡◌, ◌≢◌, ◌↔◌, Bool, true, false, ◌&&◌, [], ◌++◌, length, take, drop}
 use mathlib.Core.List as Lists
-use Rattle.simulation.specs.Calls.{Call, judge, original}
-use Rattle.simulation.specs.Reports.{bytes_of}
+use Rattle.simulation.specs.Calls.{Call, judge, bytes_of, original}
 use Rattle.simulation.specs.Machine.{label_step, snaps_of}
 use Rattle.transition.specs.Logs.{fits_next, at_front, right}
 use Rattle.moves.specs.Moves.{refusal_number}

@@ -2,7 +2,7 @@
 // The report comes part by part.
 ghost use Rattle.std.specs.Prelude.{◌≡◌, ◌≤◌, min, length, take, drop};
 ghost use Rattle.simulation.specs.Calls.{Buffer};
-ghost use Rattle.transition.specs.Lent.{over};
+ghost use Rattle.transition.specs.Forms.{over};
 ghost use Rattle.transition.specs.Logs.{at_front};
 ghost use Rattle.moves.specs.Moves.{refusal_number, call_of};
 ghost use Rattle.schedule.specs.Files.{printed};

@@ -11,7 +11,7 @@ use lib.Dec.{ltb}
 use borrow.Author.Tests.{eq-eqb, ne_eqb, ltb-false}
 use Rattle.simulation.specs.Calls.{original}
 use Rattle.simulation.specs.Numbering.{numbers_of}
-use Rattle.transition.specs.Lent.{over}
+use Rattle.transition.specs.Forms.{over}
 use Rattle.moves.specs.Moves.{refusal_number}
 use Rattle.moves.specs.declared.Refusal.{Refusal}
 use Rattle.moves.specs.declared.Refusal.TheVariants.{Accepted, ListTooShort}
@@ -86,7 +86,7 @@ module _ (bs list : Lists.List ℕ) where
           n,
           accepted_header,
           subst (FileNumbers lent bs n) (ap (numbers_of original n) (sym (calls_told bs p e q)) ∙ chosen)
-              (file_numbers_lem lent lent_lawful refl bs n accepted_header
+              (file_numbers_lem lent lent_lawful bs n accepted_header
               (sym (ap (λ h. refusal_number (final_after h (step_lines bs))) accepted_header)
               ∙ sym (ap refusal_number (final_told bs p e q f)) ∙ passed.0)),
         );

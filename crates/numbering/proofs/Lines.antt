@@ -10,16 +10,14 @@ use lib.Seq.{take_at, drop_at, drop-drop, length-take-le}
 use lib.Dec.{eqb}
 use borrow.Author.Tests.{eqb-true, eq-eqb}
 use Rattle.basics.specs.Tests.{newest}
-use Rattle.basics.proofs.Facts.{tf}
 use Rattle.label.specs.Labels as Labels
 use Rattle.label.specs.Valid.{Valid}
 use Rattle.rows.specs.Held.{held}
 use Rattle.simulation.specs.Calls.{Call, Buffer, judge, original}
-use Rattle.simulation.specs.Machine.{Labelling, digits, LabelStep, snap, whole, label_step, label_snap, relabelled, State, step, snaps_of}
+use Rattle.simulation.specs.Machine.{Labelling, digits, LabelStep, snap, label_step, label_snap, relabelled, State, step, snaps_of}
 use Rattle.simulation.specs.Numbering.{slot_of, Renumbering, renumber, renumbered, numbers_of}
 use Rattle.simulation.proofs.Judged.{Inside, inside, snaps_by_3}
-use Rattle.transition.specs.Forms.{fresh_table, step_of}
-use Rattle.transition.specs.Lent.{over}
+use Rattle.transition.specs.Forms.{over, fresh_table, step_of}
 use Rattle.simulation.proofs.Simulation.{original_proper}
 use Rattle.transition.proofs.Written.{original_sized}
 use Rattle.transition.proofs.Reached.{reached_fresh}
@@ -76,25 +74,21 @@ module _ {a : Arrays} {order : Lists.List ℕ} (f : Runnable a order) {c : Call}
 
       go : (b : Bool) → eqb c.code 3 ≡ b → c.code ≡ 3
       go true q = eqb-true c.code 3 q
-      go false q = absurd (omega (arith, snap_here, snaps_by_3 original refl n (rest_of a) c, ap one q))
+      go false q = absurd (omega (arith, snap_here, snaps_by_3 original n (rest_of a) c, ap one q))
 
   -- the rows of pending labels are those after the snap
   snapped : (k : ℕ) → asked ≡ snap k → Snapped n (state_of a).labels pending t.newest k
   unfolding step
-  snapped k e = snapped_after n (state_of a).labels pending t.newest k (subst (Inside original n) e (inside original n (rest_of a) c)).0 g.newest
+  snapped k e = snapped_after n (state_of a).labels pending t.newest k (subst (Inside n) e (inside original n (rest_of a) c)) g.newest
       (λ i l. ap (λ (s : State Labels.Label). s.labels true i) (ap state_of g.hands.table ∙ next_state f c)
       ∙ ap (λ w. relabelled n (digits original n) (state_of a).labels w true i) e)
-
-  -- the original board takes no label in one step
-  plain : (k : ℕ) → asked ≡ whole k → ⊥
-  plain k e = tf (subst (Inside original n) e (inside original n (rest_of a) c)).1 refl
 
   room_here : (count : ℕ) (list : Lists.List ℕ) → count ≤ length list → (c.code ≡ 3 → count < length list) → count + label_snap asked ≤ length list
   room_here count list low room = go (eqb c.code 3) refl
     where
       go : (b : Bool) → eqb c.code 3 ≡ b → count + label_snap asked ≤ length list
-      go true q = omega (arith, room (eqb-true c.code 3 q), snaps_by_3 original refl n (rest_of a) c, ap one q)
-      go false q = omega (arith, snaps_by_3 original refl n (rest_of a) c, ap one q)
+      go true q = omega (arith, room (eqb-true c.code 3 q), snaps_by_3 original n (rest_of a) c, ap one q)
+      go false q = omega (arith, snaps_by_3 original n (rest_of a) c, ap one q)
 
   -- what the code makes of the numbers is what the call makes of them
   pub call_numbered : {numbers : Rows} {count : ℕ} {list : Lists.List ℕ} → count ≤ length list → (c.code ≡ 3 → count < length list)
@@ -104,7 +98,7 @@ module _ {a : Arrays} {order : Lists.List ℕ} (f : Runnable a order) {c : Call}
   call_numbered {numbers} {count} {list} low room k {numbers'} {count'} {list'} r = record {
     table = g.hands.table;
     renumbered = subst (λ e. Renumbered e (label_snap asked) count list numbers' count' list')
-        (sym (renumber_is n (state_of a).labels pending t.newest N asked (omega (arith, f.low)) snapped plain)) r';
+        (sym (renumber_is n (state_of a).labels pending t.newest N asked (omega (arith, f.low)) snapped)) r';
     counted = counted_kept k n pending t.newest asked r' (room_here count list low room);
   }
     where
@@ -205,7 +199,7 @@ module _ {n : ℕ} {rest list₀ : Lists.List ℕ} {a : Arrays} {numbers : Rows}
             g.renumbered
 
         once : ℓ ≤ one (eqb q.code 3)
-        once = snaps_by_3 original refl n (rest_of a) call
+        once = snaps_by_3 original n (rest_of a) call
 
         fits : count + ℓ ≤ length list
         fits = omega (arith, f.room, counts, once)

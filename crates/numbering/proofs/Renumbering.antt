@@ -13,7 +13,7 @@ use Rattle.basics.proofs.Facts.{by_here, first_from_same, all_at, each_all, all_
 use Rattle.label.specs.Labels.{Label, agrees, label_below, new_label, other_agrees}
 use Rattle.rows.specs.Held.{held}
 use Rattle.simulation.specs.Calls.{original}
-use Rattle.simulation.specs.Machine.{Labelling, digits, stands, LabelStep, stay, snap, update, whole, label_snap, pending_after, relabelled}
+use Rattle.simulation.specs.Machine.{Labelling, digits, stands, LabelStep, stay, snap, update, label_snap, pending_after, relabelled}
 use Rattle.simulation.specs.Numbering.{Slot, number, shift, highest, slot_of, Renumbering, beside_only, placed, renumber}
 use Rattle.simulation.proofs.Labellings.{here_yes, here_no, by_put}
 use Rattle.simulation.proofs.Numbers.{bump_slow, highest_least}
@@ -57,11 +57,11 @@ module _ (n : ℕ) (l : Labelling Label) (rows : Rows) (z : ℕ) where
     own = λ d. after k h ∙ rw (here_yes k, ← e, here_no d) refl;
   }
 
-  pub renumber_is : (N : Labelling ℕ) (w : LabelStep) → 1 ≤ n → ((k : ℕ) → w ≡ snap k → Snapped n l rows z k) → ((k : ℕ) → w ≡ whole k → ⊥)
+  pub renumber_is : (N : Labelling ℕ) (w : LabelStep) → 1 ≤ n → ((k : ℕ) → w ≡ snap k → Snapped n l rows z k)
       → renumber n (digits original n) (slot_of (n - 1)) l N w ≡ renumber_in n rows z N w
   unfolding renumber
-  renumber_is N stay h s d = refl
-  renumber_is N (snap k) h s d =
+  renumber_is N stay h s = refl
+  renumber_is N (snap k) h s =
       let t = s k refl in
       rw (← t.newest) (by_here
       (λ b. cond b (beside_only N) (placed N k (slot_of (n - 1) (l true) (N true) (N false z) k (new_label (n - 1) 1 (l false) z k)))
@@ -69,8 +69,7 @@ module _ (n : ℕ) (l : Labelling Label) (rows : Rows) (z : ℕ) where
       (λ _. refl)
       (λ d. ap (placed N k) (slot_same (n - 1) (l true) (held rows) (N true) (N false z) k _ (λ i u v. sym (t.others i (omega arith) v))
       ∙ ap (slot_of (n - 1) (held rows) (N true) (N false z) k) (sym (t.own d)))))
-  renumber_is N (update k) h s d = refl
-  renumber_is N (whole k) h s d = absurd (d k refl)
+  renumber_is N (update k) h s = refl
 
 -- NUMBERS UP TO b
 
@@ -115,7 +114,6 @@ module _ {N : Labelling ℕ} {b : ℕ} (low : (x : Bool) (i : ℕ) → N x i ≤
         number = omega (arith, slot_low k refl);
       }
   low_after (update k) = low_only (omega arith) (λ x i. low (x || eqb i k) i)
-  low_after (whole k) = low_only (omega arith) low
 
 -- no number grows past the count
 pub counted_kept : {count : ℕ} {numbers : Rows} {list : List ℕ} → Counted count numbers list

@@ -2,7 +2,7 @@
 use Rattle.std.specs.Prelude.{ℕ, ◌+◌, ◌-◌, ◌≤◌, ◌<◌, ◌≡◌, Bool, true, false, cond, List, ◌++◌, map, get_or, take, drop, replicate, eqb}
 use Rattle.rows.specs.Held.{held}
 use Rattle.simulation.specs.Calls.{Call, judge, original}
-use Rattle.simulation.specs.Machine.{Labelling, copy, digits, LabelStep, stay, snap, update, whole, label_step, label_snap}
+use Rattle.simulation.specs.Machine.{Labelling, copy, digits, LabelStep, stay, snap, update, label_step, label_snap}
 use Rattle.simulation.specs.Numbering as Numbering
 use Rattle.simulation.specs.Numbering.{slot_of, Renumbering, beside_only, placed, renumber}
 use Rattle.transition.specs.Forms.{step_of}
@@ -21,13 +21,11 @@ slot_for (After c) = Numbering.Slot.after c
 abbrev pub slot_in : ℕ → Rows → (ℕ → ℕ) → ℕ → ℕ → Numbering.Slot
 slot_in n rows u top k = slot_of (n - 1) (held rows) u top k (held rows k)
 
--- what a step of the labels makes of the numbers N, where z is the newest of n stations, and the rows hold the pending labels after the step; the original board
--- takes no label in one step
+-- what a step of the labels makes of the numbers N, where z is the newest of n stations, and the rows hold the pending labels after the step
 abbrev pub renumber_in : ℕ → Rows → ℕ → Labelling ℕ → LabelStep → Renumbering
 renumber_in n rows z N stay = beside_only N
 renumber_in n rows z N (snap k) = cond (eqb k z) (beside_only N) (placed N k (slot_in n rows (N true) (N false z) k))
 renumber_in n rows z N (update k) = beside_only (copy N k)
-renumber_in n rows z N (whole k) = beside_only N
 
 -- the numbers kept have gone through a renumbering: those of the stations, and `count` given so far, the front of `list`, behind which ℓ more are given
 pub record Renumbered (e : Renumbering) (ℓ count : ℕ) (list : List ℕ) (numbers' : Rows) (count' : ℕ) (list' : List ℕ) : Type 0 where

@@ -3,7 +3,7 @@ use Rattle.std.specs.Prelude.{ℕ, ◌≡◌, ◌≢◌, cond, [], length, take,
 use mathlib.Core.List as Lists
 use Rattle.simulation.specs.Calls.{Call, original}
 use Rattle.simulation.specs.Numbering.{numbers_of}
-use Rattle.transition.specs.Lent.{over}
+use Rattle.transition.specs.Forms.{over}
 use Rattle.moves.specs.Moves.{refusal_number}
 use Rattle.moves.specs.declared.Refusal.{Refusal}
 use Rattle.moves.specs.declared.Refusal.TheVariants.{Accepted, ListTooShort}

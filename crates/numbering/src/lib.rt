@@ -8,7 +8,7 @@ ghost use Rattle.rows.specs.Held.{held};
 ghost use Rattle.simulation.specs.Calls.{Buffer, original};
 ghost use Rattle.simulation.specs.Machine.{put, label_step, label_snap, snap};
 ghost use Rattle.simulation.specs.Numbering.{through, bump, number, placed, numbers_of};
-ghost use Rattle.transition.specs.Lent.{over};
+ghost use Rattle.transition.specs.Forms.{over};
 ghost use Rattle.moves.specs.Moves.{refusal_number, move_of, call_of};
 ghost use Rattle.moves.specs.declared.Move.TheVariants.{SnapLabel};
 ghost use Rattle.arrays.specs.Arrays.{arrays};

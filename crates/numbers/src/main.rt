@@ -1,7 +1,7 @@
 // Reads a schedule file from standard input and writes its numbers, or its refusal, to standard output. It reads no further than the part of the file by
 // which the answer is known. If it cannot read or write, it says so on standard error and stops.
 ghost use Rattle.std.specs.Prelude.{◌≡◌, length};
-ghost use Rattle.transition.specs.Lent.{over};
+ghost use Rattle.transition.specs.Forms.{over};
 ghost use Rattle.numbers.specs.Clauses.{printed_file};
 
 use intake::Intake;

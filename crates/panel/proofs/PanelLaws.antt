@@ -8,11 +8,9 @@ use borrow.Author.Tests.{leb-true}
 use Rattle.basics.specs.Tests.{tabulate}
 use Rattle.basics.proofs.Facts.{map_drop, length_tabulate, tabulate_same, map_tabulate}
 use Rattle.walks.proofs.PanelStep.{Hand, Filling}
-use Rattle.simulation.specs.Calls.{Call, Panel, panel_records, Report, Records, written}
-use Rattle.simulation.specs.Reports.{size}
+use Rattle.simulation.specs.Calls.{Call, Panel, panel_records, Report, Records, size, written}
 use Rattle.simulation.proofs.Reports.{records_tabulate, records_length}
-use Rattle.transition.specs.Forms.{Form}
-use Rattle.transition.specs.Lent.{over, onto}
+use Rattle.transition.specs.Forms.{Form, over, onto}
 use Rattle.transition.specs.Sequences.{Steps}
 use Rattle.moves.specs.Moves.{called}
 use Rattle.table.specs.Tables.{blank, declared}

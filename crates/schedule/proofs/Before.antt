@@ -11,9 +11,7 @@ use lib.ListN.{take}
 use lib.Dec.{eqb, ltb}
 use Rattle.columns.proofs.ColumnLaws.{length_report_line}
 use Rattle.label.specs.Labels as Labels
-use Rattle.simulation.specs.Calls.{Board, original, Call, report_lines}
-use Rattle.simulation.specs.Reports.{bytes_of}
-use Rattle.simulation.specs.Boards.{apart}
+use Rattle.simulation.specs.Calls.{Board, original, apart, Call, report_lines, bytes_of}
 use Rattle.simulation.specs.Machine as Machine
 use Rattle.simulation.specs.Machine.{digits, State, fresh, step, fresh_label}
 use Rattle.simulation.proofs.Reports.{lines_length}
@@ -43,7 +41,7 @@ use Rattle.schedule.specs.declared.Header.TheVariants.{Stations}
 
 -- document 01's board (true) and the original one: whether scans are apart
 abbrev board_of : Bool → Board
-board_of x = record { per_station = 1; fill = 1; whole = false; scan_apart = x; known = 7 }
+board_of x = record { per_station = 1; fill = 1; scan_apart = x; known = 7 }
 
 -- WHAT A LINE PRINTS
 

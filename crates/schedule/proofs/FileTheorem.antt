@@ -10,8 +10,7 @@ use lib.ListN.{length, take}
 use borrow.Author.Tests.{le-leb}
 use Rattle.basics.specs.Tests.{All}
 use Rattle.basics.proofs.Facts.{tf}
-use Rattle.simulation.specs.Calls.{Board, Call, Buffer, holds, Report}
-use Rattle.simulation.specs.Reports.{bytes_of}
+use Rattle.simulation.specs.Calls.{Board, Call, Buffer, holds, Report, bytes_of}
 use Rattle.simulation.specs.Machine as Machine
 use Rattle.simulation.specs.Machine.{Seen, fresh}
 use Rattle.simulation.proofs.Simulation.{proper_some}

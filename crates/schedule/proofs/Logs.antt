@@ -11,8 +11,7 @@ use lib.Dec.{eqb}
 use borrow.Author.Tests.{eq-eqb, eqb-true, eqb-false}
 use Rattle.basics.specs.Tests.{within}
 use Rattle.basics.proofs.Facts.{or_cases, within_true}
-use Rattle.simulation.specs.Calls.{Board, original, Call, Entry, Room, Buffer, Panel, report_lines, written}
-use Rattle.simulation.specs.Reports.{bytes_of}
+use Rattle.simulation.specs.Calls.{Board, original, Call, Entry, Room, Buffer, Panel, report_lines, bytes_of, written}
 use Rattle.simulation.proofs.Simulation.{proper_some}
 use Rattle.simulation.proofs.Judged.{direct}
 use Rattle.transition.specs.Forms.{Form, TableAnswer, fresh_table, step_of}

@@ -1,7 +1,6 @@
 -- The numbers for a schedule file, on tables of every lawful form (02, Card 6).
 use Prim.Native.Nat.{ℕ, ◌+◌}
 use mathlib.Core.Path.{◌≡◌, refl, sym, ap, ◌∙◌}
-use mathlib.Core.Bool.{false}
 use mathlib.Core.List as Lists
 use mathlib.Core.List.{[], ◌∷◌, ◌++◌, map, append-nil}
 use lib.ListN.{take}
@@ -59,9 +58,9 @@ final_met F L same bs = ap (λ B. refusal_number (final_after (header_read B (ta
         ∙ run_ending K (step_lines bs) (session 1 Accepted (fresh_table F n)) (fresh_live K 1))
 
 -- THE NUMBERS OF A FILE, for every list of bytes whose header is accepted and all of whose lines are steps
-pub file_numbers_lem : (F : Form) → Lawful F → F.board.whole ≡ false → (bs : Lists.List ℕ) (n : ℕ) → header_read F.board (take 18 bs) ≡ Stations n
+pub file_numbers_lem : (F : Form) → Lawful F → (bs : Lists.List ℕ) (n : ℕ) → header_read F.board (take 18 bs) ≡ Stations n
     → refusal_number (ending 1 (step_lines bs)) ≡ 0 → FileNumbers F bs n (numbers_of F.board n (file_calls F.board bs))
-file_numbers_lem F L steps bs n e z = record {
+file_numbers_lem F L bs n e z = record {
   numbers = N;
   report = D.report ∙ ap (λ x. printed_calls cs x ++ end_printed F.board 1 (step_lines bs)) (sym D.demand.same ∙ N.same)
       ∙ ap (λ x. shown ++ x) none ∙ append-nil shown;
@@ -80,7 +79,7 @@ file_numbers_lem F L steps bs n e z = record {
     D = file_demand F L bs n e
 
     N : Numbers F n cs ns
-    N = numbers F L n (header_stations F.board (take 18 bs) (proper_some L.proper) n e) steps cs
+    N = numbers F L n (header_stations F.board (take 18 bs) (proper_some L.proper) n e) cs
 
     none : end_printed F.board 1 (step_lines bs) ≡ []
     none = rw (eq-eqb _ 0 z) refl

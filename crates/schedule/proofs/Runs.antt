@@ -13,9 +13,8 @@ use borrow.Author.Tests.{eq-eqb, ne_eqb, leb-true, leb-false}
 use borrow.Rule.Slice.PartMut.{mid_of, put_mid}
 use Rattle.columns.specs.Columns.{report_line}
 use Rattle.columns.proofs.ColumnLaws.{length_report_line}
-use Rattle.simulation.specs.Calls.{Call}
-use Rattle.simulation.specs.Reports.{bytes_of}
-use Rattle.transition.specs.Lent.{over}
+use Rattle.simulation.specs.Calls.{Call, bytes_of}
+use Rattle.transition.specs.Forms.{over}
 use Rattle.moves.specs.Moves.{refusal_number}
 use Rattle.moves.specs.declared.Refusal.{Refusal}
 use Rattle.moves.specs.declared.Refusal.TheVariants.{Accepted}

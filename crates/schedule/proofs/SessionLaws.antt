@@ -11,8 +11,7 @@ use borrow.Author.Tests.{eq-eqb, ne_eqb, eqb-true, ltb-false}
 use Rattle.columns.specs.Reading.{column_read}
 use Rattle.columns.specs.declared.Column.{Column}
 use Rattle.columns.specs.declared.Column.TheVariants.{Value, Bad}
-use Rattle.simulation.specs.Calls.{Board, original, sized, Call, Buffer, Bytes}
-use Rattle.simulation.specs.Reports.{bytes_of}
+use Rattle.simulation.specs.Calls.{Board, original, sized, Call, Buffer, Bytes, bytes_of}
 use Rattle.transition.specs.Forms.{Form}
 use Rattle.transition.proofs.Written.{Sized, sized_of}
 use Rattle.transition.proofs.Theorem.{Lawful, step_bytes, ReachedTable, table_fresh, table_passes, table_step}

@@ -8,12 +8,10 @@ use mathlib.Core.List.{[], ◌∷◌, map, map-map}
 use lib.ListN.{length, take, drop, take-append-drop}
 use Rattle.basics.specs.Tests.{All}
 use Rattle.basics.proofs.Facts.{all_append, all_weaken}
-use Rattle.simulation.specs.Calls.{Call, Bytes}
-use Rattle.simulation.specs.Reports.{bytes_of, size}
+use Rattle.simulation.specs.Calls.{Call, Bytes, bytes_of, size}
 use Rattle.simulation.specs.Machine as Machine
 use Rattle.simulation.proofs.Simulation.{proper_some}
-use Rattle.transition.specs.Forms.{Form, fresh_table}
-use Rattle.transition.specs.Lent.{over}
+use Rattle.transition.specs.Forms.{Form, over, fresh_table}
 use Rattle.transition.specs.Demand.{run_table, seen_in, unbounded, Demand3}
 use Rattle.transition.proofs.Written.{Sized}
 use Rattle.transition.proofs.Theorem.{Lawful, table_fresh, demand}

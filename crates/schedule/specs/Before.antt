@@ -3,8 +3,7 @@
 use Rattle.std.specs.Prelude.{ℕ, ◌≡◌, true, [], ◌∷◌}
 use mathlib.Core.List as Lists
 use Rattle.label.specs.Labels as Labels
-use Rattle.simulation.specs.Calls.{Board}
-use Rattle.simulation.specs.Boards.{apart}
+use Rattle.simulation.specs.Calls.{Board, apart}
 use Rattle.transition.specs.Forms.{Form}
 use Rattle.transition.specs.WellFormed.{Stated, stated}
 use Rattle.schedule.specs.Tables.{tables}

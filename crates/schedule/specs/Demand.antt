@@ -3,12 +3,10 @@
 use Rattle.std.specs.Prelude.{ℕ, ◌+◌, ◌≡◌, ◌≢◌, [], ◌∷◌, ◌++◌, map, length, take, drop}
 use mathlib.Core.List as Lists
 use Rattle.basics.specs.Tests.{All}
-use Rattle.simulation.specs.Calls.{Board, Call, Bytes}
-use Rattle.simulation.specs.Reports.{bytes_of, size}
+use Rattle.simulation.specs.Calls.{Board, Call, Bytes, bytes_of, size}
 use Rattle.simulation.specs.Machine as Machine
 use Rattle.simulation.specs.Machine.{Seen}
-use Rattle.transition.specs.Forms.{Form, TableAnswer, fresh_table, step_of}
-use Rattle.transition.specs.Lent.{over}
+use Rattle.transition.specs.Forms.{Form, TableAnswer, over, fresh_table, step_of}
 use Rattle.transition.specs.Demand.{run_table, seen_in, unbounded, Demand3}
 use Rattle.moves.specs.Moves.{refusal_number}
 use Rattle.moves.specs.declared.Refusal.{Refusal}

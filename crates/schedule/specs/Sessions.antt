@@ -2,8 +2,8 @@
 -- every refusal of the header are final.
 use Rattle.std.specs.Prelude.{ℕ, ◌+◌, ◌*◌, ◌≡◌, Bool, not, cond, [], length, eqb, ltb}
 use mathlib.Core.List as Lists
-use Rattle.simulation.specs.Reports.{bytes_of}
-use Rattle.transition.specs.Lent.{over}
+use Rattle.simulation.specs.Calls.{bytes_of}
+use Rattle.transition.specs.Forms.{over}
 use Rattle.moves.specs.Moves.{refusal_number}
 use Rattle.moves.specs.declared.Refusal.{Refusal}
 use Rattle.moves.specs.declared.Refusal.TheVariants.{Accepted}

@@ -8,8 +8,7 @@ use mathlib.Core.Bool.{Bool, true, false, cond}
 use mathlib.Core.List as Lists
 use mathlib.Core.List.{[]}
 use borrow.Author.Tests.{lt-ltb}
-use Rattle.simulation.specs.Calls.{Call, Buffer, Bytes, report_lines}
-use Rattle.simulation.specs.Reports.{bytes_of}
+use Rattle.simulation.specs.Calls.{Call, Buffer, Bytes, report_lines, bytes_of}
 use Rattle.transition.specs.Forms.{Form, TableAnswer}
 use Rattle.transition.specs.Sequences.{Steps}
 use Rattle.transition.proofs.Theorem.{step_ill_formed}

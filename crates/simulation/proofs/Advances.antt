@@ -11,8 +11,8 @@ use Rattle.basics.specs.Tests.{newest, ordered, All}
 use Rattle.basics.proofs.Facts.{by_here, all_parts, all_map}
 use Rattle.simulation.specs.Calls.{Call, Board, judge}
 use Rattle.simulation.specs.Machine.{snaps, Labelling, put, numbers, stands, LabelStep, stay, snap, update, label_step, label_snap, pending_after}
-use Rattle.simulation.specs.Machine.{relabelled, carry_out, State, answer, step, snaps_of, run, whole, copy}
-use Rattle.simulation.specs.Numbered.{numbered, LabelSnap, met_by, met, label_snaps, Fit, advance, advances}
+use Rattle.simulation.specs.Machine.{relabelled, carry_out, State, answer, step, snaps_of, run}
+use Rattle.simulation.specs.Numbered.{numbered, LabelSnap, met, label_snaps, Fit, advance, advances}
 
 -- one step of the labels: the advance comes to the number, and is used up
 module _ (n : ℕ) (l : Labelling ℕ) (v : ℕ) where
@@ -21,31 +21,24 @@ module _ (n : ℕ) (l : Labelling ℕ) (v : ℕ) where
   met_length stay = refl
   met_length (snap k) = refl
   met_length (update k) = refl
-  met_length (whole k) = refl
-
-  advanced_snap : (most k : ℕ) (al : Lists.List ℕ) → Fit most (met_by n l k v)
-      → pending_after n (numbers (advance (met_by n l k v))) l k ≡ pending_after n (numbered v) l k
-  unfolding pending_after
-  advanced_snap most k al h =
-      let z = newest n (stands (numbered v) l) in
-      by_here (λ b. cond b (l true k) (l false z + cond b 1 (v - l false z)) ≡ cond b (l true k) v) z k
-      (λ _. refl)
-      (λ d. let o = h.other (ne_eqb k z d) in omega arith)
 
   advanced : (most : ℕ) (w : LabelStep) (al : Lists.List ℕ) → All (Fit most) (met n l w v)
       → relabelled n (numbers (get_or (map advance (met n l w v) ++ al) 0 0)) l w ≡ relabelled n (numbered v) l w
-  unfolding met relabelled
+  unfolding met relabelled pending_after
   advanced most stay al h = refl
-  advanced most (snap k) al h = ap (put l k) (advanced_snap most k al h.0)
+  advanced most (snap k) al h = ap (put l k) (by_here (λ b. cond b (l true k) (l false z + cond b 1 (v - l false z)) ≡ cond b (l true k) v) z k
+      (λ _. refl)
+      (λ d. let o = h.0.other (ne_eqb k z d) in omega arith))
+    where
+      z : ℕ
+      z = newest n (stands (numbered v) l)
   advanced most (update k) al h = refl
-  advanced most (whole k) al h = ap (λ a. copy (put l k a) k) (advanced_snap most k al h.0)
 
   used_up : (w : LabelStep) (al : Lists.List ℕ) → drop (label_snap w) (map advance (met n l w v) ++ al) ≡ al
   unfolding met
   used_up stay al = refl
   used_up (snap k) al = refl
   used_up (update k) al = refl
-  used_up (whole k) al = refl
 
 -- the two ways to feed the machine differ in the labels left, if at all
 labels_tell : (B : Board) (n : ℕ) (s : State ℕ) (c : Call) (v a : ℕ) → let w = label_step (judge B n s.rest c) in

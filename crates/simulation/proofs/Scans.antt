@@ -11,11 +11,9 @@ use lib.Dec.{eqb}
 use borrow.Author.Tests.{eqb-true, eq-eqb, le-leb}
 use Rattle.basics.specs.Tests.{within, ordered, passing}
 use Rattle.simulation.specs.Calls.{Call, place, Scan, Phase, Idle, Update, Snap, End, entry, Process, Rest, Move, unless, by_service, by_phase, judge_in}
-use Rattle.simulation.specs.Calls.{judge, written, Board, original, standing, Standing, station_of, Label}
-use Rattle.simulation.specs.Boards.{apart}
-use Rattle.simulation.specs.Machine.{Rules, stands, relabelled, in_phase, changed, stored, has_job, scan_of, carry_out, State, Answer}
+use Rattle.simulation.specs.Calls.{judge, written, Board, original, apart, standing, Standing, station_of, Label}
+use Rattle.simulation.specs.Machine.{Rules, stands, relabelled, in_phase, changed, stored, has_job, scan_of, carry_out, State, labels_after, outcome, Answer}
 use Rattle.simulation.specs.Machine.{answer, step}
-use Rattle.simulation.proofs.Touched.{labels_after, outcome}
 
 -- JUDGING: document 01's board and the original one find the same move, or the begin of a scan and its snap
 data Judged (n : ℕ) (c : Call) : Move → Move → Type 0 where
@@ -35,8 +33,7 @@ module _ (n : ℕ) (c : Call) where
   by_phase_lem : (a : Bool) (k : ℕ) → within 1 n c.station ≡ true → (ph : Phase) → Judged n c (by_phase apart a k c ph) (by_phase original a k c ph)
   by_phase_lem a k own Idle = either (eqb c.code 1) _ _ _ _ (λ _. alike _)
       (either (eqb c.code 2) _ _ _ _ (λ e. tested a 18 _ _ (λ _. scans (eqb-true c.code 2 e) own)) (alike _))
-  by_phase_lem a k own (Snap Label) = alike _
-  by_phase_lem a k own (Snap Scan) = alike _
+  by_phase_lem a k own (Snap o) = alike _
   by_phase_lem a k own Update = alike _
   by_phase_lem a k own (End o) = alike _
 
@@ -94,7 +91,6 @@ unfolding carry_out
 carried order o (Move.refused x) = refl
 carried order o (Move.begins k job Label) = refl
 carried order o (Move.begins k job Scan) = refl
-carried order o (Move.labels k job) = refl
 carried order o (Move.updates k) = refl
 carried order o (Move.snaps k Label) = refl
 carried order o (Move.snaps k Scan) = refl

@@ -10,9 +10,9 @@ use lib.Dec.{eqb}
 use borrow.Author.Tests.{eqb-true, eq-eqb, ne_eqb}
 use Rattle.basics.specs.Tests.{newest, All}
 use Rattle.basics.proofs.Facts.{tf, by_here, Same, newest_same}
-use Rattle.simulation.specs.Machine.{Labelling, put, copy, Rules, stands, pending_after, LabelStep, stay, snap, update, relabelled, label_snap, whole}
+use Rattle.simulation.specs.Machine.{Labelling, put, copy, Rules, stands, pending_after, LabelStep, stay, snap, update, relabelled, label_snap}
 use Rattle.simulation.specs.Numbered.{numbered, met, Fit, newest_snap, zeros}
-use Rattle.simulation.specs.Numbering.{through, Slot, number, shift, Renumbering, beside_only, placed, updated_too, renumber}
+use Rattle.simulation.specs.Numbering.{through, Slot, number, shift, Renumbering, beside_only, placed, renumber}
 use Rattle.simulation.proofs.Sync.{Rising, rising_before, by_number}
 use Rattle.simulation.proofs.Numbers.{shift_rising, shift_zero, Upto, Sits, sits_above, Span, span_same, span_placed}
 
@@ -38,8 +38,8 @@ module _ {A : Type 0} (n : ℕ) (r : Rules A) (l : Labelling A) (k z : ℕ) (e :
       go false = refl
       go true = fun_ext (λ i. by_here (λ b. cond b (l true k) (l true i) ≡ l true i) k i (λ f. ap (l true) (sym f)) (λ _. refl))
 
--- R relates labels to the numbers beside them. It holds of fresh ones; labels and numbers that are so related order the processes alike; and each update,
--- each snap and each of both in one that is `Able` keeps it, where the number of a new label goes to its slot.
+-- R relates labels to the numbers beside them. It holds of fresh ones; labels and numbers that are so related order the processes alike; and each update
+-- and each snap that is `Able` keeps it, where the number of a new label goes to its slot.
 pub record Simulable {A : Type 0} (n : ℕ) (r : Rules A) (a : A) (Able : LabelStep → Type 0) : Type 1 where
   pub slot : (ℕ → A) → (ℕ → ℕ) → ℕ → ℕ → A → Slot
   pub R : Labelling A → Labelling ℕ → Type 0
@@ -50,28 +50,20 @@ pub record Simulable {A : Type 0} (n : ℕ) (r : Rules A) (a : A) (Able : LabelS
       let p = slot (l true) (N true) (N false z) k new in
       Sits n N (N false z) p × R (put l k new) (placed N k p).beside
   pub updates : (l : Labelling A) (N : Labelling ℕ) → R l N → (k : ℕ) → Able (update k) → R (copy l k) (copy N k)
-  pub wholes : (l : Labelling A) (N : Labelling ℕ) → R l N → (k z : ℕ) → Able (whole k) → newest n (stands r l) ≡ z
-      → let new = r.new (l false) z k in
-      let p = slot (l true) (N true) (N false z) k new in
-      (k ≡ z → R (copy l k) (copy N k)) × (k ≢ z → Sits n N (N false z) p × R (copy (put l k new) k) (copy (placed N k p).beside k))
 
 module _ {A : Type 0} {n : ℕ} {r : Rules A} {a₀ : A} {Able : LabelStep → Type 0} (L : Simulable n r a₀ Able) where
   -- the labels take the step w, and the numbers go by the renumbering e. Later calls make a rising f of the numbers in use: the unbounded machine, whose
   -- numbers have gone through both, takes the same step, and the number that it is given fits, and is 0 just for the newest process
-  pub record Followed (l : Labelling A) (N : Labelling ℕ) (w : LabelStep) (e : Renumbering) : Type 0 where
+  pub record Stepped (l : Labelling A) (N : Labelling ℕ) (w : LabelStep) (e : Renumbering) : Type 0 where
     pub rising : Rising e.shift
     pub zero : e.shift 0 ≡ 0
+    pub ready : L.R (relabelled n r l w) e.beside
     pub span : (b : ℕ) → Upto n N b → Span n (label_snap w) e b
     pub follow : (f : ℕ → ℕ) → Rising f → (v : ℕ) → (1 ≤ label_snap w → v ≡ f e.number)
         → relabelled n (numbered v) (through (λ x. f (e.shift x)) N) w ≡ through f e.beside
     pub fit : (f : ℕ → ℕ) → Rising f → f 0 ≡ 0 → (most : ℕ) → f e.number ≤ most → (v : ℕ) → (1 ≤ label_snap w → v ≡ f e.number)
         → All (Fit most) (met n (through (λ x. f (e.shift x)) N) w v)
     pub newest : (f : ℕ → ℕ) → Rising f → f 0 ≡ 0 → zeros (replicate (label_snap w) (f e.number)) ≡ newest_snap n r l w
-
-  -- and the relation is kept
-  pub record Stepped (l : Labelling A) (N : Labelling ℕ) (w : LabelStep) (e : Renumbering) : Type 0 where
-    pub follows : Followed l N w e
-    pub ready : L.R (relabelled n r l w) e.beside
 
   module _ (l : Labelling A) (N : Labelling ℕ) (i : L.R l N) where
     -- after any rising renumbering the numbers still order the processes as the labels do
@@ -81,23 +73,24 @@ module _ {A : Type 0} {n : ℕ} {r : Rules A} {a₀ : A} {Able : LabelStep → T
     newest_alike : (f : ℕ → ℕ) → Rising f → (v : ℕ) → newest n (stands (numbered v) (through f N)) ≡ newest n (stands r l)
     newest_alike f rise v = sym (newest_same n _ _ (order_kept f rise v))
 
-    -- a step of no snap, by which numbers are copied as labels are
-    stays : Followed l N stay (beside_only N)
+    stays : Stepped l N stay (beside_only N)
     unfolding relabelled met newest_snap
     stays = record {
       rising = λ x y h. h;
       zero = refl;
+      ready = i;
       span = λ b h. span_same h;
       follow = λ f rise v e. refl;
       fit = λ f rise z most h v e. tt;
       newest = λ f rise z. refl;
     }
 
-    updated : (k : ℕ) → Followed l N (update k) (beside_only (copy N k))
+    updated : (k : ℕ) → Able (update k) → Stepped l N (update k) (beside_only (copy N k))
     unfolding relabelled met newest_snap
-    updated k = record {
+    updated k a = record {
       rising = λ x y h. h;
       zero = refl;
+      ready = L.updates l N i k a;
       span = λ b h. span_same (λ x j u. h (x || eqb j k) j u);
       follow = λ f rise v e. refl;
       fit = λ f rise z most h v e. tt;
@@ -105,11 +98,12 @@ module _ {A : Type 0} {n : ℕ} {r : Rules A} {a₀ : A} {Able : LabelStep → T
     }
 
     -- a snap by the newest process: its pending label stays, and it is given 0
-    snap_newest : (k : ℕ) → k ≡ newest n (stands r l) → Followed l N (snap k) (beside_only N)
+    snap_newest : (k : ℕ) → k ≡ newest n (stands r l) → Stepped l N (snap k) (beside_only N)
     unfolding relabelled met newest_snap
     snap_newest k q = record {
       rising = λ x y h. h;
       zero = refl;
+      ready = subst (λ t. L.R t N) (sym (snap_stays n r l k _ refl q)) i;
       span = λ b h. span_same h;
       follow = λ f rise v _. snap_stays n (numbered v) (through f N) k _ (newest_alike f rise v) q;
       fit = λ f rise z most _ v e.
@@ -121,79 +115,42 @@ module _ {A : Type 0} {n : ℕ} {r : Rules A} {a₀ : A} {Able : LabelStep → T
     slot_here : ℕ → Slot
     slot_here k = let z = newest n (stands r l) in L.slot (l true) (N true) (N false z) k (r.new (l false) z k)
 
-    snap_placed : (k : ℕ) → k ≢ newest n (stands r l) → Sits n N (N false (newest n (stands r l))) (slot_here k)
-        → Followed l N (snap k) (placed N k (slot_here k))
-    unfolding relabelled met newest_snap
-    snap_placed k d sits = record {
-      rising = shift_rising p;
-      zero = shift_zero p;
-      span = λ b h. span_placed n N (N false (newest n (stands r l))) k p sits b h;
-      follow = λ f rise v e. ap (put (through (λ x. f (shift p x)) N) k)
-          (pend_new n (numbered v) (through (λ x. f (shift p x)) N) k _ (alike f rise v) d ∙ e (omega arith))
-          ∙ through_put f (through (shift p) N) k (number p);
-      fit = λ f rise zero most h v e. (
-        record {
-          newest = λ q. absurd (d (eqb-true k _ q ∙ alike f rise v));
-          other = λ _. rw (e (omega arith), alike f rise (f (number p))) (rise _ _ (sits_above n N (N false (newest n (stands r l))) p sits), h);
-        },
-        tt,
-      );
-      newest = λ f rise zero.
-          let above = rise _ _ (sits_above n N (N false (newest n (stands r l))) p sits) in
-          rw (ne_eqb k _ d, ne_eqb (f (number p)) 0 (λ q. omega arith)) refl;
-    }
-      where
-        p : Slot
-        p = slot_here k
+    module _ (k : ℕ) (a : Able (snap k)) (d : k ≢ newest n (stands r l)) where
+      found : let z = newest n (stands r l) in Sits n N (N false z) (slot_here k) × L.R (put l k (r.new (l false) z k)) (placed N k (slot_here k)).beside
+      unfolding slot_here
+      found = L.snaps l N i k (newest n (stands r l)) a refl d
 
-        alike : (f : ℕ → ℕ) → Rising f → (v : ℕ) → newest n (stands (numbered v) (through (λ x. f (shift p x)) N)) ≡ newest n (stands r l)
-        alike f rise = newest_alike (λ x. f (shift p x)) (λ x y h. rise _ _ (shift_rising p x y h))
+      snap_placed : Stepped l N (snap k) (placed N k (slot_here k))
+      unfolding relabelled met newest_snap
+      snap_placed = record {
+        rising = shift_rising p;
+        zero = shift_zero p;
+        ready = subst (λ t. L.R (put l k t) (placed N k p).beside) (sym (pend_new n r l k _ refl d)) found.1;
+        span = λ b h. span_placed n N (N false (newest n (stands r l))) k p found.0 b h;
+        follow = λ f rise v e. ap (put (through (λ x. f (shift p x)) N) k)
+            (pend_new n (numbered v) (through (λ x. f (shift p x)) N) k _ (alike f rise v) d ∙ e (omega arith))
+            ∙ through_put f (through (shift p) N) k (number p);
+        fit = λ f rise zero most h v e. (
+          record {
+            newest = λ q. absurd (d (eqb-true k _ q ∙ alike f rise v));
+            other = λ _. rw (e (omega arith), alike f rise (f (number p))) (rise _ _ (sits_above n N (N false (newest n (stands r l))) p found.0), h);
+          },
+          tt,
+        );
+        newest = λ f rise zero.
+            let above = rise _ _ (sits_above n N (N false (newest n (stands r l))) p found.0) in
+            rw (ne_eqb k _ d, ne_eqb (f (number p)) 0 (λ q. omega arith)) refl;
+      }
+        where
+          p : Slot
+          p = slot_here k
 
-    -- a snap with an update in one: what follows the snap follows both
-    whole_followed : (k : ℕ) (e : Renumbering) → Followed l N (snap k) e → Followed l N (whole k) (updated_too k e)
-    unfolding relabelled met newest_snap
-    whole_followed k e F = record {
-      rising = F.rising;
-      zero = F.zero;
-      span = λ b h. let S = F.span b h in record {
-        b' = S.b';
-        few = S.few;
-        old = S.old;
-        upto = λ x j u. S.upto (x || eqb j k) j u;
-        given = S.given;
-        reach = S.reach;
-      };
-      follow = λ f rise v h. ap (λ t. copy t k) (F.follow f rise v h);
-      fit = F.fit;
-      newest = F.newest;
-    }
-
-    -- each step, by whether its process is the newest
-    snapped : (k : ℕ) → Able (snap k) → Stepped l N (snap k) (renumber n r L.slot l N (snap k))
-    unfolding renumber slot_here relabelled
-    snapped k a = by_here (λ b. Stepped l N (snap k) (cond b (beside_only N) (placed N k (slot_here k)))) (newest n (stands r l)) k
-        (λ q. record { follows = snap_newest k q; ready = subst (λ t. L.R t N) (sym (snap_stays n r l k _ refl q)) i })
-        (λ d. let found = L.snaps l N i k (newest n (stands r l)) a refl d in record {
-          follows = snap_placed k d found.0;
-          ready = subst (λ t. L.R (put l k t) (placed N k (slot_here k)).beside) (sym (pend_new n r l k _ refl d)) found.1;
-        })
-
-    snapped_whole : (k : ℕ) → Able (whole k) → Stepped l N (whole k) (renumber n r L.slot l N (whole k))
-    unfolding renumber slot_here relabelled
-    snapped_whole k a = let found = L.wholes l N i k (newest n (stands r l)) a refl in
-        by_here (λ b. Stepped l N (whole k) (updated_too k (cond b (beside_only N) (placed N k (slot_here k))))) (newest n (stands r l)) k
-        (λ q. record {
-          follows = whole_followed k _ (snap_newest k q);
-          ready = subst (λ t. L.R (copy t k) (copy N k)) (sym (snap_stays n r l k _ refl q)) (found.0 q);
-        })
-        (λ d. record {
-          follows = whole_followed k _ (snap_placed k d (found.1 d).0);
-          ready = subst (λ t. L.R (copy (put l k t) k) (copy (placed N k (slot_here k)).beside k)) (sym (pend_new n r l k _ refl d)) (found.1 d).1;
-        })
+          alike : (f : ℕ → ℕ) → Rising f → (v : ℕ) → newest n (stands (numbered v) (through (λ x. f (shift p x)) N)) ≡ newest n (stands r l)
+          alike f rise = newest_alike (λ x. f (shift p x)) (λ x y h. rise _ _ (shift_rising p x y h))
 
     pub stepped : (w : LabelStep) → Able w → Stepped l N w (renumber n r L.slot l N w)
-    unfolding renumber relabelled
-    stepped stay a = record { follows = stays; ready = i }
-    stepped (snap k) a = snapped k a
-    stepped (update k) a = record { follows = updated k; ready = L.updates l N i k a }
-    stepped (whole k) a = snapped_whole k a
+    unfolding renumber slot_here
+    stepped stay a = stays
+    stepped (snap k) a = by_here (λ b. Stepped l N (snap k) (cond b (beside_only N) (placed N k (slot_here k)))) (newest n (stands r l)) k (snap_newest k)
+        (snap_placed k a)
+    stepped (update k) a = updated k a

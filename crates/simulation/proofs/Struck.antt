@@ -4,18 +4,17 @@ use Prim.Native.Nat.{ℕ, suc, ◌-◌}
 use native.Mathlib.Omega.{arith}
 use mathlib.Core.Path.{◌≡◌, refl, sym, ap, subst, ◌∙◌, fun_ext}
 use mathlib.Core.Logic.{◌≢◌, ◌⊎◌, inl, inr}
-use mathlib.Core.Bool.{Bool, true, false, not, ◌&&◌}
+use mathlib.Core.Bool.{Bool, true, false}
 use mathlib.Core.List as Lists
 use mathlib.Core.List.{[], ◌∷◌}
 use Rattle.basics.specs.Tests.{ordered, passing, All}
 use Rattle.basics.proofs.Passing.{passing_map}
 use Rattle.simulation.specs.Calls.{Call, place, Scan, Phase, Idle, Update, Snap, End, Entry, entry, Process, Move, unless, by_service, room_for, by_phase}
-use Rattle.simulation.specs.Calls.{judge_in, judge, written, standing, Standing, station_of, Board, Label, Rest}
-use Rattle.simulation.specs.Machine.{Rules, stands, shows, scan_of, everyone, Outcome, carry_out, State, step}
-use Rattle.simulation.specs.Struck.{struck}
+use Rattle.simulation.specs.Calls.{judge_in, judge, written, standing, Standing, station_of, Board}
+use Rattle.simulation.specs.Machine.{Rules, stands, shows, scan_of, everyone, struck, Outcome, carry_out, State, outcome, step}
 use Rattle.simulation.proofs.Labellings.{here_yes}
 use Rattle.simulation.proofs.Judged.{verdict_in}
-use Rattle.simulation.proofs.Touched.{process_kept, result_kept, touched_own, untouched, outcome}
+use Rattle.simulation.proofs.Touched.{process_kept, result_kept, touched_own, untouched}
 
 pub struck_out : (process : ℕ → Process) (order : Lists.List ℕ) → scan_of process order ≡ struck process (everyone process order)
 unfolding scan_of
@@ -23,7 +22,7 @@ struck_out process order = sym (passing_map (λ (e : Entry). shows (process (e.s
     ∙ ap (λ f. everyone process (passing f order)) (fun_ext (λ i. let e : suc i - 1 ≡ i = omega arith in ap (λ j. shows (process j)) e)))
 
 -- a call comes to the move w, or is refused
-abbrev pub Comes : Move → Move → Type 0
+abbrev Comes : Move → Move → Type 0
 Comes w m = (m ≡ w) ⊎ ((x : ℕ) × (m ≡ Move.refused x) × (x ≢ 0))
 
 tested : {w : Move} (b : Bool) (x : ℕ) (m : Move) → x ≢ 0 → Comes w m → Comes w (unless b x m)
@@ -39,33 +38,14 @@ judged {w} B n t c h = tested _ 10 _ (λ e. omega arith) (tested _ 2 _ (λ e. om
     served true = tested _ 14 _ (λ e. omega arith) h
     served false = tested _ 15 _ (λ e. omega arith) h
 
-never : {w : Move} (b : Bool) (m : Move) → Comes w (unless (b && false) 3 m)
-unfolding unless
-never true m = inr (3, refl, λ e. omega arith)
-never false m = inr (3, refl, λ e. omega arith)
-
 -- where scans are not apart, a step 2 snaps for a scan
 scan_judged : (B : Board) → B.scan_apart ≡ false → (alone : Bool) (k : ℕ) (c : Call) → c.code ≡ 2 → (ph : Phase)
     → Comes (Move.snaps (place c) Scan) (by_phase B alone k c ph)
 unfolding unless
 scan_judged B e alone k c two Idle = rw (two, e) (tested alone 18 _ (λ e. omega arith) (inl refl))
-scan_judged B e alone k c two (Snap Label) = rw two (never (not B.whole) _)
-scan_judged B e alone k c two (Snap Scan) = rw two (inr (3, refl, λ e. omega arith))
+scan_judged B e alone k c two (Snap o) = rw two (inr (3, refl, λ e. omega arith))
 scan_judged B e alone k c two Update = rw two (inr (3, refl, λ e. omega arith))
 scan_judged B e alone k c two (End o) = rw two (inr (3, refl, λ e. omega arith))
-
--- where a label is taken in one step, a step 1 takes it
-label_judged : (B : Board) → B.whole ≡ true → (alone : Bool) (k : ℕ) (c : Call) → c.code ≡ 1 → (ph : Phase)
-    → Comes (Move.labels (place c) c.job) (by_phase B alone k c ph)
-unfolding unless
-label_judged B e alone k c one Idle = rw (one, e) (tested alone 18 _ (λ e. omega arith) (inl refl))
-label_judged B e alone k c one (Snap Label) = rw one (never (not B.whole) _)
-label_judged B e alone k c one (Snap Scan) = rw one (inr (3, refl, λ e. omega arith))
-label_judged B e alone k c one Update = rw one (inr (3, refl, λ e. omega arith))
-label_judged B e alone k c one (End o) = rw one (inr (3, refl, λ e. omega arith))
-
-pub label_comes : (B : Board) → B.whole ≡ true → (n : ℕ) (o : Rest) (c : Call) → c.code ≡ 1 → Comes (Move.labels (place c) c.job) (judge B n o c)
-label_comes B e n o c one = let t = standing B n o (place c) in judged B n t c (label_judged B e t.alone t.shown c one t.phase)
 
 -- a step 5 of a process that is due to end a scan ends it
 end_judged : (B : Board) (alone : Bool) (k : ℕ) (c : Call) → c.code ≡ 5 → Comes (Move.ends (place c) Scan) (by_phase B alone k c (End Scan))

@@ -180,22 +180,13 @@ newest_exists T (suc m) = go (newest_exists T m)
 abbrev pub by_number : (ℕ → ℕ) → ℕ → ℕ → Bool
 by_number T i j = number_before (T i) i (T j) j
 
-pub newest_passes : {m : ℕ} {T : ℕ → ℕ} {z : ℕ} → Newest m T z → (j : ℕ) → j ≤ m → by_number T z j ≡ false
+newest_passes : {m : ℕ} {T : ℕ → ℕ} {z : ℕ} → Newest m T z → (j : ℕ) → j ≤ m → by_number T z j ≡ false
 newest_passes {m} {T} {z} a j l = go (compare (T j) (T z))
   where
     go : Tri (T j < T z) (T j ≡ T z) (T z < T j) → by_number T z j ≡ false
     go (lt h) = number_more (T z) z (T j) j h
     go (eq h) = rw h (number_same (T z) z j ∙ le-ltb z j (a.last j l h))
     go (gt h) = absurd (omega (arith, a.highest j l))
-
--- and every other stands before it
-pub before_newest : {m : ℕ} {T : ℕ → ℕ} {z : ℕ} → Newest m T z → (i : ℕ) → i ≤ m → i ≢ z → by_number T i z ≡ true
-before_newest {m} {T} {z} a i l d = go (compare (T i) (T z))
-  where
-    go : Tri (T i < T z) (T i ≡ T z) (T z < T i) → by_number T i z ≡ true
-    go (lt h) = number_less (T i) i (T z) z h
-    go (eq h) = rw h (number_same (T z) i z ∙ lt-ltb i z (omega (arith, a.last i l h, d)))
-    go (gt h) = absurd (omega (arith, a.highest i l))
 
 passes_newest : (m : ℕ) (T : ℕ → ℕ) (z : ℕ) → z ≤ m → ((j : ℕ) → j ≤ m → by_number T z j ≡ false) → Newest m T z
 passes_newest m T z lz f = record { station = lz; highest = λ i l. high i l (compare (T z) (T i)); last = last }

@@ -7,17 +7,15 @@ use mathlib.Core.List as Lists
 use mathlib.Core.List.{[]}
 use lib.Dec.{eqb}
 use borrow.Author.Tests.{eqb-true, eq-eqb, ne_eqb}
-use Rattle.basics.specs.Tests.{ordered}
 use Rattle.basics.proofs.Facts.{tf, is_false, by_here}
 use Rattle.simulation.specs.Calls.{Call, place, Label, Scan, Entry, Rest, Move, written, Board, station_of, Standing}
-use Rattle.simulation.specs.Machine.{Labelling, Rules, pending_after, label_step, relabelled, scan_of, carry_out, State, Outcome, stands, answer}
-use Rattle.simulation.proofs.Judged.{Own, own_place, Verdict, turned, begins, labels, begins_scan, scans, updates, snaps, snaps_scan, ends, service}
+use Rattle.simulation.specs.Machine.{Labelling, Rules, pending_after, label_step, relabelled, scan_of, carry_out, State, labels_after, outcome, answer}
+use Rattle.simulation.proofs.Judged.{Own, own_place, Verdict, turned, begins, begins_scan, scans, updates, snaps, ends, service}
 
 -- the process that takes the move
 abbrev pub touched : Move → ℕ → Bool
 touched (Move.refused x) i = false
 touched (Move.begins k job o) i = eqb i k
-touched (Move.labels k job) i = eqb i k
 touched (Move.updates k) i = eqb i k
 touched (Move.snaps k o) i = eqb i k
 touched (Move.ends k o) i = eqb i k
@@ -29,11 +27,6 @@ pub labels_kept : {A : Type 0} (n : ℕ) (r : Rules A) (l : Labelling A) (w : Mo
 unfolding relabelled
 labels_kept n r l (Move.refused y) i e x = refl
 labels_kept n r l (Move.begins k job o) i e x = refl
-labels_kept n r l (Move.labels k job) i e x = rw e (go x)
-  where
-    go : (x : Bool) → cond ((x || false) && false) (pending_after n r l k) (l (x || false) i) ≡ l x i
-    go false = refl
-    go true = refl
 labels_kept n r l (Move.updates k) i e x = rw e (go x)
   where
     go : (x : Bool) → l (x || false) i ≡ l x i
@@ -54,7 +47,6 @@ module _ (B : Board) (order : Lists.List ℕ) (o : Rest) where
   process_kept (Move.refused x) i e = refl
   process_kept (Move.begins k job Label) i e = rw e refl
   process_kept (Move.begins k job Scan) i e = rw e refl
-  process_kept (Move.labels k job) i e = rw e refl
   process_kept (Move.updates k) i e = rw e refl
   process_kept (Move.snaps k Label) i e = rw e refl
   process_kept (Move.snaps k Scan) i e = rw e refl
@@ -68,7 +60,6 @@ module _ (B : Board) (order : Lists.List ℕ) (o : Rest) where
   result_kept (Move.refused x) g d = refl
   result_kept (Move.begins k job Label) g d = refl
   result_kept (Move.begins k job Scan) g d = refl
-  result_kept (Move.labels k job) g d = refl
   result_kept (Move.updates k) g d = refl
   result_kept (Move.snaps k Label) g d = refl
   result_kept (Move.snaps k Scan) g d = rw (ne_eqb g (station_of B k) (d k (eq-eqb k k refl))) refl
@@ -83,7 +74,6 @@ module _ (B : Board) (order : Lists.List ℕ) (o : Rest) where
   results_all P scan h (Move.refused x) g = h g
   results_all P scan h (Move.begins k job Label) g = h g
   results_all P scan h (Move.begins k job Scan) g = h g
-  results_all P scan h (Move.labels k job) g = h g
   results_all P scan h (Move.updates k) g = h g
   results_all P scan h (Move.snaps k Label) g = h g
   results_all P scan h (Move.snaps k Scan) g = by_here (λ b. P (cond b (scan_of o.process order) (o.result g))) (station_of B k) g (λ _. scan) (λ _. h g)
@@ -99,26 +89,17 @@ touched_own {B} {n} {t} {c} v i h = go v h
     own_here own e = let q = eqb-true i (place c) e in (q, rw q (own_place own))
 
     go : {w : Move} → Verdict B n t c w → touched w i ≡ true → (i ≡ place c) × (i < n)
-    go (turned x z f) e = absurd (tf e refl)
-    go (begins own f a) e = own_here own e
-    go (labels own f q a) e = own_here own e
+    go (turned x f) e = absurd (tf e refl)
+    go (begins own f) e = own_here own e
     go (begins_scan own f a) e = own_here own e
     go (scans own f a) e = own_here own e
     go (updates own q) e = own_here own e
-    go (snaps own q a f) e = own_here own e
-    go (snaps_scan own q) e = own_here own e
+    go (snaps own x q a) e = own_here own e
     go (ends own x q r) e = own_here own e
     go (service own b q) e = own_here own e
 
 pub untouched : {B : Board} {n : ℕ} {t : Standing} {c : Call} {w : Move} → Verdict B n t c w → (i : ℕ) → (i < n → i ≢ place c) → touched w i ≡ false
 untouched v i d = is_false (λ e. let h = touched_own v i e in d h.1 h.0)
-
--- what a move of one of n processes leads to: the labels, and the outcome for the rest
-abbrev pub labels_after : {A : Type 0} → ℕ → Rules A → State A → Move → Labelling A
-labels_after n r s w = relabelled n r s.labels (label_step w)
-
-abbrev pub outcome : {A : Type 0} → Board → ℕ → Rules A → State A → Move → Outcome
-outcome B n r s w = carry_out B (ordered n (stands r s.labels)) s.rest w
 
 -- a refused move leaves the state and hands out nothing
 pub refused_stays : {A : Type 0} (B : Board) (n : ℕ) (r : Rules A) (s : State A) (c : Call) (w : Move) → let a = outcome B n r s w in
@@ -127,7 +108,6 @@ unfolding carry_out relabelled
 refused_stays B n r s c (Move.refused x) d = refl
 refused_stays B n r s c (Move.begins k job Label) d = absurd (d refl)
 refused_stays B n r s c (Move.begins k job Scan) d = absurd (d refl)
-refused_stays B n r s c (Move.labels k job) d = absurd (d refl)
 refused_stays B n r s c (Move.updates k) d = absurd (d refl)
 refused_stays B n r s c (Move.snaps k Label) d = absurd (d refl)
 refused_stays B n r s c (Move.snaps k Scan) d = absurd (d refl)

@@ -4,7 +4,7 @@ use mathlib.Core.List as Lists
 use mathlib.Core.List.{[], ◌∷◌, ◌++◌, map, Memᴰ}
 use Rattle.basics.specs.Tests.{newest, All}
 use Rattle.simulation.specs.Calls.{Board, Call, judge}
-use Rattle.simulation.specs.Machine.{Labelling, Rules, number_before, stands, LabelStep, stay, snap, update, label_step, State, step, snaps_of, whole}
+use Rattle.simulation.specs.Machine.{Labelling, Rules, number_before, stands, LabelStep, stay, snap, update, label_step, State, step, snaps_of}
 
 -- UCTSS where a snap is given its number itself: it becomes pending, unless the process is the newest
 abbrev pub numbered : ℕ → Rules ℕ
@@ -16,14 +16,10 @@ pub record LabelSnap : Type 0 where
   pub top : ℕ
   pub number : ℕ
 
-abbrev pub met_by : ℕ → Labelling ℕ → ℕ → ℕ → LabelSnap
-met_by n l k v = let z = newest n (stands (numbered v) l) in record { by_newest = eqb k z; top = l false z; number = v }
-
 unfoldable pub met : ℕ → Labelling ℕ → LabelStep → ℕ → Lists.List LabelSnap
 met n l stay v = []
-met n l (snap k) v = met_by n l k v ∷ []
+met n l (snap k) v = let z = newest n (stands (numbered v) l) in record { by_newest = eqb k z; top = l false z; number = v } ∷ []
 met n l (update k) v = []
-met n l (whole k) v = met_by n l k v ∷ []
 
 -- all of a sequence of calls
 unfoldable pub label_snaps : Board → ℕ → State ℕ → Lists.List ℕ → Lists.List Call → Lists.List LabelSnap
@@ -60,7 +56,6 @@ unfoldable pub newest_snap : {A : Type 0} → ℕ → Rules A → Labelling A �
 newest_snap n r l stay = []
 newest_snap n r l (snap k) = eqb k (newest n (stands r l)) ∷ []
 newest_snap n r l (update k) = []
-newest_snap n r l (whole k) = eqb k (newest n (stands r l)) ∷ []
 
 unfoldable pub newest_snaps : {A : Type 0} → Board → ℕ → Rules A → State A → Lists.List Call → Lists.List Bool
 newest_snaps B n r s [] = []

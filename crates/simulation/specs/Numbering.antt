@@ -7,8 +7,8 @@ use Rattle.basics.specs.Tests.{newest, first_from}
 use Rattle.label.specs.Labels as Labels
 use Rattle.label.specs.Labels.{other_agrees, label_below}
 use Rattle.simulation.specs.Calls.{Board, Call, judge}
-use Rattle.simulation.specs.Machine.{Labelling, put, copy, Rules, digits, stands, LabelStep, stay, snap, update, label_step, State, fresh_label, fresh}
-use Rattle.simulation.specs.Machine.{step, snaps_of, whole}
+use Rattle.simulation.specs.Machine.{Labelling, put, copy, Rules, digits, stands, LabelStep, stay, snap, update, label_step}
+use Rattle.simulation.specs.Machine.{State, fresh_label, fresh, step, snaps_of}
 
 abbrev pub through : {A B : Type 0} → (A → B) → Labelling A → Labelling B
 through f l x i = f (l x i)
@@ -53,22 +53,14 @@ beside_only N = record { shift = λ x. x; beside = N; number = 0 }
 abbrev pub placed : Labelling ℕ → ℕ → Slot → Renumbering
 placed N k p = record { shift = shift p; beside = put (through (shift p) N) k (number p); number = number p }
 
--- and the number goes with its label where an update follows at once
-abbrev pub updated_too : ℕ → Renumbering → Renumbering
-updated_too k e = record { shift = e.shift; beside = copy e.beside k; number = e.number }
-
 -- over any rules, with a way to find slots
 module _ {A : Type 0} (n : ℕ) (r : Rules A) (at : (ℕ → A) → (ℕ → ℕ) → ℕ → ℕ → A → Slot) where
-  abbrev pub renumber_snap : Labelling A → Labelling ℕ → ℕ → Renumbering
-  renumber_snap l N k =
-      let z = newest n (stands r l) in
-      cond (eqb k z) (beside_only N) (placed N k (at (l true) (N true) (N false z) k (r.new (l false) z k)))
-
   unfoldable pub renumber : Labelling A → Labelling ℕ → LabelStep → Renumbering
   renumber l N stay = beside_only N
-  renumber l N (snap k) = renumber_snap l N k
+  renumber l N (snap k) =
+      let z = newest n (stands r l) in
+      cond (eqb k z) (beside_only N) (placed N k (at (l true) (N true) (N false z) k (r.new (l false) z k)))
   renumber l N (update k) = beside_only (copy N k)
-  renumber l N (whole k) = updated_too k (renumber_snap l N k)
 
   -- one pass: the numbers given so far, moved up, and then those that these calls are given
   unfoldable pub renumbered : Board → State A → Labelling ℕ → Lists.List ℕ → Lists.List Call → Lists.List ℕ

@@ -12,10 +12,8 @@ use lib.Dec.{eqb}
 use borrow.Author.Tests.{leb-true}
 use Rattle.basics.proofs.Facts.{tabulate_same}
 use Rattle.simulation.specs.Calls as Calls
-use Rattle.simulation.specs.Calls.{Call, Buffer, report_lines, Report, Bytes, written}
-use Rattle.simulation.specs.Reports.{size}
-use Rattle.transition.specs.Forms.{TableAnswer, step_of}
-use Rattle.transition.specs.Lent.{over, onto}
+use Rattle.simulation.specs.Calls.{Call, Buffer, report_lines, Report, Bytes, size, written}
+use Rattle.transition.specs.Forms.{TableAnswer, over, onto, step_of}
 use Rattle.transition.specs.Questions.{Tells}
 use Rattle.transition.specs.Sequences.{Steps}
 use Rattle.transition.proofs.Theorem.{step_written, step_ill_formed, step_kept}

@@ -2,10 +2,8 @@
 use Rattle.std.specs.Prelude.{ℕ, ◌≤◌, ◌≡◌, true, List, [], get_or}
 use Rattle.basics.specs.Tests.{tabulate}
 use Rattle.simulation.specs.Calls as Calls
-use Rattle.simulation.specs.Calls.{Call, holds, Report, written}
-use Rattle.simulation.specs.Reports.{size}
-use Rattle.transition.specs.Forms.{step_of}
-use Rattle.transition.specs.Lent.{onto}
+use Rattle.simulation.specs.Calls.{Call, holds, Report, size, written}
+use Rattle.transition.specs.Forms.{onto, step_of}
 use Rattle.transition.specs.Sequences.{Steps}
 use Rattle.moves.specs.Moves.{refusal_number}
 use Rattle.arrays.specs.Form.{lent}

@@ -15,7 +15,6 @@ use Rattle.basics.proofs.Filled.{filled}
 use Rattle.label.specs.Labels as Labels
 use Rattle.label.specs.Rows.{row}
 use Rattle.simulation.specs.Calls as Calls
-use Rattle.simulation.specs.Boards.{has_phase}
 use Rattle.simulation.specs.Machine.{State}
 use Rattle.transition.proofs.Theorem.{Lawful}
 use Rattle.moves.specs.Moves.{operation_of, phase_of}
@@ -82,7 +81,7 @@ declared_back Snap = refl
 declared_back Update = refl
 declared_back (End o) = ap End (operation_back o)
 
-declared_kept : (p : Phase) → has_phase Calls.original (phase_of p) ≡ true
+declared_kept : (p : Phase) → Calls.hasPhase Calls.original (phase_of p) ≡ true
 declared_kept Idle = refl
 declared_kept Snap = refl
 declared_kept Update = refl

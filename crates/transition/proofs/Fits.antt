@@ -1,25 +1,23 @@
 -- What 13 asks of a state, as facts: reached states have them on every proper board, and they are what is tested. So tables that are states are a lawful form.
-use Prim.Native.Nat.{ℕ, ◌+◌, ◌-◌, ◌*◌, ◌%◌, ◌≤◌, ◌<◌}
+use Prim.Native.Nat.{ℕ, ◌+◌, ◌-◌, ◌*◌, ◌%◌, ◌≤◌}
 use native.Mathlib.Nat.{div-add-mod, mul_comm}
 use native.Mathlib.Omega.{arith}
 use native.Mathlib.Decide.{dec_lt}
 use mathlib.Core.Path.{◌≡◌, refl, ap}
 use mathlib.Core.Logic.{by_cases}
-use mathlib.Core.Bool.{Bool, true, false, not, ◌||◌}
+use mathlib.Core.Bool.{Bool, true, false, not}
 use mathlib.Core.List as Lists
 use lib.ListN.{length}
 use borrow.Author.Tests.{eq-eqb, ne_eqb, le-leb}
 use Rattle.basics.proofs.Facts.{both, implies, within_of, every_all, all_at}
 use Rattle.label.specs.Labels as Labels
 use Rattle.label.specs.Rows.{no_ring}
-use Rattle.simulation.specs.Calls.{Board, station_of, sized, idle, Entry, entry, is_alone}
+use Rattle.simulation.specs.Calls.{Board, station_of, sized, idle, Entry, entry}
 use Rattle.simulation.specs.Machine.{State}
-use Rattle.simulation.proofs.Records.{Idles, Lone, lone_alone}
-use Rattle.simulation.proofs.InStep.{InStep}
-use Rattle.simulation.proofs.Simulation.{Proper, proper_fill}
+use Rattle.simulation.proofs.Simulation.{Proper, stepwise}
 use Rattle.transition.specs.WellFormed.{label_fits, list_fits, state_fits, states}
 use Rattle.transition.proofs.Written.{Sized, sized_some, Writable}
-use Rattle.transition.proofs.Reached.{Sound, Reached, reached_step_in, choice_ring_free}
+use Rattle.transition.proofs.Reached.{Sound, Idles, Reached, choice_ring_free}
 use Rattle.transition.proofs.Theorem.{Lawful}
 
 pub record Fitting (B : Board) (n : ℕ) (s : State Labels.Label) : Type 0 where
@@ -28,24 +26,19 @@ pub record Fitting (B : Board) (n : ℕ) (s : State Labels.Label) : Type 0 where
   pub behind : (x : Bool) (i p : ℕ) → n - 1 ≤ p → s.labels x i p ≡ B.fill
   pub sound : (g : ℕ) → Sound n (s.rest.result g)
   pub idles : (i : ℕ) → Idles (s.rest.process i)
-  pub lone : Lone B n s.rest
   pub free : no_ring (n - 1) (s.labels false) ≡ true
 
 -- REACHED STATES have them
 pub reached_fitting : {B : Board} → Proper B → (n : ℕ) → Sized B n → (s : State Labels.Label) → Reached B n s → Fitting B n s
-reached_fitting {B} p n z s r = record {
+reached_fitting {B} (stepwise per known apart h) n z s r = record {
   writable = r.writable;
-  digits = λ x i q. by_cases (dec_lt i n) (λ l. S.digits x i (omega arith) q)
-      (λ l. let e = ap (λ (a : Labels.Label). a q) (r.writable.blank x i (omega arith)) in (omega arith, omega (arith, proper_fill p)));
-  behind = S.behind;
+  digits = λ x i q. by_cases (dec_lt i n) (λ l. r.ready.inv.digits x i (omega arith) q)
+      (λ l. let e = ap (λ (a : Labels.Label). a q) (r.writable.blank x i (omega arith)) in (omega arith, omega arith));
+  behind = r.ready.behind;
   sound = r.sound;
   idles = r.idles;
-  lone = r.lone;
-  free = choice_ring_free B n (sized_some z) p r (λ i. false);
+  free = choice_ring_free B n (sized_some z) r (λ i. false);
 }
-  where
-    S : InStep (n - 1) B.fill s.labels r.N
-    S = reached_step_in B n (sized_some z) p r
 
 -- AS THEY ARE TESTED
 sized_yes : {B : Board} {n : ℕ} → Sized B n → sized B n ≡ true
@@ -66,16 +59,11 @@ module _ {B : Board} (n : ℕ) (z : Sized B n) (s : State Labels.Label) (f : Fit
       both (within_of 1 n _ e.0 e.1) (ap not (ne_eqb _ 0 e.2)))))
       (every_all n _ (λ i li. le-leb _ 1 (a.once i li)))
 
-  busy_alone : (i : ℕ) → i < n → (b : Bool) → idle (s.rest.process i).phase ≡ b → (b || is_alone B n s.rest i) ≡ true
-  busy_alone i li true e = refl
-  busy_alone i li false e = lone_alone B n s.rest f.lone i li e
-
   pub fitting_fits : state_fits B n s ≡ true
   unfolding state_fits
-  fitting_fits = both (both (both (both (sized_yes z)
+  fitting_fits = both (both (both (sized_yes z)
       (every_all n _ (λ i li. both (both (label_fits_lem false i) (label_fits_lem true i))
       (both (f.writable.rest.phase i) (implies (s.rest.process i).out (λ e. ap idle (f.idles i e)))))))
-      (every_all n _ (λ i li. busy_alone i li (idle (s.rest.process i).phase) refl)))
       (every_all (station_of B n) _ (λ g _. list_fits_lem (s.rest.result g) (f.sound g) (f.writable.rest.listed g).0)))
       f.free
 

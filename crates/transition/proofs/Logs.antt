@@ -14,20 +14,19 @@ use borrow.Author.Tests.{eqb-true, eq-eqb, ne_eqb, ltb-true, lt-ltb, leb-true, l
 use Rattle.basics.specs.Tests.{count, newest, ordered, All}
 use Rattle.basics.proofs.Facts.{tf, and_both, both, is_false, all_weaken, bit_one}
 use Rattle.basics.proofs.Counts.{count_none, count_but}
-use Rattle.simulation.specs.Calls.{Call, place, Label, Scan, Buffer, Phase, Idle, Update, Snap, End, Process, Rest, Move, judge, written, Board}
-use Rattle.simulation.specs.Reports.{bytes_of}
+use Rattle.simulation.specs.Calls.{Call, place, Label, Scan, Buffer, Phase, Idle, Update, Snap, End, Process, Rest, Move, judge, bytes_of, written, Board}
 use Rattle.simulation.specs.Machine.{Labelling, stands, LabelStep, stay, snap, update, label_step, label_snap, carry_out, State, fresh, in_phase, begun, updated}
-use Rattle.simulation.specs.Machine.{set_out, changed, Answer, step, snaps_of, Seen, label_taken, whole}
+use Rattle.simulation.specs.Machine.{set_out, changed, Answer, step, snaps_of, Seen}
 use Rattle.simulation.specs.Machine as Machine
-use Rattle.simulation.specs.Numbered.{numbered, LabelSnap, met_by, met, label_snaps, Fit, Fits}
+use Rattle.simulation.specs.Numbered.{numbered, LabelSnap, met, label_snaps, Fit, Fits}
 use Rattle.simulation.proofs.Advances.{met_length, fit_weaken}
-use Rattle.simulation.proofs.Judged.{Own, own_place, VerdictIn, turned, begins, labels, begins_scan, scans, updates, snaps, snaps_scan, ends, service, verdict_in}
+use Rattle.simulation.proofs.Judged.{Own, own_place, VerdictIn, turned, begins, begins_scan, scans, updates, snaps, ends, service, verdict_in}
 use Rattle.simulation.proofs.Reports.{lines_length}
 use Rattle.transition.specs.Forms.{Form, TableAnswer, fresh_table, step_of}
 use Rattle.transition.specs.Demand.{run_table, seen_in}
 use Rattle.transition.specs.Demand as Demand
 use Rattle.transition.specs.Numbers.{with_numbers, Numbers}
-use Rattle.transition.specs.Logs.{lists, Right, fits_snap, fits_next, at_front, right}
+use Rattle.transition.specs.Logs.{lists, Right, fits_next, at_front, right}
 
 -- WHAT STANDS AT THE FRONT OF A LIST
 
@@ -85,24 +84,21 @@ fits_number x = go x.by_newest refl
       (λ f. both (lt-ltb _ _ (f.other e).0) (le-leb _ _ (f.other e).1)),
     )
 
-fits_snap_lem : (n : ℕ) (l : Labelling ℕ) (k : ℕ) (ns : Lists.List ℕ) (xs : Lists.List LabelSnap) → let ys = met_by n l k (get_or ns 0 0) ∷ xs in
-    ((fits_snap n l k ns ≡ true) × (length (drop 1 ns) ≡ length xs) × All (Fit 4294967295) xs) ↔ ((length ns ≡ length ys) × All (Fit 4294967295) ys)
-unfolding fits_snap
-fits_snap_lem n l k [] xs = ((λ h. absurd (true≢false (sym h.0))), λ h. absurd (omega (arith, h.0)))
-fits_snap_lem n l k (v ∷ ns) xs = let x = met_by n l k v in (
-  (λ h. (ap suc h.1, ((fits_number x).0 h.0, h.2))),
-  (λ h. ((fits_number x).1 h.1.0, omega (arith, h.0), h.1.1)),
-)
-
 -- one call: its number, and the numbers of the others, for which the snaps xs are met
 fits_call : (n : ℕ) (l : Labelling ℕ) (w : LabelStep) (ns : Lists.List ℕ) (xs : Lists.List LabelSnap) → let ys = met n l w (get_or ns 0 0) ++ xs in
     ((fits_next n l w ns ≡ true) × (length (drop (label_snap w) ns) ≡ length xs) × All (Fit 4294967295) xs)
     ↔ ((length ns ≡ length ys) × All (Fit 4294967295) ys)
-unfolding fits_snap met
+unfolding fits_next met
 fits_call n l stay ns xs = ((λ h. (h.1, h.2)), λ h. (refl, h.0, h.1))
-fits_call n l (snap k) ns xs = fits_snap_lem n l k ns xs
+fits_call n l (snap k) [] xs = ((λ h. absurd (true≢false (sym h.0))), λ h. absurd (omega (arith, h.0)))
+fits_call n l (snap k) (v ∷ ns) xs = (
+  (λ h. (ap suc h.1, ((fits_number x).0 h.0, h.2))),
+  (λ h. ((fits_number x).1 h.1.0, omega (arith, h.0), h.1.1)),
+)
+  where
+    x : LabelSnap
+    x = let z = newest n (stands (numbered v) l) in record { by_newest = eqb k z; top = l false z; number = v }
 fits_call n l (update k) ns xs = ((λ h. (h.1, h.2)), λ h. (refl, h.0, h.1))
-fits_call n l (whole k) ns xs = fits_snap_lem n l k ns xs
 
 empty : (l : Lists.List ℕ) → length l ≡ 0 → l ≡ []
 empty [] e = refl
@@ -183,7 +179,6 @@ met_few B n (c ∷ cs) s ns =
     one stay = omega arith
     one (snap k) = omega arith
     one (update k) = omega arith
-    one (whole k) = omega arith
 
 pub numbers_few : {B : Board} {n : ℕ} {calls : Lists.List Call} {ns bytes : Lists.List ℕ} → Right B n calls ns bytes → length ns ≤ length calls
 numbers_few {B} {n} {calls} {ns} R = omega (arith, R.fits.one, met_few B n calls (fresh 0) ns)
@@ -225,14 +220,13 @@ handed_half B n b c order o e = go (verdict_in B n o c)
 
     go : {w : Move} → VerdictIn B n o c w → let a = carry_out B order o w in
         2 * (length a.handed * 29) + b * endings n a.rest ≤ b + b * endings n o
-    go (turned x z d) = omega arith
-    go (labels own f q a) = omega (arith, more own (label_taken c.job))
-    go (begins own f a) = omega (arith, more own (begun c.job))
+    go (turned x d) = omega arith
+    go (begins own f) = omega (arith, more own (begun c.job))
     go (begins_scan own f a) = omega (arith, more own (in_phase (Snap Scan)))
     go (scans own f a) = omega (arith, more own (in_phase (End Scan)))
     go (updates own q) = omega (arith, more own updated)
-    go (snaps own q t a) = omega (arith, more own (in_phase Update))
-    go (snaps_scan own q) = omega (arith, more own (in_phase (End Scan)))
+    go (snaps own Label q t) = omega (arith, more own (in_phase Update))
+    go (snaps own Scan q t) = omega (arith, more own (in_phase (End Scan)))
     go (ends own Label q h) = omega (arith, more own (in_phase Idle))
     go (ends own Scan q h) =
         let fewer = one own (in_phase Idle) in

@@ -1,7 +1,7 @@
 -- The numbers found beside the labels do for every sequence of calls, on tables of every lawful form (02, Card 6).
 use Prim.Native.Nat.{ℕ}
 use mathlib.Core.Path.{◌≡◌, refl, sym, ap₂, subst, ◌∙◌}
-use mathlib.Core.Bool.{Bool, false}
+use mathlib.Core.Bool.{Bool}
 use mathlib.Core.List as Lists
 use mathlib.Core.List.{[], ◌∷◌, ◌++◌}
 use Rattle.label.specs.Labels as Labels
@@ -52,6 +52,6 @@ module _ (F : Form) (L : Lawful F) (n : ℕ) (z : Sized F.board n) where
       R : Runs F n (fresh (fresh_label F.board)) calls
       R = runs F L n z calls (fresh (fresh_label F.board)) start
 
-  -- THE NUMBERS of a sequence of calls, where label operations go by steps, for every number of processes of 2 to 32 stations
-  pub numbers : F.board.whole ≡ false → (calls : Lists.List Call) → Numbers F n calls (numbers_of F.board n calls)
-  numbers e calls = numbers_do_lem (numbering L.proper e n (sized_some z) calls).0
+  -- THE NUMBERS of a sequence of calls, for every number of processes of 2 to 32 stations
+  pub numbers : (calls : Lists.List Call) → Numbers F n calls (numbers_of F.board n calls)
+  numbers calls = numbers_do_lem (numbering L.proper n (sized_some z) calls).0

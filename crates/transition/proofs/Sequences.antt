@@ -9,11 +9,9 @@ use lib.ListN.{length, take}
 use lib.Seq.{take_at}
 use Rattle.basics.specs.Tests.{All}
 use Rattle.simulation.specs.Machine as Machine
-use Rattle.simulation.specs.Calls.{Room, Buffer, Panel, Call, Entry, report_lines, panel_records, Report, Bytes, Records, written, Board}
-use Rattle.simulation.specs.Reports.{capacity, size, bytes_of}
+use Rattle.simulation.specs.Calls.{Room, Buffer, Panel, Call, Entry, report_lines, panel_records, Report, Bytes, Records, capacity, size, bytes_of, written, Board}
 use Rattle.simulation.specs.Machine.{Seen}
-use Rattle.transition.specs.Forms.{Form, TableAnswer, fresh_table, step_of}
-use Rattle.transition.specs.Lent.{over, onto}
+use Rattle.transition.specs.Forms.{Form, TableAnswer, over, onto, fresh_table, step_of}
 use Rattle.transition.specs.Demand.{run_table, seen_in, unbounded, Demand3}
 use Rattle.transition.specs.Sequences.{Steps, Made, call_made, first_of, told, Sequence, SequenceDemand}
 use Rattle.transition.proofs.Written.{Sized}

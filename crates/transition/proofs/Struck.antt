@@ -7,11 +7,9 @@ use mathlib.Core.List as Lists
 use Rattle.basics.specs.Tests.{ordered}
 use Rattle.label.specs.Labels as Labels
 use Rattle.simulation.specs.Calls.{Call, place, Entry, Board, station_of}
-use Rattle.simulation.specs.Machine.{digits, stands, everyone, State, step}
-use Rattle.simulation.specs.Struck.{struck}
+use Rattle.simulation.specs.Machine.{digits, stands, everyone, struck, State, step}
 use Rattle.simulation.proofs.Struck.{scan_stores}
-use Rattle.transition.specs.Forms.{Form, TableAnswer, fresh_table, answered, step_of}
-use Rattle.transition.specs.Lent.{after}
+use Rattle.transition.specs.Forms.{Form, TableAnswer, fresh_table, answered, step_of, after}
 use Rattle.transition.proofs.Written.{Sized}
 use Rattle.transition.proofs.Theorem.{Lawful, reached_held, reached_written, reached_next, ReachedTable, table_fresh, table_after}
 

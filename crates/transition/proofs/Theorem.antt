@@ -11,16 +11,14 @@ use lib.ListN.{length, take}
 use Rattle.basics.specs.Tests.{ordered, All}
 use Rattle.basics.proofs.Facts.{tf}
 use Rattle.label.specs.Labels as Labels
-use Rattle.simulation.specs.Calls.{Call, place, Buffer, Entry, report_lines, Bytes, written, Board, judge, station_of, Standing, standing}
-use Rattle.simulation.specs.Reports.{bytes_of}
+use Rattle.simulation.specs.Calls.{Call, place, Buffer, Entry, report_lines, Bytes, bytes_of, written, Board, judge, station_of, Standing, standing}
 use Rattle.simulation.specs.Machine.{digits, numbers, stands, State, fresh, step, snaps_of, Bounded, fresh_label}
 use Rattle.simulation.specs.Machine as Machine
 use Rattle.simulation.proofs.Judged.{Refusal, refusals}
 use Rattle.simulation.proofs.Touched.{refused_stays}
 use Rattle.simulation.proofs.Follow.{run_cons, snaps_cons, Simulates}
 use Rattle.simulation.proofs.Simulation.{Proper, simulation}
-use Rattle.transition.specs.Forms.{Form, TableAnswer, refuse, fresh_table, answered, step_of}
-use Rattle.transition.specs.Lent.{after}
+use Rattle.transition.specs.Forms.{Form, TableAnswer, refuse, fresh_table, answered, step_of, after}
 use Rattle.transition.specs.Demand.{run_table, table_snaps, seen_in, unbounded, Demand3}
 use Rattle.transition.proofs.Written.{Sized, sized_some}
 use Rattle.transition.proofs.Reached.{Reached, reached_fresh, reached_step}

@@ -2,7 +2,7 @@
 use Prim.Native.Nat.{ℕ, suc, ◌-◌, ◌*◌, ◌%◌, ◌≤◌, ◌<◌}
 use native.Mathlib.Nat.{div-lt_iff_lt-mul, div-add-mod, mul_comm}
 use native.Mathlib.Omega.{arith}
-use mathlib.Core.Path.{◌≡◌, ◌∙◌}
+use mathlib.Core.Path.{◌≡◌, refl, ◌∙◌}
 use mathlib.Core.Bool.{Bool, true, false, ◌||◌, cond}
 use mathlib.Core.List as Lists
 use mathlib.Core.List.{map}
@@ -14,14 +14,12 @@ use Rattle.basics.proofs.Facts.{and_both, within_true, by_here, all_at, each_all
 use Rattle.basics.proofs.Passing.{passing_length}
 use Rattle.label.specs.Labels as Labels
 use Rattle.label.specs.Labels.{new_label}
-use Rattle.simulation.specs.Calls.{Call, Entry, entry, Process, Rest, judge, Board, original, station_of, sized}
-use Rattle.simulation.specs.Boards.{has_phase}
-use Rattle.simulation.specs.Machine.{digits, stands, pending_after, LabelStep, stay, snap, update, whole, relabelled, shows, scan_of, carry_out, fresh_rest, State, step, fresh_label}
+use Rattle.simulation.specs.Calls.{Call, place, Label, Scan, Entry, entry, Process, Rest, Move, judge, Board, original, station_of, has_phase, sized}
+use Rattle.simulation.specs.Machine.{digits, stands, pending_after, label_step, relabelled, shows, scan_of, carry_out, fresh_rest, State, step, fresh_label}
 use Rattle.simulation.proofs.Labellings.{by_put}
-use Rattle.simulation.proofs.Judged.{Inside, inside, verdict_in}
+use Rattle.simulation.proofs.Judged.{own_place, VerdictIn, turned, begins, begins_scan, scans, updates, snaps, ends, service, verdict_in}
 use Rattle.simulation.proofs.Touched.{labels_kept, process_kept, result_kept, results_all, touched_own, untouched}
-use Rattle.simulation.proofs.Records.{phases_step}
-use Rattle.simulation.proofs.InStep.{new_behind}
+use Rattle.simulation.proofs.Simulation.{new_behind}
 
 -- THE SIZES of tables: n processes, those of 2 to 32 stations
 pub record Sized (B : Board) (n : ℕ) : Type 0 where
@@ -85,10 +83,31 @@ scan_listed process order e = (
 
 -- THE REST after a step, whatever the labels: it can be written down if the one before it can, and all n processes are in the order
 module _ (B : Board) (n : ℕ) (z : Sized B n) (o : Rest) (w : WritableRest B n o) (c : Call) where
+  -- a process gets a phase that the board has
+  phases_kept : {m : Move} → VerdictIn B n o c m → (order : Lists.List ℕ) (i : ℕ) → has_phase B ((carry_out B order o m).rest.process i).phase ≡ true
+  unfolding carry_out
+  phases_kept v order i = go v
+    where
+      at : (b : Bool) (p : Process) → has_phase B p.phase ≡ true → has_phase B (cond b p (o.process i)).phase ≡ true
+      at true p h = h
+      at false p h = w.phase i
+
+      go : {m : Move} → VerdictIn B n o c m → has_phase B ((carry_out B order o m).rest.process i).phase ≡ true
+      go (turned y f) = w.phase i
+      go (begins own f) = at (eqb i (place c)) _ refl
+      go (begins_scan own f e) = at (eqb i (place c)) _ e
+      go (scans own f e) = at (eqb i (place c)) _ refl
+      go (updates own e) = at (eqb i (place c)) _ refl
+      go (snaps own Label e t) = at (eqb i (place c)) _ refl
+      go (snaps own Scan e t) = at (eqb i (place c)) _ refl
+      go (ends own Label e f) = at (eqb i (place c)) _ refl
+      go (ends own Scan e f) = at (eqb i (place c)) _ refl
+      go (service own b e) = at (eqb i (place c)) _ (w.phase i)
+
   pub rest_step : (order : Lists.List ℕ) → length order ≡ n → WritableRest B n (carry_out B order o (judge B n o c)).rest
   rest_step order e = let v = verdict_in B n o c in record {
     listed = results_all B order o (Listed n) (scan_listed o.process order e) w.listed (judge B n o c);
-    phase = phases_step B n order o w.phase c;
+    phase = phases_kept v order;
     past = λ i l. process_kept B order o (judge B n o c) i (untouched v i (λ h. absurd (omega arith))) ∙ w.past i l;
     unused = λ g l. result_kept B order o (judge B n o c) g (λ k t q. omega (arith, station_inside z k (touched_own v k t).1)) ∙ w.unused g l;
   }
@@ -106,21 +125,25 @@ module _ (B : Board) (n : ℕ) (z : Sized B n) (s : State Labels.Label) (w : Wri
       y : ℕ
       y = newest n (stands (digits B n) s.labels)
 
-  labels_behind : (v : LabelStep) → Inside B n v → (x : Bool) (i p : ℕ) → 32 * B.per_station - 1 ≤ p
-      → relabelled n (digits B n) s.labels v x i p ≡ B.fill
+  labels_behind : {m : Move} → VerdictIn B n s.rest c m → (x : Bool) (i p : ℕ) → 32 * B.per_station - 1 ≤ p
+      → relabelled n (digits B n) s.labels (label_step m) x i p ≡ B.fill
   unfolding relabelled
-  labels_behind stay a x i p h = w.behind x i p h
-  labels_behind (snap k) a x i p h = by_put (λ b. cond b (pending_after n (digits B n) s.labels k) (s.labels x i) p ≡ B.fill) x k i
-      (λ _. pending_behind k p a.0 h) (w.behind x i p h)
-  labels_behind (whole k) a x i p h =
-      by_put (λ b. cond b (pending_after n (digits B n) s.labels k) (s.labels (x || eqb i k) i) p ≡ B.fill) (x || eqb i k) k i
-      (λ _. pending_behind k p a.0 h) (w.behind (x || eqb i k) i p h)
-  labels_behind (update k) a x i p h = w.behind (x || eqb i k) i p h
+  labels_behind (turned y f) x i p h = w.behind x i p h
+  labels_behind (begins own f) x i p h = w.behind x i p h
+  labels_behind (begins_scan own f e) x i p h = w.behind x i p h
+  labels_behind (scans own f e) x i p h = w.behind x i p h
+  labels_behind (updates own e) x i p h = w.behind (x || eqb i (place c)) i p h
+  labels_behind (snaps own Label e t) x i p h =
+      by_put (λ b. cond b (pending_after n (digits B n) s.labels (place c)) (s.labels x i) p ≡ B.fill) x (place c) i
+      (λ _. pending_behind (place c) p (own_place own) h) (w.behind x i p h)
+  labels_behind (snaps own Scan e t) x i p h = w.behind x i p h
+  labels_behind (ends own o e f) x i p h = w.behind x i p h
+  labels_behind (service own b e) x i p h = w.behind x i p h
 
   pub writable_step : Writable B n (step B n (digits B n) s c).state
   unfolding step
   writable_step = let v = verdict_in B n s.rest c in record {
-    behind = labels_behind _ (inside B n s.rest c);
+    behind = labels_behind v;
     blank = λ x i l. labels_kept n (digits B n) s.labels (judge B n s.rest c) i (untouched v i (λ h. absurd (omega arith))) x ∙ w.blank x i l;
     rest = rest_step B n z s.rest w.rest c (ordered n (stands (digits B n) s.labels)) (ordered_length (stands (digits B n) s.labels) n);
   }

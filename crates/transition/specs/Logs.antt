@@ -3,9 +3,8 @@
 use Rattle.std.specs.Prelude.{ℕ, ◌≡◌, Bool, true, false, ◌&&◌, cond, [], ◌∷◌, ◌++◌, map, length, get_or, drop, eqb, ltb, leb}
 use mathlib.Core.List as Lists
 use Rattle.basics.specs.Tests.{newest}
-use Rattle.simulation.specs.Calls.{Call, Report, Board, judge}
-use Rattle.simulation.specs.Reports.{bytes_of}
-use Rattle.simulation.specs.Machine.{Labelling, stands, LabelStep, stay, snap, update, label_step, State, step, snaps_of, whole}
+use Rattle.simulation.specs.Calls.{Call, Report, bytes_of, Board, judge}
+use Rattle.simulation.specs.Machine.{Labelling, stands, LabelStep, stay, snap, update, label_step, State, step, snaps_of}
 use Rattle.simulation.specs.Machine as Machine
 use Rattle.simulation.specs.Numbered.{numbered, Fits}
 use Rattle.transition.specs.Numbers.{with_numbers}
@@ -23,16 +22,12 @@ pub record Right (B : Board) (n : ℕ) (calls : Lists.List Call) (ns bytes : Lis
 
 -- THE TEST (02, Card 7)
 
--- the first of the numbers left does for a snap by process k, and for what a call asks of the labels
-unfoldable pub fits_snap : ℕ → Labelling ℕ → ℕ → Lists.List ℕ → Bool
-fits_snap n l k [] = false
-fits_snap n l k (v ∷ ns) = let z = newest n (stands (numbered v) l) in cond (eqb k z) (eqb v 0) (ltb (l false z) v && leb v 4294967295)
-
-abbrev pub fits_next : ℕ → Labelling ℕ → LabelStep → Lists.List ℕ → Bool
+-- the first of the numbers left does for what a call asks of the labels
+unfoldable pub fits_next : ℕ → Labelling ℕ → LabelStep → Lists.List ℕ → Bool
 fits_next n l stay ns = true
-fits_next n l (snap k) ns = fits_snap n l k ns
+fits_next n l (snap k) [] = false
+fits_next n l (snap k) (v ∷ ns) = let z = newest n (stands (numbered v) l) in cond (eqb k z) (eqb v 0) (ltb (l false z) v && leb v 4294967295)
 fits_next n l (update k) ns = true
-fits_next n l (whole k) ns = fits_snap n l k ns
 
 -- the second list begins with the first
 unfoldable pub at_front : Lists.List ℕ → Lists.List ℕ → Bool

@@ -12,8 +12,7 @@ use Rattle.label.specs.Rows.{digit}
 use Rattle.simulation.specs.Calls.{Room, Buffer, Panel, Call, Entry, entry, PanelRecord, report_lines, Report, Bytes, Records, original}
 use Rattle.simulation.specs.Machine.{digits, stands, State}
 use Rattle.simulation.specs.Numbering.{numbers_of}
-use Rattle.transition.specs.Forms.{Form, fresh_table, step_of}
-use Rattle.transition.specs.Lent.{after}
+use Rattle.transition.specs.Forms.{Form, fresh_table, step_of, after}
 use Rattle.transition.specs.Questions.{Tells}
 use Rattle.transition.specs.Numbers.{Numbers}
 use Rattle.transition.specs.Logs.{Right}

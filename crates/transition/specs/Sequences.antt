@@ -2,11 +2,9 @@
 use Rattle.std.specs.Prelude.{ℕ, ◌≡◌, ◌≢◌, [], ◌∷◌, map, take}
 use mathlib.Core.List as Lists
 use Rattle.basics.specs.Tests.{All}
-use Rattle.simulation.specs.Calls.{Call, Report, Bytes, Records}
-use Rattle.simulation.specs.Reports.{capacity, size}
+use Rattle.simulation.specs.Calls.{Call, Report, Bytes, Records, capacity, size}
 use Rattle.simulation.specs.Machine as Machine
-use Rattle.transition.specs.Forms.{Form, TableAnswer, step_of}
-use Rattle.transition.specs.Lent.{onto}
+use Rattle.transition.specs.Forms.{Form, TableAnswer, onto, step_of}
 use Rattle.transition.specs.Demand.{seen_in, unbounded, Demand3}
 
 -- the call c on the table t with what is lent for its report: the table left, the refusal number, the count of bytes or records, and what is left of what was

@@ -1,12 +1,11 @@
--- Refusal 13 as it is asked of a state (01, "When a step is turned down"; 02, Cards 2, 4, 8 and 11), on every board and whatever the form of its tables. What a
--- form keeps beside its state, as the places past n, is the form's own.
+-- Refusal 13 as it is asked of a state (01, "When a step is turned down"; 02, Cards 2 and 4), whatever the form of its tables. What a form keeps beside its
+-- state, as the places past n, is the form's own. It is all that 13 asks where a station has one process.
 use Rattle.std.specs.Prelude.{ℕ, suc, ◌+◌, ◌-◌, ◌*◌, Bool, true, false, not, ◌&&◌, ◌||◌, length, get_or, eqb, leb}
 use mathlib.Core.List as Lists
 use Rattle.basics.specs.Tests.{within, every, passing}
 use Rattle.label.specs.Labels as Labels
 use Rattle.label.specs.Rows.{no_ring}
-use Rattle.simulation.specs.Calls.{Board, station_of, sized, idle, Entry, entry, Process, is_alone}
-use Rattle.simulation.specs.Boards.{has_phase}
+use Rattle.simulation.specs.Calls.{Board, station_of, sized, idle, has_phase, Entry, entry, Process}
 use Rattle.simulation.specs.Machine.{has_job, State}
 use Rattle.transition.specs.Forms.{Form}
 
@@ -25,11 +24,10 @@ module _ (B : Board) (n : ℕ) where
       && every (length l) (λ p. let e = get_or l p (entry 0 0) in within 1 n e.station && has_job e.job)
       && every n (λ i. leb (length (passing (λ e. eqb e.station (suc i)) l)) 1)
 
-  -- the state of n processes: both labels of each, one process of a station at work, and no ring among the current labels
+  -- the state of n processes: both labels of each, and no ring among the current ones
   unfoldable pub state_fits : State Labels.Label → Bool
   state_fits s = sized B n
       && every n (λ i. label_fits (s.labels false i) && label_fits (s.labels true i) && process_fits (s.rest.process i))
-      && every n (λ i. idle (s.rest.process i).phase || is_alone B n s.rest i)
       && every (station_of B n) (λ g. list_fits (s.rest.result g))
       && no_ring (n - 1) (s.labels false)
 

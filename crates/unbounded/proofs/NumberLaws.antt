@@ -14,7 +14,7 @@ use Rattle.basics.proofs.Facts.{tf, by_here, ordered_length}
 use Rattle.label.proofs.Digits.{Tri, lt, eq, gt, compare}
 use Rattle.label.proofs.Total.{Total}
 use Rattle.rows.proofs.OrderLaws.{put_in, inserted_at, shift_starts, shift_ends, listed_below, order_in, order_front, order_turns, Displaced, last_newest}
-use Rattle.simulation.specs.Machine.{Labelling, number_before, stands, put, copy, pending_after, LabelStep, stay, snap, update, whole, label_step, relabelled}
+use Rattle.simulation.specs.Machine.{Labelling, number_before, stands, put, pending_after, LabelStep, stay, snap, update, label_step, relabelled}
 use Rattle.simulation.specs.Numbered.{numbered}
 use Rattle.simulation.proofs.Sync.{number_less, number_more, number_same}
 use Rattle.moves.specs.Moves.{move_of}
@@ -24,7 +24,7 @@ use Rattle.moves.proofs.MoveLaws.{by_move}
 use Rattle.arrays.specs.Arrays.{Rows}
 use Rattle.arrays.specs.Planes.{beside}
 use Rattle.arrays.proofs.Planes.{alike, get_d_none}
-use Rattle.unbounded.specs.Numbers.{stands_by, order_by, NumberedBefore, snapped_by, stepped_by}
+use Rattle.unbounded.specs.Numbers.{stands_by, order_by, NumberedBefore, stepped_by}
 
 -- STANDS BEFORE
 
@@ -119,19 +119,14 @@ order_newest n v numbers order e h = last_newest n (stands_by (get_or numbers 0 
 
 -- A MOVE
 
--- where z is the newest, a snap is the machine's, and so is the step
-newest_snap : (n z v : ℕ) (N : Labelling ℕ) (k : ℕ) → z ≡ newest n (stands (numbered v) N) → snapped_by z v N k ≡ put N k (pending_after n (numbered v) N k)
-unfolding pending_after
-newest_snap n z v N k e = by_here (λ b. cond b N (put N k v) ≡ put N k (cond b (N true k) v)) z k
-    (λ _. sym (alike (λ i. refl) (λ i. by_here (λ b. cond b (N true k) (N true i) ≡ N true i) k i (λ f. ap (N true) (sym f)) (λ _. refl))))
-    (λ _. refl) ∙ ap (λ y. put N k (cond (eqb k y) (N true k) v)) e
-
+-- where z is the newest, the step is the machine's
 pub newest_step : (n z v : ℕ) (N : Labelling ℕ) (w : LabelStep) → z ≡ newest n (stands (numbered v) N) → stepped_by z v N w ≡ relabelled n (numbered v) N w
-unfolding relabelled
+unfolding relabelled pending_after
 newest_step n z v N stay e = refl
 newest_step n z v N (update k) e = refl
-newest_step n z v N (snap k) e = newest_snap n z v N k e
-newest_step n z v N (whole k) e = ap (λ M. copy M k) (newest_snap n z v N k e)
+newest_step n z v N (snap k) e = by_here (λ b. cond b N (put N k v) ≡ put N k (cond b (N true k) v)) z k
+    (λ _. sym (alike (λ i. refl) (λ i. by_here (λ b. cond b (N true k) (N true i) ≡ N true i) k i (λ f. ap (N true) (sym f)) (λ _. refl))))
+    (λ _. refl) ∙ ap (λ y. put N k (cond (eqb k y) (N true k) v)) e
 
 module _ (n v : ℕ) (N : Labelling ℕ) (k : ℕ) where
   -- only an update changes a current number, that of its station

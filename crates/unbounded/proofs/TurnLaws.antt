@@ -20,7 +20,7 @@ use Rattle.simulation.specs.Machine.{Labelling, number_before, stands, snap, lab
 use Rattle.simulation.specs.Machine.{fresh_rest, fresh, step, snaps_of}
 use Rattle.simulation.specs.Numbered.{numbered}
 use Rattle.simulation.proofs.Touched.{results_all}
-use Rattle.transition.specs.Logs.{fits_snap, fits_next}
+use Rattle.transition.specs.Logs.{fits_next}
 use Rattle.transition.proofs.Written.{original_sized, WritableRest, rest_step}
 use Rattle.transition.proofs.Reached.{scan_sound, rest_fresh}
 use Rattle.moves.specs.Moves.{move_of, call_of}
@@ -61,7 +61,7 @@ module _ (m : Move) (k z : ℕ) (current log : Lists.List ℕ) (used : ℕ) wher
   module _ (e : m ≡ SnapLabel) where
     snap_fits : used < length log → (n job : ℕ) (N : Labelling ℕ) → N false ≡ (λ i. get_or current i 0) → z ≡ newest n (stands (numbered 0) N)
         → test k z current (get_or log used 0) ≡ fits_next n N (label_step (move_of k job m)) (drop used log)
-    unfolding fits_snap
+    unfolding fits_next
     snap_fits h n job N same q = rw (e, drop-cons log used 0 h)
         (ap₂ (λ y (u : ℕ → ℕ). cond (eqb k y) (eqb (get_or log used 0) 0) (ltb (u y) (get_or log used 0) && leb (get_or log used 0) 4294967295)) q (sym same))
 
@@ -88,12 +88,12 @@ module _ (m : Move) (k z : ℕ) (current log : Lists.List ℕ) (used : ℕ) wher
     number_unfit h a d = none_given (omega (arith, h)) (λ n job N same q. d ∙ ap (test k z current) a ∙ snap_fits h n job N same q)
 
     pub none_left : used ≤ length log → length log ≤ used → GivenTo m k z current log used (record { fits = false; number = 0; taken = 0 })
-    unfolding fits_snap
+    unfolding fits_next
     none_left low h = none_given low (λ n job N same q. rw (e, drop_of_length-le log {i = used} h) refl)
 
   -- any other move
   pub none_taken : m ≢ SnapLabel → used ≤ length log → GivenTo m k z current log used (record { fits = true; number = 0; taken = 0 })
-  unfolding fits_snap
+  unfolding fits_next
   none_taken d low = record {
     passes = λ n job N same q. by_move (λ x. x ≢ SnapLabel → true ≡ fits_next n N (label_step (move_of k job x)) (drop used log))
         (λ x d. refl) (λ d. refl) (λ d. absurd (d refl)) (λ d. refl) (λ d. refl) (λ d. refl) (λ d. refl) (λ d. refl) (λ d. refl) m d;

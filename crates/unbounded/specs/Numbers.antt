@@ -2,7 +2,7 @@
 use Rattle.std.specs.Prelude.{ℕ, ◌-◌, ◌<◌, ◌≡◌, ◌≢◌, Bool, cond, ◌++◌, get_or, replicate, eqb}
 use mathlib.Core.List as Lists
 use Rattle.basics.specs.Tests.{ordered}
-use Rattle.simulation.specs.Machine.{Labelling, put, copy, number_before, LabelStep, stay, snap, update, whole}
+use Rattle.simulation.specs.Machine.{Labelling, put, copy, number_before, LabelStep, stay, snap, update}
 
 -- station i stands before station j, by the numbers in a row
 abbrev pub stands_by : Lists.List ℕ → ℕ → ℕ → Bool
@@ -20,11 +20,7 @@ pub record NumberedBefore (n : ℕ) (numbers : Lists.List ℕ) (k : ℕ) (order 
 
 -- what a step makes of current and pending numbers, where a snap for a label by station z leaves them, and one by another makes v its pending number. If z is
 -- the newest, that is the step of the machine (proofs/NumberLaws.antt: `newest-step`).
-abbrev pub snapped_by : ℕ → ℕ → Labelling ℕ → ℕ → Labelling ℕ
-snapped_by z v N k = cond (eqb k z) N (put N k v)
-
 abbrev pub stepped_by : ℕ → ℕ → Labelling ℕ → LabelStep → Labelling ℕ
 stepped_by z v N stay = N
-stepped_by z v N (snap k) = snapped_by z v N k
+stepped_by z v N (snap k) = cond (eqb k z) N (put N k v)
 stepped_by z v N (update k) = copy N k
-stepped_by z v N (whole k) = copy (snapped_by z v N k) k

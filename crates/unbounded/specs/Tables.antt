@@ -2,8 +2,7 @@
 use Rattle.std.specs.Prelude.{ℕ, ◌+◌, ◌≤◌, ◌<◌, ◌≡◌, true, false, [], length, get_or, drop}
 use mathlib.Core.List as Lists
 use Rattle.basics.specs.Tests.{newest, All}
-use Rattle.simulation.specs.Calls.{Call, Entry, Rest, judge, report_lines, original}
-use Rattle.simulation.specs.Reports.{bytes_of}
+use Rattle.simulation.specs.Calls.{Call, Entry, Rest, judge, bytes_of, report_lines, original}
 use Rattle.simulation.specs.Machine.{Labelling, stands, label_step, label_snap, fresh_rest, State, Answer, step, snaps_of}
 use Rattle.simulation.specs.Numbered.{numbered}
 use Rattle.transition.specs.Logs.{fits_next}

@@ -6,7 +6,7 @@ use native.Mathlib.Omega.{arith}
 use lib.ListN.{length}
 use Rattle.basics.specs.Tests.{tabulate}
 use Rattle.simulation.specs.Calls.{panel_records}
-use Rattle.transition.specs.Lent.{over}
+use Rattle.transition.specs.Forms.{over}
 use Rattle.arrays.specs.Arrays.{entries_in}
 use Rattle.engine.specs.Clauses.{row_of}
 use Rattle.engine.proofs.Reports.{one_record_more}

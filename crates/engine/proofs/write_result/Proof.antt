@@ -9,7 +9,7 @@ use Rattle.basics.specs.Tests.{tabulate}
 use Rattle.columns.specs.Columns.{line_head}
 use Rattle.columns.proofs.Stores.{length_head}
 use Rattle.simulation.specs.Calls.{report_lines}
-use Rattle.transition.specs.Lent.{over}
+use Rattle.transition.specs.Forms.{over}
 use Rattle.arrays.specs.Arrays.{entries_in}
 use Rattle.engine.proofs.Reports.{result_length, one_line_more, head_first, head_stands, head_covered}
 use Rattle.engine.proofs.write_result.Statement.{statement}

@@ -5,7 +5,7 @@ use Prim.Native.Nat.{◌+◌, ◌-◌, ◌≤◌}
 use native.Mathlib.Omega.{arith}
 use lib.ListN.{length, get_or, take, set, length-set}
 use lib.Seq.{take_all}
-use Rattle.transition.specs.Lent.{over}
+use Rattle.transition.specs.Forms.{over}
 use Rattle.file.proofs.FileLaws.{copied_start, copied_more}
 use Rattle.file.proofs.put.Statement.{statement}
 use Rattle.file.proofs.put.Tie as tie

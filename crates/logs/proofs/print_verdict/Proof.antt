@@ -4,7 +4,7 @@ use mathlib.Core.List.{[]}
 use lib.ListN.{length, length-set}
 use borrow.Author.Tests.{eq-eqb, ne_eqb, eqb-true, eqb-false}
 use Rattle.basics.proofs.Loops.{was_true, was_false}
-use Rattle.transition.specs.Lent.{over}
+use Rattle.transition.specs.Forms.{over}
 use Rattle.moves.specs.Moves.{refusal_number}
 use Rattle.schedule.specs.Files.{printed}
 use Rattle.logs.specs.Files.{answer_bytes}

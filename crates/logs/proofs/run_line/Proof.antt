@@ -7,7 +7,7 @@ use mathlib.Core.List.{[]}
 use lib.ListN.{get_or}
 use Rattle.basics.proofs.Loops.{was_true, was_false}
 use Rattle.simulation.specs.Calls.{report_lines}
-use Rattle.transition.specs.Lent.{over}
+use Rattle.transition.specs.Forms.{over}
 use Rattle.arrays.specs.Arrays.{entries_in}
 use Rattle.logs.proofs.Checks.{run_unfit, run_fits}
 use borrow.Author.Rules.{rules}

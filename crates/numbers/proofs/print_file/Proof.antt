@@ -11,7 +11,7 @@ use borrow.Author.Tests.{eq-eqb, ne_eqb, eqb-true, eqb-false}
 use Rattle.basics.proofs.Loops.{was_true, was_false}
 use Rattle.number_lines.specs.Lines.{number_lines}
 use Rattle.number_lines.proofs.Printing.{length_numbers}
-use Rattle.transition.specs.Lent.{over}
+use Rattle.transition.specs.Forms.{over}
 use Rattle.moves.specs.Moves.{refusal_number}
 use Rattle.schedule.specs.Files.{printed}
 use Rattle.numbering.specs.Files.{numbering_refusal, file_numbers, NumbersFile}

@@ -1,5 +1,5 @@
 use mathlib.Core.Path.{◌≡◌, sym, ap, ◌∙◌}
-use Rattle.transition.specs.Lent.{over}
+use Rattle.transition.specs.Forms.{over}
 use Rattle.moves.proofs.MoveLaws.{refuses_yes, refuses_no}
 use Rattle.schedule.specs.Lines.{next_line}
 use Rattle.schedule.specs.Tables.{tables}
