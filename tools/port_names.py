@@ -101,6 +101,8 @@ def main(top):
     for p, names in LEMMAS.items():
         p = os.path.join(top, p)
         for n in names:
+            if n + "_lem" in texts[p]:
+                continue
             texts[p] = re.sub(r"(?<![\w.'-])" + n + r"(?![\w'-])", n + "_lem", texts[p])
     crates = set(os.listdir(os.path.join(top, "crates")))
     module = {}

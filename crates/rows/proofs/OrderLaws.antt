@@ -17,7 +17,7 @@ use Rattle.basics.proofs.Facts.{First, first, all_at, each_all, ordered_all, ord
 use Rattle.basics.proofs.Passing.{without, without_all}
 use Rattle.label.proofs.RowLaws.{ringless}
 use Rattle.label.proofs.Total.{Total, total, newest_only, one_way, other_way, Sorted, ordered_sorted, without_sorted, without_at, without_alike, put_back}
-use Rattle.rows.specs.Held.{held, stands_in, Orderly, OrderedBefore, left_out_lem, taken_out_lem, place_among}
+use Rattle.rows.specs.Held.{held, stands_in, Orderly, OrderedBefore, left_out, taken_out, place_among}
 
 -- LISTS
 
@@ -87,28 +87,28 @@ module _ {A : Type 0} where
     shift_ends q x r e v = rw e (put_stored (take k l) (drop (k + 1) l) q (get_or l q d) x (omega (arith, front)))
 
 module _ {A : Type 0} where
-  left_out_next : (l : List A) (q : ℕ) (x : A) → left_out_lem (suc q) (x ∷ l) ≡ x ∷ left_out_lem q l
+  left_out_next : (l : List A) (q : ℕ) (x : A) → left_out (suc q) (x ∷ l) ≡ x ∷ left_out q l
   left_out_next l q x = let e : suc q + 1 ≡ suc (q + 1) = omega arith in rw e refl
 
   -- the one behind place p is copied there, and is left out in its place
-  moves : (l : List A) (p : ℕ) (d : A) → suc p < length l → left_out_lem (suc p) (set l p (get_or l (suc p) d)) ≡ left_out_lem p l
+  moves : (l : List A) (p : ℕ) (d : A) → suc p < length l → left_out (suc p) (set l p (get_or l (suc p) d)) ≡ left_out p l
   moves [] p d h = absurd (omega arith)
   moves (x ∷ l) zero d h = sym (drop-cons l 0 d (omega arith))
   moves (x ∷ l) (suc p) d h =
       left_out_next (set l p (get_or l (suc p) d)) (suc p) x ∙ ap (λ r. x ∷ r) (moves l p d (omega arith)) ∙ sym (left_out_next l p x)
 
-  pub left_out_moves : (l : List A) (p : ℕ) (d : A) → p + 1 < length l → left_out_lem (p + 1) (set l p (get_or l (p + 1) d)) ≡ left_out_lem p l
+  pub left_out_moves : (l : List A) (p : ℕ) (d : A) → p + 1 < length l → left_out (p + 1) (set l p (get_or l (p + 1) d)) ≡ left_out p l
   left_out_moves l p d h = rw (← add-one p) at (moves l p d (omega arith))
 
   -- what stands past place p is as it was: so is the array with the one at place q taken out
   pub past_kept : (l l₀ : List A) (p : ℕ) (v : A) → drop p l ≡ drop p l₀ → drop (p + 1) (set l p v) ≡ drop (p + 1) l₀
   past_kept l l₀ p v e = drop-set-lt (p + 1) l p v (omega arith) ∙ sym (drop-drop 1 p l) ∙ ap (drop 1) e ∙ drop-drop 1 p l₀
 
-  pub taken_out_lem : (l l₀ : List A) (p q : ℕ) → p ≤ length l → left_out_lem p l ≡ left_out_lem q l₀ → drop p l ≡ drop p l₀ → l ≡ taken_out_lem p q l₀
+  pub taken_out_lem : (l l₀ : List A) (p q : ℕ) → p ≤ length l → left_out p l ≡ left_out q l₀ → drop p l ≡ drop p l₀ → l ≡ taken_out p q l₀
   taken_out_lem l l₀ p q h e f = sym (take-append-drop p l)
       ∙ ap₂ (λ a b. a ++ b) (sym (take_at (take p l) (drop (p + 1) l) p (length-take-le p l h)) ∙ ap (take p) e) f
 
-  left_out_front : (l rest : List A) (q : ℕ) → q < length l → left_out_lem q (l ++ rest) ≡ left_out_lem q l ++ rest
+  left_out_front : (l rest : List A) (q : ℕ) → q < length l → left_out q (l ++ rest) ≡ left_out q l ++ rest
   left_out_front l rest q h = rw (take-append-le q l rest (omega arith), drop-append-le (q + 1) l rest (omega arith), append_assoc) refl
 
 -- the stations s in the first m places of an array
@@ -245,13 +245,13 @@ module _ {w n k : ℕ} {b : ℕ → ℕ → Bool} {l : List ℕ} (d : Displaced 
       (λ h. absurd (ordered_each (λ j. j ≢ k) d.before n (each_all (λ j. j ≢ k) old 0
       (λ q u. rw (← read q (omega (arith, old_long))) (eqb-false _ k (place.earlier q (omega arith) (omega (arith, old_long)))))) k d.inside refl))
 
-  left_out_lem : left_out_lem p l ≡ others ++ zeros
+  left_out_lem : left_out p l ≡ others ++ zeros
   left_out_lem =
       let h : p < length old = omega (arith, place_found, old_long) in
       let here = sym (read p place_found) ∙ eqb-true _ k (place.found (omega (arith, place_found))) in
-      let out : without k old ≡ left_out_lem p old
+      let out : without k old ≡ left_out p old
       = rw (add-one p) (without_at d.then k d.inside old (ordered_sorted n d.before d.then n (omega arith)) p 0 h here) in
-      ap (left_out_lem p) d.listed ∙ left_out_front old zeros p h
+      ap (left_out p) d.listed ∙ left_out_front old zeros p h
       ∙ ap (λ r. r ++ zeros) (sym out ∙ without_alike n d.before b d.then d.now k d.alike n (omega arith))
 
   back : inserted b k others ≡ ordered n b
@@ -262,7 +262,7 @@ module _ {w n k : ℕ} {b : ℕ → ℕ → Bool} {l : List ℕ} (d : Displaced 
   others_long = omega (arith, inserted_length b k others, ap length back, ordered_length b n)
 
   -- k taken out: r lists the others in the first n - 1 places
-  module _ (r : List ℕ) (e : r ≡ taken_out_lem m p l) where
+  module _ (r : List ℕ) (e : r ≡ taken_out m p l) where
     moved_up : r ≡ others ++ drop m l
     moved_up = e ∙ ap (λ t. t ++ drop m l) (ap (take m) left_out_lem ∙ take_at others zeros m others_long)
 

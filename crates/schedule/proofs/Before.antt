@@ -24,8 +24,8 @@ use Rattle.moves.specs.Moves.{refusal_number}
 use Rattle.moves.specs.declared.Refusal.{Refusal}
 use Rattle.moves.specs.declared.Refusal.TheVariants.{Accepted, TooManyLines}
 use Rattle.schedule.specs.Tables.{Tables, tables}
-use Rattle.schedule.specs.Lines.{line_read_lem, next_line, header_said, header_read, line_call}
-use Rattle.schedule.specs.Sessions.{Session, session, Served, ended, step_line_lem}
+use Rattle.schedule.specs.Lines.{line_read, next_line, header_said, header_read, line_call}
+use Rattle.schedule.specs.Sessions.{Session, session, Served, ended, step_line}
 use Rattle.schedule.specs.Files.{step_lines, refusal_line, printed, run_lines, file_report}
 use Rattle.schedule.specs.Scans.{scan_lines}
 use Rattle.schedule.specs.Before.{as_states, Followed, ScansAsBefore}
@@ -50,10 +50,10 @@ abbrev shown : Call → Machine.Answer Labels.Label → Lists.List ℕ
 shown c a = printed c.line a.refusal (bytes_of a.report)
 
 -- a line that is a step when it follows others is one by itself
-read_step : (lines : ℕ) (l : Lists.List ℕ) (station code job : ℕ) → next_line lines l ≡ Step station code job → line_read_lem l ≡ Step station code job
+read_step : (lines : ℕ) (l : Lists.List ℕ) (station code job : ℕ) → next_line lines l ≡ Step station code job → line_read l ≡ Step station code job
 read_step lines l station code job = go (ltb 1000000 lines)
   where
-    go : (b : Bool) → cond b (Refused TooManyLines) (line_read_lem l) ≡ Step station code job → line_read_lem l ≡ Step station code job
+    go : (b : Bool) → cond b (Refused TooManyLines) (line_read l) ≡ Step station code job → line_read l ≡ Step station code job
     go true e = let z : ◌≡◌ {A = ℕ} 0 1 = cc in absurd (omega arith)
     go false e = e
 
@@ -85,7 +85,7 @@ module _ (n : ℕ) where
     abbrev start : Session Stated
     start = session lines Accepted (stated n s)
 
-    line_read_lem : (w : Line) → next_line lines l ≡ w → let o = step_line_lem (tables F) start w in
+    line_read_lem : (w : Line) → next_line lines l ≡ w → let o = step_line (tables F) start w in
         report_from y lines s (l ∷ ls) ≡ printed (lines + 1) o.refusal o.bytes ++ (run_lines (tables F) o.session ls).bytes
     line_read_lem w e = ap (λ (o : Served Stated). o.bytes) (run_on (tables F) start l ls refl)
         ∙ ap (λ (o : Served Stated). printed (lines + 1) o.refusal o.bytes ++ (run_lines (tables F) o.session ls).bytes)
@@ -141,7 +141,7 @@ module _ (n : ℕ) where
         ∙ sym (ap scan_lines (line_step true lines s l ls station code job e _ x.begins))
 
     -- the line after it is refused by 4 where the scan is done, and prints nothing where its snap is due; past the last line allowed both refuse it by 12
-    agree_snap : (s : State Labels.Label) (c : Call) (x : Scans n (digits original n) s c) → line_read_lem l ≡ Step c.station 3 0
+    agree_snap : (s : State Labels.Label) (c : Call) (x : Scans n (digits original n) s c) → line_read l ≡ Step c.station 3 0
         → Agree (lines + 1) x.scanned x.scanned ls → Agree lines x.scanned x.begun (l ∷ ls)
     unfolding report_lines
     agree_snap s c x e rest = go (ltb 1000000 lines) refl
@@ -166,7 +166,7 @@ module _ (n : ℕ) where
 
     -- any line, where the lines after it agree from one state, and from the two that the begin of a scan leaves
     agree_line : (s : State Labels.Label) → ((s' : State Labels.Label) → Agree (lines + 1) s' s' ls)
-        → ((c : Call) → line_read_lem l ≡ Step c.station 2 c.job → (x : Scans n (digits original n) s c) → Agree (lines + 1) x.scanned x.begun ls)
+        → ((c : Call) → line_read l ≡ Step c.station 2 c.job → (x : Scans n (digits original n) s c) → Agree (lines + 1) x.scanned x.begun ls)
         → Agree lines s s (l ∷ ls)
     agree_line s same begun = go (next_line lines l) refl
       where
@@ -174,7 +174,7 @@ module _ (n : ℕ) where
             (answered true s c ≡ answered false s c) ⊎ Scans n (digits original n) s c → Agree lines s s (l ∷ ls)
         step_line_lem station code job e (inl h) = agree_same s station code job e h same
         step_line_lem station code job e (inr x) =
-            let read : line_read_lem l ≡ Step station 2 job = read_step lines l station code job e ∙ ap (λ k. Step station k job) x.code in
+            let read : line_read l ≡ Step station 2 job = read_step lines l station code job e ∙ ap (λ k. Step station k job) x.code in
             agree_begin s station code job e x (begun (line_call original lines station code job) read x)
 
         go : (w : Line) → next_line lines l ≡ w → Agree lines s s (l ∷ ls)
@@ -210,7 +210,7 @@ scans_as_before F L same bs f = ap scan_lines (same_report F (as_states original
     said (Step station code job) = refl
 
     also : {h : Header} → header_read original (take 18 bs) ≡ h → header_read apart (take 18 bs) ≡ h
-    also e = unfold header_read in said (line_read_lem (take 18 bs)) ∙ unfold header_read in e
+    also e = unfold header_read in said (line_read (take 18 bs)) ∙ unfold header_read in e
 
     go : (h : Header) → header_read original (take 18 bs) ≡ h → scan_lines (file_report now bs) ≡ scan_lines (file_report before bs)
     go (Headers.Refused r) e = ap scans (file_refused now bs r e) ∙ sym (ap scans (file_refused before bs r (also e)))

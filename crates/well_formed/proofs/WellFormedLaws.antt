@@ -5,7 +5,7 @@ use mathlib.Core.Logic.{by_cases}
 use Rattle.basics.specs.Tests.{within, every, count}
 use Rattle.basics.proofs.Facts.{and_both, both, last, left_no, within_true, within_of, every_all, every_at, every_same, get_d_tabulate, get_d_any}
 use Rattle.basics.proofs.Loops.{same_test, every_and}
-use Rattle.label.specs.Rows.{digit, row_fits_lem, no_ring}
+use Rattle.label.specs.Rows.{digit, row_fits, no_ring}
 use Rattle.well_formed.specs.Loops.{tops, fits_at, half_fits, both_fit, control_at, none_from}
 use Rattle.arrays.specs.Arrays.{Arrays, Planes, Rows, cell, shown_in, label_row}
 use Rattle.arrays.specs.WellFormed.{entry_fits, result_fits, result_fresh, control_fits, control_fresh, station_fits, place_fresh, well_formed}
@@ -34,8 +34,8 @@ parts f a b k l h = same_test _ _
     (λ v. every_at a f t.0 p v)
     (λ v. let q : p ≡ b + (p - b) = omega arith in ap f q ∙ every_at (k - b) _ t.1 (p - b) (omega arith))))
 
-row_fits_lem : (m : ℕ) (l : List ℕ) → m ≤ 31 → length l ≡ 31 → every 31 (fits_at m l) ≡ row_fits_lem 31 m l
-unfolding row_fits_lem
+row_fits_lem : (m : ℕ) (l : List ℕ) → m ≤ 31 → length l ≡ 31 → every 31 (fits_at m l) ≡ row_fits 31 m l
+unfolding row_fits
 row_fits_lem m l h long = parts (fits_at m l) m m 31 (omega arith) h
     ∙ ap₂ ◌&&◌ (every_same m _ _ (λ p u. rw (lt-ltb p m u, get_d_any l p 0 1 (omega arith)) refl)) (every_same (31 - m) _ _ (λ p u. past p (omega arith)))
   where
@@ -47,7 +47,7 @@ row_fits_lem m l h long = parts (fits_at m l) m m 31 (omega arith) h
     past p u = rw (le-ltb (m + p) m (omega arith), get_d_any l (m + p) 0 1 (omega arith)) (one (digit l (m + p)))
 
 -- two labels fit if both halves do
-both_fit_lem : (m : ℕ) (x y : List ℕ) → m ≤ 31 → length x ≡ 31 → length y ≡ 31 → (half_fits m x y 0 && half_fits m x y 15) ≡ (row_fits_lem 31 m x && row_fits_lem 31 m y)
+both_fit_lem : (m : ℕ) (x y : List ℕ) → m ≤ 31 → length x ≡ 31 → length y ≡ 31 → (half_fits m x y 0 && half_fits m x y 15) ≡ (row_fits 31 m x && row_fits 31 m y)
 both_fit_lem m x y h e f = ap (λ b. b && half_fits m x y 15) (every_same 16 _ fit (λ p _. ap fit (zero-add p)))
     ∙ sym (parts fit 16 15 31 (omega arith) (omega arith)) ∙ every_and 31 _ _ ∙ ap₂ ◌&&◌ (row_fits_lem m x h e) (row_fits_lem m y h f)
   where

@@ -2,7 +2,7 @@ use Prim.Native.Nat.{ℕ, ◌-◌, ◌≤◌}
 use mathlib.Core.Path.{◌≡◌, refl, ap, ◌∙◌}
 use native.Mathlib.Omega.{arith}
 use lib.ListN.{length, drop}
-use Rattle.rows.specs.Held.{left_out, taken_out_lem}
+use Rattle.rows.specs.Held.{left_out, taken_out}
 use Rattle.rows.proofs.OrderLaws.{left_out_moves, past_kept, taken_out_lem}
 use borrow.Author.Rules.{rules}
 use Rattle.rows.proofs.order.remove_at.Statement.{statement}
@@ -27,7 +27,7 @@ returns c =
     let at = c.before.loop in
     let args = c.before.before.args in
     let e : at.p ≡ args.m = omega arith in
-    taken_out_lem at.order args.order.now at.p args.q (omega arith) at.invariant.2 at.invariant.3 ∙ ap (λ (p : ℕ). taken_out_lem p args.q args.order.now) e
+    taken_out_lem at.order args.order.now at.p args.q (omega arith) at.invariant.2 at.invariant.3 ∙ ap (λ (p : ℕ). taken_out p args.q args.order.now) e
 
 pub remove-at-spec : {M : Type 1} → statement M
 remove-at-spec = tie.close (tie.spec invariant-loop decreases-loop loop-holds (λ c. search rules) (λ c. search rules)
