@@ -114,6 +114,7 @@ def main(top):
         parts |= {n for n in more if odd(n)}
         rel = os.path.relpath(p, os.path.join(top, "crates"))[: -len(".antt")].split("/")
         module["Rattle." + ".".join(rel)] = names | more
+    aliased = re.compile(r"^use\s+(Rattle\.\w+\.[\w.]+?)\s+as\s+(\w+)", re.M)
     bring = re.compile(r"use\s+(Rattle\.(\w+)\.[\w.+'-]+?)(?:\.\{([^}]*)\}|\s+as\s+(\w+))", re.S)
 
     def scope(p, t):
@@ -148,6 +149,10 @@ def main(top):
             if len(v) > 1:
                 print(f"{p}: {v} fall together")
                 bad += 1
+        for m in aliased.finditer(t):
+            for n in module.get(m.group(1), ()):
+                if odd(n):
+                    t = re.sub(r"(?<![\w.'-])" + m.group(2) + r"\." + re.escape(n) + r"(?![\w'-])", m.group(2) + "." + snake(n), t)
         new[p] = turn(t, mine, parts, p)
     for p, t in texts.items():
         if p.endswith(".edit"):

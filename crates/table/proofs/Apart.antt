@@ -81,7 +81,7 @@ declared_back Snap = refl
 declared_back Update = refl
 declared_back (End o) = ap End (operation_back o)
 
-declared_kept : (p : Phase) → Calls.hasPhase Calls.original (phase_of p) ≡ true
+declared_kept : (p : Phase) → Calls.has_phase Calls.original (phase_of p) ≡ true
 declared_kept Idle = refl
 declared_kept Snap = refl
 declared_kept Update = refl

@@ -274,5 +274,5 @@ logged {F} {n} {calls} {ns} N few = record {
     ys : Lists.List (Answer ℕ)
     ys = with_numbers F.board n ns calls
 
-    low : Demand.tableSnaps F (fresh_table F n) calls ≤ 4294967295
+    low : Demand.table_snaps F (fresh_table F n) calls ≤ 4294967295
     low = omega (arith, N.each, N.fits.one, met_few F.board n calls (fresh 0) ns)

@@ -23,8 +23,8 @@ use Rattle.transition.proofs.Theorem.{Lawful, reached_held, reached_passes, reac
 module _ (F : Form) (L : Lawful F) (n : ℕ) (z : Sized F.board n) where
   -- whether snaps are the newest's is told alike by the table of a reached state and by the machine
   newest_written : (cs : Lists.List Call) (s : State Labels.Label) → Reached F.board n s
-      → table_newest_snaps F (F.written n s) cs ≡ Numbered.newestSnaps F.board n (digits F.board n) s cs
-  unfolding table_newest_snaps Numbered.newestSnaps
+      → table_newest_snaps F (F.written n s) cs ≡ Numbered.newest_snaps F.board n (digits F.board n) s cs
+  unfolding table_newest_snaps Numbered.newest_snaps
   newest_written [] s r = refl
   newest_written (c ∷ cs) s r = rw (reached_passes F L n z r, reached_written F L n z r c)
       (ap₂ ◌++◌ here (newest_written cs (step F.board n (digits F.board n) s c).state (reached_next F L n z r c)))
