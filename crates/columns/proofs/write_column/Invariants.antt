@@ -1,0 +1,10 @@
+use mathlib.Core.Path.{◌∙◌}
+use lib.ListN.{length}
+use Rattle.columns.proofs.Stores.{Filled}
+use Rattle.columns.proofs.write_column.Given as goal
+
+abbrev pub invariant-loop-i : goal.invariant-loop-i
+invariant-loop-i l = Filled (length l.initial.out) l.v l.out l.i l.rest
+
+abbrev pub decreases-loop-i : goal.decreases-loop-i
+decreases-loop-i l = l.i
