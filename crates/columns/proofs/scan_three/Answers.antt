@@ -28,17 +28,17 @@ pub returns-in_default-with_front : goal.returns-in_default-with_front
 returns-in_default-with_front c =
     let y = c in
     let s = y.args in
-    sym (scan_three s.a s.b s.c ∙ rw (first_taken y, sym c.in_default-with_front.ensures) refl)
+    sym (scan_three s.a s.b s.c ∙ rw (first_taken (goal.at.returns-in_default-with_front c).In-Value, sym c.in_default-with_front.ensures) refl)
 
 pub returns : goal.returns
 returns c =
     let x = c in
     let y = x in
     let s = y.args in
-    c.with_digit.ensures ∙ sym (scan_three s.a s.b s.c ∙ rw (first_taken y, second-taken x) refl)
+    c.with_digit.ensures ∙ sym (scan_three s.a s.b s.c ∙ rw (first_taken (goal.at.returns c).In-Value, second-taken (goal.at.returns c).In-Value-with_front) refl)
 
 pub with_front-requires-2 : goal.with_front-requires-2
-with_front-requires-2 c = pow_below _ 1 18 (first_small c) (omega arith)
+with_front-requires-2 c = pow_below _ 1 18 (first_small (goal.at.with_front-requires-2 c).In-Value) (omega arith)
 
 pub with_digit-requires : goal.with_digit-requires
-with_digit-requires c = let x = c in pow_below _ 2 18 (front_grows 1 _ _ _ (first_small x) (second-taken x)) (omega arith)
+with_digit-requires c = let x = c in pow_below _ 2 18 (front_grows 1 _ _ _ (first_small (goal.at.with_digit-requires c).In-Value) (second-taken (goal.at.with_digit-requires c).In-Value-with_front)) (omega arith)
