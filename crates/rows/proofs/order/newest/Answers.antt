@@ -1,4 +1,3 @@
-use Prim.Native.Nat.{◌-◌, ◌≤◌}
 use native.Mathlib.Omega.{arith}
 use Rattle.rows.proofs.NewestLaws.{leads_one, leads_all}
 use borrow.Author.Rules.{rules}

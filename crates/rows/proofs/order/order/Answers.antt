@@ -1,4 +1,3 @@
-use Prim.Native.Nat.{◌-◌, ◌≤◌}
 use mathlib.Core.Path.{◌≡◌, refl, sym, ap, ◌∙◌}
 use native.Mathlib.Omega.{arith}
 use Rattle.basics.specs.Tests.{ordered}
@@ -17,11 +16,11 @@ slice_bounds-position-end c = sym (order_long 32 _ _ _ c.loop-k.invariant.1 (ome
 pub position-q-requires : goal.position-q-requires
 position-q-requires c =
     let inv = c.loop-k.invariant.1 in record {
-  orderly = c.requires;
-  k_lt_n = (search rules, omega (arith, order_long 32 _ _ _ inv (omega arith)));
-  by_index = order_others 32 _ _ _ inv _ (omega arith);
-  by_index_2 = order_sorted 32 _ _ _ inv (orderly_total _ _ c.requires) (omega arith);
-}
+      orderly = c.requires;
+      k_lt_n = (search rules, omega (arith, order_long 32 _ _ _ inv (omega arith)));
+      by_index = order_others 32 _ _ _ inv _ (omega arith);
+      by_index_2 = order_sorted 32 _ _ _ inv (orderly_total _ _ c.requires) (omega arith);
+    }
 
 pub slice_bounds-insert_at-end : goal.slice_bounds-insert_at-end
 slice_bounds-insert_at-end c = sym (order_long 32 _ _ _ c.loop-k.invariant.1 (omega arith))

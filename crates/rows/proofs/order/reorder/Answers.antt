@@ -14,11 +14,11 @@ position-q-requires c =
     let d = relabelled pre.orderly pre.k_lt_n pre.ordered_before in
     let out = c.take_out.ensures in
     record {
-  orderly = pre.orderly;
-  k_lt_n = (pre.k_lt_n, omega (arith, others_room d _ out));
-  by_index = others_listed d _ out;
-  by_index_2 = others_sorted d _ out;
-}
+      orderly = pre.orderly;
+      k_lt_n = (pre.k_lt_n, omega (arith, others_room d _ out));
+      by_index = others_listed d _ out;
+      by_index_2 = others_sorted d _ out;
+    }
 
 pub insert_at-requires : goal.insert_at-requires
 insert_at-requires c =

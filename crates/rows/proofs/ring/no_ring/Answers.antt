@@ -1,10 +1,7 @@
-use Prim.Native.Nat.{◌-◌, ◌≤◌}
 use native.Mathlib.Omega.{arith}
-use mathlib.Core.Path.{◌≡◌, sym, ◌∙◌}
-use mathlib.Core.Bool.{true}
+use mathlib.Core.Path.{sym, ◌∙◌}
 use borrow.Author.Rules.{rules}
 use Rattle.basics.proofs.Facts.{every_no}
-use Rattle.rows.specs.Held.{no_ring_at}
 use Rattle.basics.proofs.Loops.{every_none, every_more, every_done}
 use Rattle.rows.proofs.Rings.{no_ring_each}
 use Rattle.rows.proofs.ring.no_ring.Goals as goal
