@@ -8,8 +8,8 @@ use mathlib.Core.Path.{◌≡◌, refl, sym, ap, subst}
 use Prim.Native.Nat.{ℕ, suc}
 use mathlib.Core.List.{[], ◌∷◌, List}
 use seplogic.Ra.Ura.{Ura}
-use seplogic.Ra.TreeShare.{full_share}
-use mir.Syntax.{Ty, Name, Fn, named, mut, ty_ref, deref, field, place, copy, local, value_local, rv_opd, seq, assign, call, return}
+use base.Fraction.{full_share}
+use mir.Syntax.{Ty, Callee, Fn, named, mut, ty_ref, deref, field, place, copy, local, value_local, rv_opd, seq, assign, call, return}
 use mir.Val.{Val, vptr}
 use base.Logic.{SProp, ent, emp, via, fst∗, id⊢}
 use base.Fml.{GName, fat, flft, fobs, fbor}
@@ -91,10 +91,12 @@ module _ {T R : Plainly} (S : Both T R) (b : Beside) (k : ℕ) where
   }
 
   -- ---- the MIR of the call, which calls the key
-  abbrev pub lent_function : Name → Fn
+  abbrev pub lent_function : Callee → Fn
   lent_function key = record {
     lifetimes = suc (lives b);
     outlives = [];
+    ty_params = [];
+    givens = 0;
     params = suc (past k (beyond b 0));
     locals = local R.mir value_local ∷ local (ty_ref (named 0) mut (pointee T.R.written)) value_local
         ∷ locals k (buffer_local 1 b (local (layout S) value_local ∷ local T.mir value_local ∷ borrow_locals b []));
@@ -124,7 +126,7 @@ stand 𝓤 H S none k bs p r₀ r₁ i j = tt
 stand 𝓤 H S (slice X) k bs p r₀ r₁ i j = let at = past_is 𝓤 H k bs (buffer_env 1 (slice X) p (rest S (slice X) r₀ r₁ i j)) in (at 0, at 3, at 4)
 
 module _ {M : Type 1} {𝓤 : Ura M} (𝓛 : Logic 𝓤) {T R : Plainly} (S : Both T R) (b : Beside) (k : ℕ)
-    (Q : Says S b k) (key : Name) (κs : Lfts (suc (lives b))) (qs : Shares (suc (lives b))) (m o : ℕ) (γ : GName) (h : T.R.Denot) (ns : Nums k)
+    (Q : Says S b k) (key : Callee) (κs : Lfts (suc (lives b))) (qs : Shares (suc (lives b))) (m o : ℕ) (γ : GName) (h : T.R.Denot) (ns : Nums k)
     (x : Denots (types_at (buffer b) κs)) (fit : Fit k ns) (fine : Fine b (held b κs x)) where
   open 𝓛 use {H}
 
@@ -179,10 +181,10 @@ module _ {M : Type 1} {𝓤 : Ura M} (𝓛 : Logic 𝓤) {T R : Plainly} (S : Bo
   abbrev to : (Step S b k Q 𝓛).Ghost
   to = ((κs.1, qs.1, tt, a', av'), tt)
 
-  goes : ent 𝓤 (⋆ 𝓛 (raw (toks 𝓛 (lives b) κs.1 qs.1) ∷ ‵ (owns (types_at (buffer' b) κs.1) x' vs') ∷ ‵ (T.R.own h (tv h ∷ [])) ∷ []))
+  goes : ent 𝓤 (⋆ 𝓛 (raw (toks 𝓛 (lives b) κs.1 qs.1) ∷ ‵ (owns (types_at (buffer' b) κs.1) x' vs') ∷ ‵ (T.R.own_val h (tv h ∷ [])) ∷ []))
       ((Step S b k Q 𝓛).pre to)
   goes =
-      qed 𝓛 (raw (toks 𝓛 (lives b) κs.1 qs.1) ∷ ‵ (owns (types_at (buffer' b) κs.1) x' vs') ∷ ‵ (T.R.own h (tv h ∷ [])) ∷ []) ∵ move !
+      qed 𝓛 (raw (toks 𝓛 (lives b) κs.1 qs.1) ∷ ‵ (owns (types_at (buffer' b) κs.1) x' vs') ∷ ‵ (T.R.own_val h (tv h ∷ [])) ∷ []) ∵ move !
       (1 ∷ []) $
       use1 𝓛 (‵ (owns (types_at (nums k (buffer' b)) κs.1) a'.1 av'.1)) (own_all 𝓛 κs.1 (buffer' b) x' vs' k ns fit) $
       move ! (2 ∷ 0 ∷ []) $ fjoin ! $
@@ -238,7 +240,7 @@ module _ {M : Type 1} {𝓤 : Ura M} (𝓛 : Logic 𝓤) {T R : Plainly} (S : Bo
         (read_nums ! 7 k bs ns κs.1 (buffer' b) vs' (λ i. suc (suc i)) (buffer_env 1 b p (rest S b r₀ r₁ i j)) refl (λ i. refl)
         (read_borrow ! 1 1 b κs x k 2 p i j (stand 𝓤 H S b k bs p r₀ r₁ i j) refl)))
         (λ v.
-        use1 𝓛 (later (some (λ (r : S.R.Denot). (raw (toks 𝓛 (lives b) κs.1 qs.1) ⊛ ‵ (S.R.own r (v ∷ []))) ⊛ raw
+        use1 𝓛 (later (some (λ (r : S.R.Denot). (raw (toks 𝓛 (lives b) κs.1 qs.1) ⊛ ‵ (S.R.own_val r (v ∷ []))) ⊛ raw
         (ensured 𝓛 (step_ended S b k) (step_clauses S b k Q 𝓤) κs.1 a' tt r)))) (id⊢ 𝓤 _) $ await ! tt $ pick ! (λ r.
         -- what the step ensures, at some last contents of the buffer
         split ! $ move ! (1 ∷ []) $ use1 𝓛 (some (λ (ws : Lasts (step_ended S b k) κs.1 a'). ‵ (lasting (step_ended S b k) κs.1 a' ws) ⊛ raw
@@ -270,7 +272,7 @@ module _ {M : Type 1} {𝓤 : Ura M} (𝓛 : Logic 𝓤) {T R : Plainly} (S : Bo
         (clause_out κs.1 (buffer' b) x' k (Said' r) ns ws.1 e)) f (S.is_second r _ is)))))))))))))))))
 
 module _ {M : Type 1} {𝓤 : Ura M} (𝓛 : Logic 𝓤) {T R : Plainly} (S : Both T R) (b : Beside) (k : ℕ)
-    (Q : Says S b k) (key : Name) where
+    (Q : Says S b k) (key : Callee) where
   -- the numbers and the buffer, and their machine values
   open 𝓛 use {H}
 
@@ -294,7 +296,7 @@ module _ {M : Type 1} {𝓤 : Ura M} (𝓛 : Logic 𝓤) {T R : Plainly} (S : Bo
       (fit_of κs (buffer b) (spell b κs) k a.1 are.1) (fine_of b κs (back κs (buffer b) k a.1)
       (are_of κs (buffer b) (spell b κs) k a.1 are.1)) C Λ fm known)))
 
-lent_meets : {T R : Plainly} (S : Both T R) (b : Beside) (k : ℕ) (Q : Says S b k) (key : Name) {M : Type 1} {𝓤 : Ura M} (𝓛 : Logic 𝓤)
+lent_meets : {T R : Plainly} (S : Both T R) (b : Beside) (k : ℕ) (Q : Says S b k) (key : Callee) {M : Type 1} {𝓤 : Ura M} (𝓛 : Logic 𝓤)
     → (𝓣 : Tables 𝓤 𝓛.H) → Triple 𝓤 (𝓣.C key) (Step S b k Q 𝓛)
     → Triple 𝓤 (WpFn 𝓤 𝓛.H 𝓣.C 𝓣.Λ (lent_function S b k key)) (Lend S b k Q 𝓛)
 lent_meets {T} S b k Q key {𝓤 = 𝓤} 𝓛 𝓣 known =
@@ -306,7 +308,7 @@ lent_meets {T} S b k Q key {𝓤 = 𝓤} 𝓛 𝓣 known =
     (lent_walks 𝓛 S b k Q key 𝓣.C 𝓣.Λ (fm_of 𝓤 𝓛.H 𝓛.laws 𝓣) known)
 
 pub lent_spec : {T R : Plainly} (S : Both T R) (b : Beside) (k : ℕ) (Q : Says S b k) {M : Type 1} {𝓤 : Ura M} (𝓛 : Logic 𝓤) (𝓜 : Model 𝓤 𝓛.H)
-    (𝓡 : Running 𝓤 𝓛.H 𝓜) (γ : Env) (n key : Name) (r : Routine) → γ key ≡ r
+    (𝓡 : Running 𝓤 𝓛.H 𝓜) (γ : Env) (n key : Callee) (r : Routine) → γ key ≡ r
     → Closed 𝓤 𝓛.H (tables 𝓤 𝓛.H 𝓜 𝓡 γ).C (tables 𝓤 𝓛.H 𝓜 𝓡 γ).Λ n (lent_function S b k key)
     → Triple 𝓤 (𝓡.run r) (Step S b k Q 𝓛) → Triple 𝓤 (𝓡.run (γ n)) (Lend S b k Q 𝓛)
 lent_spec S b k Q {𝓤 = 𝓤} 𝓛 𝓜 𝓡 γ n key r at closed =

@@ -3,7 +3,7 @@
 --     Fulfils M r c     the routine r meets the contract c, whatever the model: what the proof of a function states
 use mathlib.Core.Path.{◌≡◌}
 use seplogic.Ra.Ura.{Ura}
-use mir.Syntax.{Name, Fn}
+use mir.Syntax.{Callee, Fn}
 use prog.Model.{Model}
 use prog.Routine.{Routine, Env}
 use prog.Wp.{Heap, WpFn, Tables, Closed}
@@ -12,7 +12,7 @@ use contract.Running.{Running, tables, tables_of}
 use denote.Triple.Statement.{Contract, Triple}
 use denote.Triple.Table.{entered, cited}
 
-pub linked : {M : Type 1} (𝓤 : Ura M) (H : Heap 𝓤) (𝓜 : Model 𝓤 H) (𝓡 : Running 𝓤 H 𝓜) (γ : Env) (n k : Name) (r : Routine) (e : Fn) (c d : Contract 𝓤)
+pub linked : {M : Type 1} (𝓤 : Ura M) (H : Heap 𝓤) (𝓜 : Model 𝓤 H) (𝓡 : Running 𝓤 H 𝓜) (γ : Env) (n k : Callee) (r : Routine) (e : Fn) (c d : Contract 𝓤)
     → γ k ≡ r → Closed 𝓤 H (tables 𝓤 H 𝓜 𝓡 γ).C (tables 𝓤 H 𝓜 𝓡 γ).Λ n e
     → ((𝓣 : Tables 𝓤 H) → Triple 𝓤 (𝓣.C k) d → Triple 𝓤 (WpFn 𝓤 H 𝓣.C 𝓣.Λ e) c)
     → Triple 𝓤 (𝓡.run r) d → Triple 𝓤 (𝓡.run (γ n)) c

@@ -10,8 +10,8 @@ use Prim.Native.Nat.{ℕ, ◌≤◌, ◌<◌, ◌^◌}
 use mathlib.Core.List.{[], ◌∷◌, List, map}
 use lib.ListN.{length}
 use seplogic.Ra.Ura.{Ura}
-use seplogic.Ra.TreeShare.{full_share}
-use mir.Syntax.{Name, Fn, named, erased, mut, w64, ty_int, ty_ref, ty_array, ty_unit, seq, assign, call, return, rv_opd, copy, addr_of, aggregate, place, field}
+use base.Fraction.{full_share}
+use mir.Syntax.{Callee, Fn, named, erased, mut, w64, ty_int, ty_ref, ty_array, ty_unit, seq, assign, call, return, rv_opd, copy, addr_of, aggregate, place, field}
 use mir.Syntax.{deref}
 use mir.Syntax.{local, value_local}
 use mir.Val.{Val, vint}
@@ -161,7 +161,7 @@ module _ (Z : Board) where
   abbrev pub Step : Show → {M : Type 1} {𝓤 : Ura M} (𝓛 : Logic 𝓤) → Contract 𝓤
   Step Shows {𝓤 = 𝓤} 𝓛 = triple_of 𝓛 step_ended.signature (closing 𝓛 step_ended (step_clauses Shows 𝓤))
 
-  abbrev step_function : Name → Name → Fn
+  abbrev step_function : Callee → Callee → Fn
   step_function with-key fill-key = record {
     lifetimes = 1;
     outlives = [];
@@ -213,7 +213,7 @@ module _ (Z : Board) where
       let Q : Data = held Z.reply in
       (LL.owed Q.type Q.laws (reply (outcome r)) _ (LL.owed O.type O.laws (outcome r) _ (is_outcome r vs is)).1.0).1.0.1
 
-  module _ (f : Makes E R) (Hands : Hand) (Shows : Show) (law : Filling f Hands Shows) (with-key fill-key : Name) where
+  module _ (f : Makes E R) (Hands : Hand) (Shows : Show) (law : Filling f Hands Shows) (with-key fill-key : Callee) where
     with_of : {M : Type 1} {𝓤 : Ura M} (𝓛 : Logic 𝓤) (h : Table) (c n j m : ℕ) (r : Unfilled)
         → ent 𝓤 (ensured 𝓛 with_ended (with_clauses Hands 𝓤) tt (h, (c, (n, (j, (m, tt))))) tt r) (fact 𝓤 (Hands h c n j m r))
     with_of {𝓤 = 𝓤} 𝓛 h c n j m r = ex_e 𝓤 _ (λ ws. snd∗ 𝓤 (sem 𝓛 (lasts with_ended tt (h, (c, (n, (j, (m, tt))))) ws)) (fact 𝓤 (Hands h c n j m r)))
@@ -251,9 +251,9 @@ module _ (Z : Board) where
         tt,
       )
 
-      goes_with : ent 𝓤 (sem 𝓛 ((row B).own h (tv h ∷ []))) ((With Hands 𝓛).pre to_with)
+      goes_with : ent 𝓤 (sem 𝓛 ((row B).own_val h (tv h ∷ []))) ((With Hands 𝓛).pre to_with)
       goes_with =
-          qed 𝓛 (‵ ((row B).own h (tv h ∷ [])) ∷ []) ∵ nothing ! $ owned ! usize (Is usize) (uint_Makes 𝓛 w64) (length ys) _ (refl, room.0) $ fjoin ! $
+          qed 𝓛 (‵ ((row B).own_val h (tv h ∷ [])) ∷ []) ∵ nothing ! $ owned ! usize (Is usize) (uint_Makes 𝓛 w64) (length ys) _ (refl, room.0) $ fjoin ! $
           owned ! u64 (Is u64) (uint_Makes 𝓛 w64) j _ (refl, j-fits) $ fjoin ! $ owned ! u64 (Is u64) (uint_Makes 𝓛 w64) n _ (refl, n-fits) $
           fjoin ! $
           owned ! u64 (Is u64) (uint_Makes 𝓛 w64) c _ (refl, c-fits) $ fjoin ! $ move ! (1 ∷ 0 ∷ []) $ fjoin ! $ nothing ! $ join ! $ frame ! $ done !
@@ -271,9 +271,9 @@ module _ (Z : Board) where
       )
 
       goes_fill : (r : Unfilled) → Hands h c n j (length ys) r → count r < 2 ^ 64 → ent 𝓤 (⋆ 𝓛 ((‵ (flft κ q) ⊛ ‵ ftrue) ∷ ‵
-          ((MutSlice (named 0) κ (row R)).own_val x (s ∷ [])) ∷ ‵ (Es.own (entries r) (ev r ∷ [])) ∷ [])) ((Fill E R w f 𝓛).pre (to_fill r))
+          ((MutSlice (named 0) κ (row R)).own_val x (s ∷ [])) ∷ ‵ (Es.own_val (entries r) (ev r ∷ [])) ∷ [])) ((Fill E R w f 𝓛).pre (to_fill r))
       goes_fill r e fits =
-          qed 𝓛 ((‵ (flft κ q) ⊛ ‵ ftrue) ∷ ‵ ((MutSlice (named 0) κ (row R)).own_val x (s ∷ [])) ∷ ‵ (Es.own (entries r) (ev r ∷ [])) ∷ []) ∵
+          qed 𝓛 ((‵ (flft κ q) ⊛ ‵ ftrue) ∷ ‵ ((MutSlice (named 0) κ (row R)).own_val x (s ∷ [])) ∷ ‵ (Es.own_val (entries r) (ev r ∷ [])) ∷ []) ∵
           says ! (law.fits ys e) $ nothing ! $ owned ! usize (Is usize) (uint_Makes 𝓛 w64) (count r) _ (refl, fits) $ fjoin ! $
           move ! (3 ∷ 0 ∷ []) $ fjoin ! $ move ! (2 ∷ 0 ∷ []) $ fjoin ! $ move ! (1 ∷ 0 ∷ []) $ frame ! $ done !
 
@@ -313,7 +313,7 @@ module _ (Z : Board) where
             calls_at ! (fm_of 𝓤 H 𝓛.laws 𝓣) (With Hands 𝓛) known-with to_with (and_then ! (load ! (from ! (stop !)) (look ! 24 refl))
             (and_then ! (load ! (from ! (stop !)) (look ! 22 refl)) (and_then ! (load ! (from ! (stop !)) (look ! 20 refl))
             (and_then ! (load ! (from ! (stop !)) (look ! 18 refl)) (and_then ! (load ! (from ! (stop !)) (look ! 10 refl)) (no_more !)))))) (λ v.
-            use1 𝓛 (later (some (λ (r : Unfilled). (‵ ftrue ⊛ ‵ ((row S).own r (v ∷ []))) ⊛ raw
+            use1 𝓛 (later (some (λ (r : Unfilled). (‵ ftrue ⊛ ‵ ((row S).own_val r (v ∷ []))) ⊛ raw
             (ensured 𝓛 with_ended (with_clauses Hands 𝓤) tt (h, (c, (n, (j, (length ys, tt))))) tt r)))) (id⊢ 𝓤 _) $ await ! tt $ pick ! (λ r.
             split ! $ move ! (1 ∷ []) $ use1 𝓛 (raw (fact 𝓤 (Hands h c n j (length ys) r))) (with_of 𝓛 h c n j (length ys) r) $
             heard ! (Hands h c n j (length ys) r) (λ e. split ! $ drop ! $ peeks ! (row S) (Is (row S)) (shows 𝓛 (row S)) r (v ∷ []) (λ is.
@@ -377,7 +377,7 @@ module _ (Z : Board) where
           ) (step_clauses Shows 𝓤) (WpFn 𝓤 H 𝓣.C 𝓣.Λ (step_function with-key fill-key))
           (WpFn-mono 𝓤 H 𝓛.laws 𝓣 (step_function with-key fill-key)) step_walks
 
-    module _ {M : Type 1} {𝓤 : Ura M} (𝓛 : Logic 𝓤) (𝓜 : Model 𝓤 𝓛.H) (𝓡 : Running 𝓤 𝓛.H 𝓜) (γ : Env) (n : Name) (r r' : Routine) where
+    module _ {M : Type 1} {𝓤 : Ura M} (𝓛 : Logic 𝓤) (𝓜 : Model 𝓤 𝓛.H) (𝓡 : Running 𝓤 𝓛.H 𝓜) (γ : Env) (n : Callee) (r r' : Routine) where
       open 𝓛 use {H}
 
       pub step_spec : γ with-key ≡ r → γ fill-key ≡ r'

@@ -8,7 +8,7 @@ use Prim.Native.Nat.{ℕ}
 use mathlib.Core.List.{[], ◌∷◌, List}
 use lib.Dec.{T}
 use seplogic.Ra.Ura.{Ura}
-use seplogic.Ra.TreeShare.{full_share}
+use base.Fraction.{full_share}
 use mir.Syntax.{Sym, Ty, ty_struct, tnil, tcons}
 use mir.Val.{Val, vstruct, vnil, vcons, WT, has_ty}
 use base.Logic.{ent}
@@ -65,15 +65,15 @@ abbrev pub layout : {B Q : Plainly} → Both B Q → Ty
 layout {B} {Q} S = layout_of B Q S.ν
 
 module _ {M : Type 1} {𝓤 : Ura M} (𝓛 : Logic 𝓤) (B : Plainly) (h : B.R.Denot) (l : ℕ) where
-  pub lies_in : ent 𝓤 (⋆ 𝓛 (‵ (fat full_share B.mir l 0 (B.val h)) ∷ ‵ (B.R.own h (B.val h ∷ [])) ∷ [])) (sem 𝓛 ((mem B.R).own_at h l 0))
+  pub lies_in : ent 𝓤 (⋆ 𝓛 (‵ (fat full_share B.mir l 0 (B.val h)) ∷ ‵ (B.R.own_val h (B.val h ∷ [])) ∷ [])) (sem 𝓛 ((mem B.R).own_at h l 0))
   unfolding part_of
   lies_in =
-      qed 𝓛 (‵ (fat full_share B.mir l 0 (B.val h)) ∷ ‵ (B.R.own h (B.val h ∷ [])) ∷ []) ∵
+      qed 𝓛 (‵ (fat full_share B.mir l 0 (B.val h)) ∷ ‵ (B.R.own_val h (B.val h ∷ [])) ∷ []) ∵
       use1 𝓛 (‵ (cell_at full_share (B.mir ∷ []) (B.val h ∷ []) l 0)) (𝓛.laws.at_raw full_share B.mir l 0 (B.val h)) $
       rewrite ! 0 (λ (τs : List Ty). ‵ (cell_at full_share τs (B.val h ∷ []) l 0)) (sym B.mir_is) refl $ fjoin ! $
-      fpack ! (List Val) (λ us. fsep (cell_at full_share B.R.mir us l 0) (B.R.own h us)) (B.val h ∷ []) $ done !
+      fpack ! (List Val) (λ us. fsep (cell_at full_share B.R.mir us l 0) (B.R.own_val h us)) (B.val h ∷ []) $ done !
 
-  pub lies_out : ent 𝓤 (sem 𝓛 ((mem B.R).own_at h l 0)) (⋆ 𝓛 (‵ (fat full_share B.mir l 0 (B.val h)) ∷ ‵ (B.R.own h (B.val h ∷ [])) ∷ []))
+  pub lies_out : ent 𝓤 (sem 𝓛 ((mem B.R).own_at h l 0)) (⋆ 𝓛 (‵ (fat full_share B.mir l 0 (B.val h)) ∷ ‵ (B.R.own_val h (B.val h ∷ [])) ∷ []))
   unfolding part_of
   lies_out =
       qed 𝓛 (‵ ((mem B.R).own_at h l 0) ∷ []) ∵ fpick ! (λ vs. fsplit ! $

@@ -8,7 +8,7 @@ use mathlib.Core.Path.{◌≡◌, refl, sym}
 use Prim.Native.Nat.{ℕ}
 use mathlib.Core.List.{[], ◌∷◌, List}
 use seplogic.Ra.Ura.{Ura}
-use mir.Syntax.{Ty, Name, Fn, named, imm, ty_ref, deref, place, copy, local, value_local, rv_opd, seq, assign, call, return}
+use mir.Syntax.{Ty, Callee, Fn, named, imm, ty_ref, deref, place, copy, local, value_local, rv_opd, seq, assign, call, return}
 use mir.Val.{Val, vptr}
 use base.Logic.{SProp, ent, emp, via, fst∗, snd∗, ex_e, id⊢}
 use base.Fml.{GName, Lft, Share, ftrue, flft, fres, fshr_bor}
@@ -76,10 +76,12 @@ module _ (T R : Plainly) where
   AskLent Q {𝓤 = 𝓤} 𝓛 = triple_of 𝓛 lent_ended.signature (closing 𝓛 lent_ended (lent_clauses Q 𝓤))
 
   -- ---- the MIR of the question to a lent table, which calls the key
-  abbrev pub lent_function : Name → Fn
+  abbrev pub lent_function : Callee → Fn
   lent_function key = record {
     lifetimes = 1;
     outlives = [];
+    ty_params = [];
+    givens = 0;
     params = 1;
     locals = local R.mir value_local ∷ local (ty_ref (named 0) imm (pointee T.R.written)) value_local ∷ local T.mir value_local ∷ [];
     body = seq (assign (place 2 []) (rv_opd (copy (place 1 (deref T.mir ∷ []))))) (seq (call key (copy (place 2 []) ∷ []) (place 0 [])) return);
@@ -88,7 +90,7 @@ module _ (T R : Plainly) where
   abbrev stayed : Stays lent_ended.signature.params lent_ended.kept
   stayed = (stay_none_ref (0 ∷ []) tt (plain (λ _. T.R)) yes, tt)
 
-module _ {M : Type 1} {𝓤 : Ura M} (𝓛 : Logic 𝓤) (T R : Plainly) (Q : Told T R) (key : Name) (κ : Lft) (q : Share)
+module _ {M : Type 1} {𝓤 : Ura M} (𝓛 : Logic 𝓤) (T R : Plainly) (Q : Told T R) (key : Callee) (κ : Lft) (q : Share)
     (b o : ℕ) (γ : GName) (h : T.R.Denot) where
   open 𝓛 use {H}
 
@@ -104,17 +106,17 @@ module _ {M : Type 1} {𝓤 : Ura M} (𝓛 : Logic 𝓤) (T R : Plainly) (Q : To
   abbrev to : (Ask T R Q 𝓛).Ghost
   to = ((tt, tt, tt, (h, tt), (T.val h ∷ [], tt)), tt)
 
-  goes : ent 𝓤 (sem 𝓛 (T.R.own h (T.val h ∷ []))) ((Ask T R Q 𝓛).pre to)
-  goes = qed 𝓛 (‵ (T.R.own h (T.val h ∷ [])) ∷ []) ∵ nothing ! $ move ! (1 ∷ 0 ∷ []) $ join ! $ nothing ! $ join ! $ frame ! $ done !
+  goes : ent 𝓤 (sem 𝓛 (T.R.own_val h (T.val h ∷ []))) ((Ask T R Q 𝓛).pre to)
+  goes = qed 𝓛 (‵ (T.R.own_val h (T.val h ∷ [])) ∷ []) ∵ nothing ! $ move ! (1 ∷ 0 ∷ []) $ join ! $ nothing ! $ join ! $ frame ! $ done !
 
   -- of what the question ensures, the clause alone: there is no `&mut`
   said : (r : R.R.Denot) → ent 𝓤 (ensured 𝓛 (ask_ended T R) (ask_clauses T R Q 𝓤) tt (h, tt) tt r) (fact 𝓤 (Q h r))
   said r = ex_e 𝓤 _ (λ ws. snd∗ 𝓤 (sem 𝓛 (lasts (ask_ended T R) tt (h, tt) ws)) (fact 𝓤 (Q h r)))
 
-  exits : (r : R.R.Denot) (v : Val) → Q h r → ent 𝓤 (⋆ 𝓛 (‵ (R.R.own r (v ∷ [])) ∷ ‵ (flft κ q) ∷ ‵ (fres γ (T.R.coded.code h)) ∷ ‵
+  exits : (r : R.R.Denot) (v : Val) → Q h r → ent 𝓤 (⋆ 𝓛 (‵ (R.R.own_val r (v ∷ [])) ∷ ‵ (flft κ q) ∷ ‵ (fres γ (T.R.coded.code h)) ∷ ‵
       (fshr_bor κ (λ s. part_at T.R s h b o)) ∷ [])) (Post v)
   exits r v e =
-      qed 𝓛 (‵ (R.R.own r (v ∷ [])) ∷ ‵ (flft κ q) ∷ ‵ (fres γ (T.R.coded.code h)) ∷ ‵ (fshr_bor κ (λ s. part_at T.R s h b o)) ∷ []) ∵
+      qed 𝓛 (‵ (R.R.own_val r (v ∷ [])) ∷ ‵ (flft κ q) ∷ ‵ (fres γ (T.R.coded.code h)) ∷ ‵ (fshr_bor κ (λ s. part_at T.R s h b o)) ∷ []) ∵
       suffices ! _ (ends_at 𝓛 (lent_ended T R) (stayed T R) (lent_clauses T R Q 𝓤) (((κ, tt), (q, tt), tt, x, at), tt) v r (tt, tt) (tt, tt)) $
       says ! (e, refl) $ move ! (1 ∷ 2 ∷ 3 ∷ []) $ nothing ! $ move ! (1 ∷ 0 ∷ []) $ join ! $ frame ! $
       feq_i ! (List Val) (vptr b o ∷ []) (vptr b o ∷ []) refl $ fjoin3 ! $ nothing ! $ move ! (1 ∷ 0 ∷ []) $ fjoin ! $ frame ! $ done !
@@ -138,7 +140,7 @@ module _ {M : Type 1} {𝓤 : Ura M} (𝓛 : Logic 𝓤) (T R : Plainly) (Q : To
         owned ! T.R (Is T.R) (T.makes M 𝓤 𝓛) h _ g $ use1 𝓛 (raw ((Ask T R Q 𝓛).pre to)) goes $
         -- [what the question asks; the token; the borrow; true; res; true; _2; …; _1; …; room for _0; …]
         calls_at ! fm (Ask T R Q 𝓛) known to (and_then ! (load ! (from ! (stop !)) (look ! 6 refl)) (no_more !)) (λ v.
-        use1 𝓛 (later (some (λ (r : R.R.Denot). (‵ ftrue ⊛ ‵ (R.R.own r (v ∷ []))) ⊛ raw
+        use1 𝓛 (later (some (λ (r : R.R.Denot). (‵ ftrue ⊛ ‵ (R.R.own_val r (v ∷ []))) ⊛ raw
         (ensured 𝓛 (ask_ended T R) (ask_clauses T R Q 𝓤) tt (h, tt) tt r)))) (id⊢ 𝓤 _) $ await ! tt $ pick ! (λ r.
         split ! $ move ! (1 ∷ []) $ use1 𝓛 (raw (fact 𝓤 (Q h r))) (said r) $ heard ! (Q h r) (λ e. split ! $ drop ! $
         peeks ! R.R (Is R.R) (shows 𝓛 R.R) r (v ∷ []) (λ is.
@@ -148,7 +150,7 @@ module _ {M : Type 1} {𝓤 : Ura M} (𝓛 : Logic 𝓤) (T R : Plainly) (Q : To
         move ! (10 ∷ 11 ∷ []) $ free1 ! $ move ! (8 ∷ 9 ∷ []) $ free1 ! $ move ! (6 ∷ 7 ∷ []) $ free1 ! $ free0 ! $
         keep ! (0 ∷ 1 ∷ 4 ∷ 2 ∷ []) $ by ! (exits r v e))))))))))
 
-module _ {M : Type 1} {𝓤 : Ura M} (𝓛 : Logic 𝓤) (T R : Plainly) (Q : Told T R) (key : Name) where
+module _ {M : Type 1} {𝓤 : Ura M} (𝓛 : Logic 𝓤) (T R : Plainly) (Q : Told T R) (key : Callee) where
   open 𝓛 use {H}
 
   ask_walks : (C : Calls 𝓤 H) (Λ : Loops 𝓤 H) → FmC 𝓤 H 𝓛.laws C → Triple 𝓤 (C key) (Ask T R Q 𝓛)
@@ -166,7 +168,7 @@ module _ {M : Type 1} {𝓤 : Ura M} (𝓛 : Logic 𝓤) (T R : Plainly) (Q : To
       (ask_walks 𝓣.C 𝓣.Λ (fm_of 𝓤 H 𝓛.laws 𝓣) known)
 
 pub ask_spec : (T R : Plainly) (Q : Told T R) {M : Type 1} {𝓤 : Ura M} (𝓛 : Logic 𝓤) (𝓜 : Model 𝓤 𝓛.H) (𝓡 : Running 𝓤 𝓛.H 𝓜)
-    (γ : Env) (n key : Name) (r : Routine) → γ key ≡ r → Closed 𝓤 𝓛.H (tables 𝓤 𝓛.H 𝓜 𝓡 γ).C (tables 𝓤 𝓛.H 𝓜 𝓡 γ).Λ n (lent_function T R key)
+    (γ : Env) (n key : Callee) (r : Routine) → γ key ≡ r → Closed 𝓤 𝓛.H (tables 𝓤 𝓛.H 𝓜 𝓡 γ).C (tables 𝓤 𝓛.H 𝓜 𝓡 γ).Λ n (lent_function T R key)
     → Triple 𝓤 (𝓡.run r) (Ask T R Q 𝓛) → Triple 𝓤 (𝓡.run (γ n)) (AskLent T R Q 𝓛)
 ask_spec T R Q {𝓤 = 𝓤} 𝓛 𝓜 𝓡 γ n key r at closed =
     linked 𝓤 𝓛.H 𝓜 𝓡 γ n key r (lent_function T R key) (AskLent T R Q 𝓛) (Ask T R Q 𝓛) at closed

@@ -10,7 +10,7 @@ use Prim.Native.Nat.{ℕ, zero, suc}
 use mathlib.Core.List.{List, [], ◌∷◌}
 use lib.ListN.{length}
 use seplogic.Ra.Ura.{Ura}
-use seplogic.Ra.TreeShare.{full_share}
+use base.Fraction.{full_share}
 use mir.Syntax.{Ty, Step as PStep, named, erased, mut, ty_ref, deref, field, place, copy, Opd as Operand, addr_of, aggregate, Body, seq, assign}
 use mir.Syntax.{Local, local, value_local}
 use mir.Val.{vptr}

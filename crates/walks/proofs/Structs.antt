@@ -109,6 +109,7 @@ copiess (P ∷ Ps) = (P.copies, copiess Ps)
 pub record Holds (Ps : List Part) : Type 2 where
   pub name : Sym
   pub args : List Lifetime
+  pub types : List RattleType
   pub D : Type 0
   pub values : D → Values (parts Ps)
   pub one : (x y : D) → intos (parts Ps) (values x) ≡ intos (parts Ps) (values y) → x ≡ y
@@ -119,11 +120,29 @@ pub record Holds (Ps : List Part) : Type 2 where
 abbrev pub struct_of : {Ps : List Part} (N : Record) (values : N.D → Values (parts Ps))
     → ((x y : N.D) → intos (parts Ps) (values x) ≡ intos (parts Ps) (values y) → x ≡ y) → (make : Values (parts Ps) → N.D)
     → ((v : Values (parts Ps)) → values (make v) ≡ v) → Holds Ps
-struct_of N values one make made = record { name = N.name; args = N.args; D = N.D; values = values; one = one; make = make; made = made }
+struct_of N values one make made = record { name = N.name; args = N.args; types = N.types; D = N.D; values = values; one = one; make = make; made = made }
 
 abbrev pub held : {Ps : List Part} → Holds Ps → Data
 held {Ps} S = record {
-  type = record { name = S.name; args = S.args; parts = parts Ps; D = S.D; to = λ d. intos (parts Ps) (S.values d); to_one = S.one };
+  type = record {
+    name = S.name;
+    args = S.args;
+    types = S.types;
+    parts = parts Ps;
+    D = S.D;
+    to = λ d. intos (parts Ps) (S.values d);
+    to_one = S.one;
+    as_values = S.values;
+    to_is = λ d. refl;
+    cover = record {
+      Ghost = λ v. Unit {0};
+      ghosts = λ d. tt;
+      make = λ v g. S.make v;
+      eta = λ d. S.one (S.make (S.values d)) d (ap (intos (parts Ps)) (S.made (S.values d)));
+      beta = λ v g. S.made v;
+    };
+    propositions = λ v p q. refl;
+  };
   laws = lawss Ps;
   plain = plains Ps;
   copies = copiess Ps;
