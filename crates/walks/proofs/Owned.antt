@@ -222,7 +222,7 @@ module _ {M : Type 1} {𝓤 : Ura M} (𝓛 : Logic 𝓤) {T R : Plainly} (S : Bo
         -- what the call ensures, at some last contents of the table and the buffer
         split ! $ move ! (1 ∷ []) $ use1 𝓛 (some (λ (ws : Lasts (lent_ended S b k) (κs' r₀ ν δ) (a' r₀ ν δ)). ‵
         (lasting (lent_ended S b k) (κs' r₀ ν δ) (a' r₀ ν δ) ws) ⊛ raw (fact 𝓤 (Ensured r₀ ν δ r ws)))) (id⊢ 𝓤 _) $ pick ! (λ ws.
-        split ! $ move ! (1 ∷ []) $ heard ! (Ensured r₀ ν δ r ws) (λ e. fsplit ! $ move ! (1 ∷ []) $
+        split ! $ move ! (1 ∷ []) $ heard ! (Ensured r₀ ν δ r ws) (λ e. fsplit ! $ fsplit ! $ move ! (1 ∷ []) $ drop ! $ move ! (1 ∷ []) $
         use1 𝓛 (‵ (lasts_of (κs' r₀ ν δ) (buffer b) (all yes (buffer b)) (x' r₀ ν δ) (last' r₀ ν δ ws)))
         (last_rest 𝓛 (κs' r₀ ν δ) (buffer b) (x' r₀ ν δ) (vs' r₀ ν δ) k ns ws.1) $
         use1 𝓛 (given (fits_of κs (buffer' b) (all yes (buffer' b)) (gave' b) x (end' b (κs' r₀ ν δ) x (last' r₀ ν δ ws)))

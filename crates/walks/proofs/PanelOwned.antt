@@ -192,6 +192,8 @@ module _ (Z : Board) where
   own_function most-key lent_key = record {
     lifetimes = 0;
     outlives = [];
+    ty_params = [];
+    givens = 0;
     params = 6;
     locals = local (ty S) value_local ∷ local (ty B) value_local ∷ local (ty_int w64) value_local ∷ local (ty_int w64) value_local ∷ local (ty_int w64) value_local
         ∷ local (ty_array (ty R) w) value_local ∷ local (ty_int w64) value_local ∷ local (ty B) memory_slot ∷ local (ty_array (ty R) w) memory_slot
@@ -417,8 +419,8 @@ module _ (Z : Board) where
             split ! $ move ! (1 ∷ []) $ use1 𝓛 (some (λ (zs : Left). ‵
             (lasts lent_ended (ν ∷ [], (ν' ∷ [], tt)) (loan l₇ δ, Rest k l₈ δ') zs) ⊛ raw (fact 𝓤 (Ensured k r zs.0 (shown zs)))))
             (id⊢ 𝓤 _) $ pick ! (λ zs.
-            split ! $ move ! (1 ∷ []) $ heard ! (Ensured k r zs.0 (shown zs)) (λ e. fsplit ! $ move ! (1 ∷ []) $ fsplit ! $ drop ! $ fsplit ! $
-            drop ! $ fsplit ! $ drop ! $ fsplit ! $ fsplit ! $ move ! (1 ∷ []) $ feq_l ! (λ l.
+            split ! $ move ! (1 ∷ []) $ heard ! (Ensured k r zs.0 (shown zs)) (λ e. fsplit ! $ fsplit ! $ move ! (1 ∷ []) $ drop ! $ move ! (1 ∷ []) $
+            fsplit ! $ drop ! $ fsplit ! $ drop ! $ fsplit ! $ drop ! $ fsplit ! $ fsplit ! $ fsplit ! $ move ! (1 ∷ []) $ feq_l ! (λ l. move ! (1 ∷ []) $ drop ! $
             -- [the records' last contents; true; the table's last value; the tokens and the result; the records' lender's part; the other records; the table's
             -- lender's part; what lent owns; _15; …]
             move ! (3 ∷ []) $ split ! $ move ! (1 ∷ []) $ peeks ! (row Q) (Is (row Q)) (shows 𝓛 (row Q)) r (v' ∷ []) (λ is.

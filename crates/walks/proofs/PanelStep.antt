@@ -16,7 +16,7 @@ use mir.Syntax.{deref}
 use mir.Syntax.{local, value_local}
 use mir.Val.{Val, vint}
 use base.Logic.{SProp, ent, emp, via, fst∗, snd∗, ex_e, id⊢}
-use base.Fml.{GName, Lft, Share, ftrue, fat, flft}
+use base.Fml.{GName, Lft, Share, Fml, ftrue, fsep, fat, flft, fbor}
 use prog.Model.{Model}
 use prog.Routine.{Routine, Env}
 use prog.Wp.{Closed, WpFn, Tables}
@@ -37,6 +37,7 @@ use denote.Plain.{uint_vals, uint_Tells, uint_Makes, Nothing-Lawful}
 use denote.Builtin.{u64, usize, unit, SliceRefMutOf}
 use denote.Ref.{MutBor}
 use denote.Slice.{slice_val, slice_ty, MutSlice, Room, finally, mut_slice_vals, mut_slice_Tells}
+use denote.Lend.{Held}
 use denote.Signature.{plain}
 use denote.Steps.{only, owned, peeks, heard, nothing}
 use denote.Struct.Laws as LL
@@ -165,6 +166,8 @@ module _ (Z : Board) where
   step_function with-key fill-key = record {
     lifetimes = 1;
     outlives = [];
+    ty_params = [];
+    givens = 0;
     params = 5;
     locals = local (ty O) value_local ∷ local (ty B) value_local ∷ local (ty_int w64) value_local ∷ local (ty_int w64) value_local ∷ local (ty_int w64) value_local
         ∷ local (slice_ty (ty_ref (named 0) mut (pointee (row R).written))) value_local ∷ local (ty S) value_local ∷ local (ty_array (ty E) w) value_local
@@ -277,10 +280,14 @@ module _ (Z : Board) where
           says ! (law.fits ys e) $ nothing ! $ owned ! usize (Is usize) (uint_Makes 𝓛 w64) (count r) _ (refl, fits) $ fjoin ! $
           move ! (3 ∷ 0 ∷ []) $ fjoin ! $ move ! (2 ∷ 0 ∷ []) $ fjoin ! $ move ! (1 ∷ 0 ∷ []) $ frame ! $ done !
 
+      -- what says the panel's last contents, and its borrow, which is handed back
+      abbrev gone : List Record → Fml
+      gone zs = fsep (finally (row R) γ zs) (fbor κ (Held (row R) (length ys) b o γ))
+
       exits : (r : Unfilled) (zs : List Record) → Hands h c n j (length ys) r → zs ≡ filled (f (entries r)) (count r) ys → length zs ≡ length ys
-          → Is (row O) (outcome r) (ov r ∷ []) → ent 𝓤 (⋆ 𝓛 ((‵ (flft κ q) ⊛ ‵ ftrue) ∷ ‵ (finally (row R) γ zs) ∷ [])) (Post (ov r))
+          → Is (row O) (outcome r) (ov r ∷ []) → ent 𝓤 (⋆ 𝓛 ((‵ (flft κ q) ⊛ ‵ ftrue) ∷ ‵ (gone zs) ∷ [])) (Post (ov r))
       exits r zs e same-zs l is =
-          qed 𝓛 ((‵ (flft κ q) ⊛ ‵ ftrue) ∷ ‵ (finally (row R) γ zs) ∷ []) ∵
+          qed 𝓛 ((‵ (flft κ q) ⊛ ‵ ftrue) ∷ ‵ (gone zs) ∷ []) ∵
           suffices ! _ (ends_at 𝓛 step_ended stayed (step_clauses Shows 𝓤) (((κ, tt), (q, tt), tt, a, av), tt) (ov r) (outcome r)
           (last_same (same B) h, (tt, (tt, (tt, (zs, tt))))) (tt, (tt, (tt, (tt, (l, tt)))))) $
           says ! (subst (λ (us : List Record). Shows h c n j ys (table (outcome r)) (reply (outcome r)) us) (sym same-zs) (law.shows ys e)) $ frame ! $
@@ -337,8 +344,8 @@ module _ (Z : Board) where
             pick ! (λ z. split ! $ move ! (1 ∷ []) $ use1 𝓛 (some (λ (zs : List Record × (Last (Es.exit yes) (entries r) × (Unit {0} × Unit {0}))). ‵
             (lasts (fill_ended E R w) (κ, tt) (x, (entries r, (count r, tt))) zs) ⊛ raw
             (fact 𝓤 (zs.0 ≡ filled (f (entries r)) (count r) ys)))) (id⊢ 𝓤 _) $ pick ! (λ zs.
-            split ! $ move ! (1 ∷ []) $ heard ! (zs.0 ≡ filled (f (entries r)) (count r) ys) (λ same-zs. fsplit ! $ fsplit ! $ move ! (1 ∷ []) $
-            feq_l ! (λ l. move ! (2 ∷ []) $ split ! $ move ! (1 ∷ []) $ peeks ! unit (Is unit) (shows 𝓛 unit) z (v' ∷ []) (λ is-z.
+            split ! $ move ! (1 ∷ []) $ heard ! (zs.0 ≡ filled (f (entries r)) (count r) ys) (λ same-zs. fsplit ! $ fsplit ! $ fsplit ! $ move ! (1 ∷ []) $
+            feq_l ! (λ l. fjoin ! $ move ! (2 ∷ []) $ split ! $ move ! (1 ∷ []) $ peeks ! unit (Is unit) (shows 𝓛 unit) z (v' ∷ []) (λ is-z.
             -- [what () owns; the token; the panel's last contents; true; true; _11; …]
             land ! (from ! (stop !)) (init ! 9 refl ((Nothing-Lawful 𝓛).typed z _ is-z).0) $ drop ! $
             assigns ! (of_opd ! (load ! (from ! (fld ! refl (stop !))) (look_in ! 14 (sub ! 0 refl (whole !))))) (from ! (stop !))

@@ -17,6 +17,7 @@ use types.Logic.{Logic, sem}
 use types.Kit.{‵, ⋆, ◌$◌, ◌∵◌, !, qed, use1, rewrite, fsplit, fjoin, fpick, fpack, done}
 use denote.Exit.{Kept, Exit, unchanged, Last, left}
 use denote.RattleType.{RattleType}
+use denote.Copied.{Copied}
 use denote.Laws.{Is, shows, Tells, Makes, Copy}
 use denote.Memory.{mem, cell_at, part_of}
 use denote.Struct.Steps.{spelt}
@@ -31,6 +32,7 @@ pub record Plainly : Type 2 where
   pub typed : (M : Type 1) (𝓤 : Ura M) (𝓛 : Logic 𝓤) → (x : R.Denot) (v : Val) → Is R x (v ∷ [])
       → T (has_ty mir v) × WT v
   pub copies : (M : Type 1) (𝓤 : Ura M) (𝓛 : Logic 𝓤) → Copy 𝓛 R
+  pub copied : (M : Type 1) (𝓤 : Ura M) (𝓛 : Logic 𝓤) → Copied 𝓛 R
   pub still : (k : Kept) → R.exit k ≡ unchanged
 
 -- nothing is bound or said of what is seen at exit as it was passed

@@ -164,6 +164,7 @@ plainly X = record {
   makes = λ M 𝓤 𝓛. makes X 𝓛;
   typed = λ M 𝓤 𝓛. typed X 𝓛;
   copies = λ M 𝓤 𝓛. LL.copy X.type X.copies 𝓛;
+  copied = λ M 𝓤 𝓛. LL.copied X.type X.copies 𝓛;
   still = LL.still X.type X.copies;
 }
 
