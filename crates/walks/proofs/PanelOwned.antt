@@ -14,7 +14,7 @@ use mathlib.Core.Path.{◌≡◌, refl, sym, ap, subst, ◌∙◌}
 use Prim.Native.Nat.{ℕ, ◌≤◌, ◌<◌, ◌^◌, min}
 use native.Mathlib.Nat.{lt_of_le_of_lt, mul-le-mul_right}
 use native.Mathlib.Omega.{arith}
-use mathlib.Core.List.{[], ◌∷◌, List, map, ◌++◌}
+use mathlib.Core.List.{[], ◌∷◌, List, ◌++◌}
 use lib.Dec.{T}
 use lib.ListN.{length, take, drop as dropped, length-take, take-append-drop}
 use seplogic.Ra.Ura.{Ura}
@@ -43,7 +43,7 @@ use sound.WpLaws.{fm_of, WpFn-mono}
 use denote.RattleType.{RattleType, owns}
 use denote.Laws.{Is, shows}
 use denote.Memory.{mem, cell_at, pointee, part_at, shares, part_of}
-use denote.Array.{Array, array_val, array_vals, Array-Tells, Array-Lawful, Array-Makes}
+use denote.Array.{Array, array_vals, Array-Tells, Array-Lawful, Array-Makes}
 use denote.ArrayMemory.{Array-apart, Array-whole}
 use denote.Index.{row as elements, whole_out, whole_in}
 use denote.Lend.{Held, lends_ref, ref_back, lends_slice, slice_back}
@@ -54,9 +54,6 @@ use denote.Slice.{slice_val, slice_ty, MutSlice, Room}
 use denote.Signature.{plain}
 use denote.Steps.{only, owned, peeks, heard, nothing}
 use denote.Struct.Steps.{spelt}
-use denote.Struct.Struct.{Struct}
-use denote.Struct.Declared.{shape}
-use denote.Struct.Laws as LL
 use denote.Triple.Statement.{Contract, Triple}
 use denote.Triple.Call.{calls_at}
 use denote.Triple.Clauses.{Clauses, Ended, AtExit, ensured, lasts, closing}
@@ -72,7 +69,6 @@ use Rattle.walks.proofs.Report.{slice}
 use Rattle.walks.proofs.PanelLinked.{linked_two}
 use Rattle.walks.proofs.Structs.{Data, held, is_made, plainly, row, ty, val, vals, tells, same, array_same, makes, lawful, typed}
 use Rattle.walks.proofs.PanelTypes.{Board, both}
-use Rattle.walks.proofs.PanelArrays.{vals_same, down}
 use Rattle.walks.proofs.PanelStep.{Table, Reply, Record, Show}
 use Rattle.walks.proofs.FillLists.{lent_said, others_stay}
 
@@ -236,13 +232,7 @@ module _ (Z : Board) where
 
   is_whole : (t : Table Z) (r : Reply Z) (zs : List (Record Z)) → Is (row B) t (tv t ∷ []) → Is (row Q) r (pv r ∷ []) → Is (Rs R w) zs (rv R w zs ∷ [])
       → Is (row S) (whole_of t r zs) (mach t r zs ∷ [])
-  is_whole t r zs g is k =
-      let same = vals_same R.type R.laws zs in
-      let k' = down R.type w zs _ (subst (λ (us : List Val). Is (Rs R w) zs (array_val us ∷ [])) (sym same) k) in
-      is_made Z.shown (t, (r, (zs, tt))) _
-      (subst (λ (us : List Val). Is (Struct (shape S.type)) (B.type.to t, (Q.type.to r, (map R.type.to zs, tt)))
-      (vstruct (vcons (tv t) (vcons (pv r) (vcons (array_val us) vnil))) ∷ [])) same
-      ((tv t ∷ [], (pv r ∷ [], (array_val (map (LL.tuple_val R.type R.laws) (map R.type.to zs)) ∷ [], tt))), (refl, (g, (is, (k', tt))))))
+  is_whole t r zs g is k = is_made Z.shown (t, (r, (zs, tt))) _ ((tv t ∷ [], (pv r ∷ [], (rv R w zs ∷ [], tt))), (refl, (g, (is, (k, tt)))))
 
   most_of : {M : Type 1} {𝓤 : Ura M} (𝓛 : Logic 𝓤) (n k : ℕ)
       → ent 𝓤 (ensured 𝓛 most_ended (most_clauses 𝓤) tt (n, tt) tt k) (fact 𝓤 (k ≡ min n w))

@@ -52,7 +52,6 @@ use Rattle.walks.proofs.PanelLinked.{linked_two}
 use Rattle.walks.proofs.Plain.{last_same, silent}
 use Rattle.walks.proofs.Structs.{Data, held, row, ty, val, vals, tells, same, makes, lawful, typed}
 use Rattle.walks.proofs.PanelTypes.{Board}
-use Rattle.walks.proofs.PanelArrays.{up}
 use Rattle.walks.proofs.FillLists.{filled}
 use Rattle.walks.proofs.Fill.{Makes, Fill, fill_ended, fill_clauses}
 
@@ -202,14 +201,14 @@ module _ (Z : Board) where
 
   -- the machine value of the entries' field
   abbrev ev : Unfilled → Val
-  ev r = array_val (map (LL.tuple_val E.type E.laws) (map E.type.to (entries r)))
+  ev r = array_val (map (val E) (entries r))
 
   -- what whoever holds what is handed out knows of its parts
   is_outcome : (r : Unfilled) (vs : List Val) → Is (row S) r vs → Is (row O) (outcome r) (ov r ∷ [])
   is_outcome r vs is = (LL.owed S.type S.laws r vs is).0
 
   is_entries : (r : Unfilled) (vs : List Val) → Is (row S) r vs → Is Es (entries r) (ev r ∷ [])
-  is_entries r vs is = up E.type w (entries r) _ (LL.owed S.type S.laws r vs is).1.0
+  is_entries r vs is = (LL.owed S.type S.laws r vs is).1.0
 
   is_count : (r : Unfilled) (vs : List Val) → Is (row S) r vs → count r < 2 ^ 64
   is_count r vs is =

@@ -5,7 +5,7 @@
 --     plainly, both_of     a struct, and a struct of two structs, as the walks of lent calls ask for them (`Plain.antt`)
 use mathlib.Core.Path.{◌≡◌, refl, sym, ap, subst}
 use Prim.Native.Nat.{ℕ}
-use mathlib.Core.List.{List, [], ◌∷◌}
+use mathlib.Core.List.{List, [], ◌∷◌, map}
 use seplogic.Ra.Ura.{Ura}
 use lib.Dec.{T}
 use mir.Syntax.{Ty, Sym, Lifetime}
@@ -13,15 +13,18 @@ use mir.Val.{Val, WT, has_ty}
 use types.Logic.{Logic}
 use denote.RattleType.{RattleType}
 use denote.Laws.{Is, Tells, Makes, Lawful}
-use denote.Array.{Array}
+use denote.Array.{Array, array_val, Array-Tells, Array-Lawful}
 use denote.Exit.{unchanged, each_of, yes}
 use denote.Struct.Struct.{Plains, Struct, layout}
-use denote.Struct.Field.{Field, rows, usize-field, array_field}
+use denote.Struct.Field.{Field, rows, row_field, usize-field, array_field}
 use denote.Struct.Values.{Values, intos}
 use denote.Struct.Record.{Record}
 use denote.Struct.Declared as Declared
 use denote.Struct.Declared.{Declared, fields, shape}
 use denote.Struct.Laws as LL
+use denote.Param.Laws.{struct_copy, array_copy}
+use denote.Param.Plain.{struct_plain, array_plain}
+use denote.Param.Drops.{Array-Drops}
 use Rattle.walks.proofs.Plain.{Plainly, Both}
 
 pub record Data : Type 2 where
@@ -88,6 +91,22 @@ array P n = record {
   laws = LL.array_laws P.field P.laws n;
   plain = LL.array_plain P.field P.plain n;
   copies = LL.array_copy P.field P.copies n;
+}
+
+-- an array of a declared struct, as a field has it: over the structs themselves
+abbrev pub array_of : Data → ℕ → Part
+array_of X n = record {
+  field = row_field (Array (row X) n);
+  laws = record {
+    val = λ xs. array_val (map (val X) xs);
+    tells = Array-Tells (row X) (vals X) (tells X) n;
+    low = λ xs. array_val (map (val X) xs);
+    low-is = Array-Tells (row X) (vals X) (tells X) n;
+    lawful = λ 𝓛. Array-Lawful 𝓛 (row X) (lawful X 𝓛) n;
+    drops = λ 𝓛. Array-Drops 𝓛 (row X) (LL.drops X.type X.laws 𝓛) n;
+  };
+  plain = array_plain (row X) (struct_plain X.type X.plain) n;
+  copies = array_copy (row X) (struct_copy X.type X.copies) n;
 }
 
 abbrev pub parts : List Part → List Field
