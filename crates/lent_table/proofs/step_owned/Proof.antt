@@ -18,4 +18,5 @@ states : (M : Type 1) → Fulfils M code.code name (λ 𝓤 𝓛. Step outcome (
 states M met = met
 
 pub step_owned_spec : {M : Type 1} → stated.statement M
-step_owned_spec {M} = states M (λ 𝓤 𝓛 𝓜 𝓡 wired. own_spec outcome (slice u8) 3 by_code 𝓛 𝓜 𝓡 𝓡.env name step-def.name (𝓡.env step-def.name) refl (code.unfolded 𝓤 𝓛.H 𝓜 𝓡 wired) (step_thm.met 𝓤 𝓛 𝓜 𝓡 (code.calls-lent_table::step 𝓡.env wired)))
+step_owned_spec {M} = states M (λ 𝓤 𝓛 𝓜 𝓡 wired. own_spec outcome (slice u8) 3 by_code 𝓛 𝓜 𝓡 𝓡.env name step-def.name (𝓡.env step-def.name) refl
+    (code.unfolded 𝓤 𝓛.H 𝓜 𝓡 wired) (step_thm.met 𝓤 𝓛 𝓜 𝓡 (code.calls-lent_table::step 𝓡.env wired)))

@@ -17,4 +17,5 @@ exits : (M : Type 1) → Fulfils M code.code name (λ 𝓤 𝓛. Ask (plainly ta
 exits M met = met
 
 pub top_holders_owned_spec : {M : Type 1} → stated.statement M
-top_holders_owned_spec {M} = exits M (λ 𝓤 𝓛 𝓜 𝓡 wired. ask_owned_spec (plainly table) (plainly holders) told 𝓛 𝓜 𝓡 𝓡.env name ask-def.name (𝓡.env ask-def.name) refl (code.unfolded 𝓤 𝓛.H 𝓜 𝓡 wired) (ask-thm.met 𝓤 𝓛 𝓜 𝓡 (code.calls-lent_table::top_holders 𝓡.env wired)))
+top_holders_owned_spec {M} = exits M (λ 𝓤 𝓛 𝓜 𝓡 wired. ask_owned_spec (plainly table) (plainly holders) told 𝓛 𝓜 𝓡 𝓡.env name ask-def.name (𝓡.env ask-def.name) refl
+    (code.unfolded 𝓤 𝓛.H 𝓜 𝓡 wired) (ask-thm.met 𝓤 𝓛 𝓜 𝓡 (code.calls-lent_table::top_holders 𝓡.env wired)))

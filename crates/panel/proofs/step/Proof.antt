@@ -14,4 +14,6 @@ use Rattle.panel.proofs.step.Code as code
 
 pub step_spec : {M : Type 1} → stated.statement M
 step_spec 𝓤 𝓛 𝓜 𝓡 wired = walk.step_spec board record_at hands Shows filling with-panel-def.name fill-def.name 𝓛 𝓜 𝓡 𝓡.env name (𝓡.env with-panel-def.name)
-    (𝓡.env fill-def.name) refl refl (code.unfolded 𝓤 𝓛.H 𝓜 𝓡 wired) (with-panel-thm.met 𝓤 𝓛 𝓜 𝓡 (code.calls-step::with_panel 𝓡.env wired)) (fill-thm.met 𝓤 𝓛 𝓜 𝓡 (code.calls-panel::fill 𝓡.env wired))
+    (𝓡.env fill-def.name) refl refl
+    (code.unfolded 𝓤 𝓛.H 𝓜 𝓡 wired) (with-panel-thm.met 𝓤 𝓛 𝓜 𝓡 (code.calls-step::with_panel 𝓡.env wired))
+    (fill-thm.met 𝓤 𝓛 𝓜 𝓡 (code.calls-panel::fill 𝓡.env wired))

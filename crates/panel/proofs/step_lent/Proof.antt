@@ -14,4 +14,5 @@ use Rattle.panel.proofs.step_lent.Statement as stated
 use Rattle.panel.proofs.step_lent.Code as code
 
 pub step_lent_spec : {M : Type 1} → stated.statement M
-step_lent_spec 𝓤 𝓛 𝓜 𝓡 wired = lent_spec (both board) (slice (row board.recorded)) 3 (said board Shows) 𝓛 𝓜 𝓡 𝓡.env name step-def.name (𝓡.env step-def.name) refl (code.unfolded 𝓤 𝓛.H 𝓜 𝓡 wired) (step_thm.met 𝓤 𝓛 𝓜 𝓡 (code.calls-panel::step 𝓡.env wired))
+step_lent_spec 𝓤 𝓛 𝓜 𝓡 wired = lent_spec (both board) (slice (row board.recorded)) 3 (said board Shows) 𝓛 𝓜 𝓡 𝓡.env name step-def.name (𝓡.env step-def.name) refl
+    (code.unfolded 𝓤 𝓛.H 𝓜 𝓡 wired) (step_thm.met 𝓤 𝓛 𝓜 𝓡 (code.calls-panel::step 𝓡.env wired))

@@ -27,4 +27,5 @@ exits {𝓤 = 𝓤} 𝓛 mem run a g r e said = fact_i 𝓤 _ (emp 𝓤) said
 pub step_owned_spec : {M : Type 1} → stated.statement M
 step_owned_spec 𝓤 𝓛 𝓜 𝓡 wired = own_spec board Shows most-def.name lent-def.name (lit< tt, lit< tt) 𝓛 𝓜 𝓡 (own.clauses 𝓛 𝓜.mem 𝓡.returns)
     (exits 𝓛 𝓜.mem 𝓡.returns) 𝓡.env name (𝓡.env most-def.name) (𝓡.env lent-def.name) refl refl
-    (code.unfolded 𝓤 𝓛.H 𝓜 𝓡 wired) (most-thm.met 𝓤 𝓛 𝓜 𝓡 (code.calls-panel::at_most_32 𝓡.env wired)) (lent-thm.met 𝓤 𝓛 𝓜 𝓡 (code.calls-panel::step_lent 𝓡.env wired))
+    (code.unfolded 𝓤 𝓛.H 𝓜 𝓡 wired) (most-thm.met 𝓤 𝓛 𝓜 𝓡 (code.calls-panel::at_most_32 𝓡.env wired))
+    (lent-thm.met 𝓤 𝓛 𝓜 𝓡 (code.calls-panel::step_lent 𝓡.env wired))
