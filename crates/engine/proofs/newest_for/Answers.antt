@@ -12,6 +12,6 @@ returns-in-SnapLabel c = record {
 
 pub returns-in_default : goal.returns-in_default
 returns-in_default c = record {
-  value = λ e. absurd (not_among (0 ∷ 1 ∷ 3 ∷ 4 ∷ 5 ∷ 6 ∷ 7 ∷ 8 ∷ []) SnapLabel tt c.args.m c.in-SnapLabel.keys2 e);
+  value = λ e. absurd (c.in_default.not-SnapLabel e);
   value_2 = λ d. refl;
 }

@@ -12,6 +12,6 @@ returns-in-SnapScan c = record {
 
 pub returns-in_default : goal.returns-in_default
 returns-in_default c = record {
-  value = λ e. absurd (not_among (0 ∷ 1 ∷ 2 ∷ 4 ∷ 5 ∷ 6 ∷ 7 ∷ 8 ∷ []) SnapScan tt c.args.m c.in-SnapScan.keys2 e);
+  value = λ e. absurd (c.in_default.not-SnapScan e);
   value_2 = λ d. refl;
 }

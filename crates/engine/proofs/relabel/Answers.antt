@@ -23,6 +23,4 @@ returns-in-Update c job = rw c.in-Update.is (labels_update c.requires)
 
 pub returns-in_default : goal.returns-in_default
 returns-in_default c job =
-    let m = c.args.m in
-    let tags : List ℕ = 0 ∷ 1 ∷ 3 ∷ 5 ∷ 6 ∷ 7 ∷ 8 ∷ [] in
-    labels_stay c.requires _ (step_stays c.args.place job m (not_among tags SnapLabel tt m c.in-SnapLabel.keys3) (not_among tags Update tt m c.in-SnapLabel.keys3))
+    labels_stay c.requires _ (step_stays c.args.place job c.args.m c.in_default.not-SnapLabel c.in_default.not-Update)

@@ -8,27 +8,7 @@ use Rattle.engine.specs.Scans.{found, scan_rows}
 use Rattle.engine.proofs.Scanned.{found_shows, none_yet, shown_next, struck_next}
 use borrow.Author.Rules.{rules}
 use Rattle.engine.proofs.scan_result.Goals as goal
-use Rattle.engine.proofs.scan_result.Goals.{Else-job-service, Then-job-service, else-job-service, then-job-service}
-
--- whether a scan shows the station at hand
-abbrev Shows : goal.In-loop-p → Bool → Type 0
-Shows x b = let l = x in let a = l.args in
-    shows (found a.jobs.now a.service.now (get_or a.order.now l.loop-p.p 0)) ≡ b
-
-tested : (t : goal.Then-job-service) → Shows t true
-tested t = let l = t in let a = l.args in
-    found_shows a.jobs.now a.service.now (get_or a.order.now l.loop-p.p 0) t.if-job-service.true
-
-passed : (t : goal.Else-job-service) → Shows t false
-passed t = let l = t in let a = l.args in
-    found_shows a.jobs.now a.service.now (get_or a.order.now l.loop-p.p 0) t.if-job-service.false
-
--- by the test: so a wrong test and a wrong entry are errors of two names
-turn : ((t : goal.Then-job-service) → Shows t true) → ((t : goal.Else-job-service) → Shows t false)
-    → goal.loop-p-preserved
-turn hit miss c =
-    let f = c.loop-p.invariant.2 in
-    elim c.if-job-service.branch [ then-job-service x ↦ (search rules, omega arith, shown_next _ _ _ _ f (omega arith) (omega arith) (hit record { before = c; if1 = x.0 }) x.1 x.2) | else-job-service x ↦ (search rules, omega arith, struck_next _ _ _ _ f (omega arith) (miss record { before = c; if1 = x.0 }) x.1 x.2) ]
+use Rattle.engine.proofs.scan_result.Goals.{else-job-service, then-job-service}
 
 pub loop-p-init : goal.loop-p-init
 loop-p-init c = (search rules, search rules, none_yet _ _)
@@ -49,7 +29,15 @@ pub overflow_cast-rows : goal.overflow_cast-rows
 overflow_cast-rows c = omega (arith, c.requires.by_index c.loop-p.p (omega arith))
 
 pub loop-p-preserved : goal.loop-p-preserved
-loop-p-preserved c = turn tested (goal.at.loop-p-preserved c).Then-job-service
+loop-p-preserved c =
+    let a = c.args in
+    let f = c.loop-p.invariant.2 in
+    elim c.if-job-service.branch [ 
+      then-job-service x ↦ (search rules, omega arith, shown_next _ _ _ _ f (omega arith) (omega arith)
+          (found_shows a.jobs.now a.service.now (get_or a.order.now c.loop-p.p 0) x.if-job-service.true) x.rows-is x.k-is)
+    | else-job-service x ↦ (search rules, omega arith, struck_next _ _ _ _ f (omega arith)
+          (found_shows a.jobs.now a.service.now (get_or a.order.now c.loop-p.p 0) x.if-job-service.false) x.rows-is x.k-is)
+    ]
 
 pub returns : goal.returns
 returns c =

@@ -12,12 +12,6 @@ Formed i = let a = i.args in well_formed (arrays a.count a.labels.now a.jobs.now
 formed : (i : goal.Then-well_formed) → Formed i
 formed i = sym i.well_formed-2.ensures ∙ i.if-well_formed.true
 
-counted : ((i : goal.Then-well_formed) → Formed i) → goal.returns-then-well_formed
-counted h c =
-    let i = c in
-    let e = c.newest-top.ensures in
-    tells_well_formed _ (h i) _ _ e.0 e.1
-
 pub newest-top-requires : goal.newest-top-requires
 newest-top-requires c = orderly _ (formed (goal.at.newest-top-requires c).Then-well_formed)
 
@@ -25,4 +19,6 @@ pub returns : goal.returns
 returns c = tells_ill_formed _ (sym c.well_formed-2.ensures ∙ c.if-well_formed.false)
 
 pub returns-then-well_formed : goal.returns-then-well_formed
-returns-then-well_formed c = (counted formed) c
+returns-then-well_formed c =
+    let e = c.newest-top.ensures in
+    tells_well_formed _ (formed (goal.at.returns-then-well_formed c).Then-well_formed) _ _ e.station_value e.holders_value
