@@ -43,7 +43,7 @@ shape_of-out-then-not-fed c =
 pub returns-then-not-fed : goal.returns-then-not-fed
 returns-then-not-fed c =
     let put = c.put-length in
-    gathered_end c.loop-order.invariant.0 c.from.ensures c.feed-fed.ensures.feeds (put.ensures.value, put.ensures.out_after) put.auto.out (c.if-not-fed.true)
+    gathered_end c.loop-order.invariant.0 c.from.ensures c.feed-fed.ensures.feeds (put.ensures.value, put.ensures.out_after) put.auto.out (not-true _ c.if-not-fed.true)
 
 pub overflow_add-at : goal.overflow_add-at
 overflow_add-at c =
@@ -52,7 +52,7 @@ overflow_add-at c =
 pub loop-order-smaller : goal.loop-order-smaller
 loop-order-smaller c =
     let put = c.put-length in
-    let more = c.if-not-fed.false in
+    let more = not-false _ c.if-not-fed.false in
     part_less c.loop-order.invariant.0 c.from.ensures c.feed-fed.ensures.feeds (put.ensures.value, put.ensures.out_after) put.auto.out more
     c.loop-order.invariant.2
 
@@ -60,7 +60,7 @@ pub loop-order-preserved : goal.loop-order-preserved
 loop-order-preserved c =
     let put = c.put-length in (
       gathered_more c.loop-order.invariant.0 c.from.ensures c.feed-fed.ensures.feeds (put.ensures.value, put.ensures.out_after) put.auto.out
-          (c.if-not-fed.false) c.loop-order.invariant.2,
+          (not-false _ c.if-not-fed.false) c.loop-order.invariant.2,
       c.feed-fed.ensures.underway_2,
       kept (goal.at.loop-order-preserved c).After-feed-fed,
     )
