@@ -35,7 +35,7 @@ pub fn refresh(
 }
 
 // The number that a move is given, if it takes one, and how many it takes; and whether it fits.
-#[derive(Drop)]
+#[derive(Clone, Copy)]
 struct Given {
     fits: bool,
     number: u32,
@@ -88,7 +88,7 @@ fn refresh_order(m: Move, place: usize, current: &[u32; 32], n: usize, order: &m
 }
 
 // What a step call comes to: whether its number fits, how many numbers are used up then, and what it hands out. A refused call takes no number.
-#[derive(Drop)]
+#[derive(Clone, Copy)]
 pub struct NumberedTurn {
     pub fits: bool,
     pub used: usize,

@@ -1,4 +1,4 @@
-use Prim.Native.Nat.{ℕ, ◌-◌, ◌≤◌, ◌<◌}
+use Prim.Native.Nat.{ℕ}
 use native.Mathlib.Omega.{arith}
 use mathlib.Core.Path.{◌≡◌, ap, ◌∙◌}
 use mathlib.Core.Bool.{not, ◌&&◌}
@@ -49,11 +49,14 @@ loop-j-preserved c =
     let old = c.loop-j.invariant.2 in
     let l : length r ≡ 32 = c.loop-j.invariant.1 in
     let small = c.requires.by_index c.loop-j.j (omega arith) in
-    elim c.if-j-k.branch [ then-j-k w ↦ (
-      search rules,
-      rw w.2 (simp length-set l),
-      rw w.2 (tally_hit 32 (λ i. not (eqb i k)) (λ i. get_or s i 0) r j old (ap not (ne_eqb j k w.0.taken)) small (omega arith)),
-    ) | else-j-k w ↦ (search rules, rw w.1 l, rw w.1 (tally_miss 32 (λ i. not (eqb i k)) (λ i. get_or s i 0) r j old (ap not (eq-eqb j k w.0.left)))) ]
+    elim c.if-j-k.branch [
+      | then-j-k w ↦ (
+        search rules,
+        rw w.r-is (simp length-set l),
+        rw w.r-is (tally_hit 32 (λ i. not (eqb i k)) (λ i. get_or s i 0) r j old (ap not (ne_eqb j k w.if-j-k.true)) small (omega arith)),
+      )
+      | else-j-k w ↦ (search rules, rw w.r-is l, rw w.r-is (tally_miss 32 (λ i. not (eqb i k)) (λ i. get_or s i 0) r j old (ap not (eq-eqb j k w.if-j-k.false))))
+    ]
 
 pub returns : goal.returns
 returns c = λ q h. c.loop-j.invariant.2 q h ∙ ap (λ (n : ℕ). count n (λ i. not (eqb i c.args.k) && eqb

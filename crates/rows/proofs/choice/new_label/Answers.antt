@@ -11,10 +11,10 @@ use Rattle.rows.proofs.choice.new_label.Goals as goal
 pub level-p-requires : goal.level-p-requires
 level-p-requires c =
     let a = c.args in record {
-  k_lt_n = search rules;
-  by_index = (shared_small 32 a.n (held a.rows.now) a.z a.k c.shared_prefixes-shared.result c.shared_prefixes-shared.ensures
-          (omega arith), );
-}
+      k_lt_n = search rules;
+      by_index = shared_small 32 a.n (held a.rows.now) a.z a.k c.shared_prefixes-shared.result c.shared_prefixes-shared.ensures
+          (omega arith);
+    }
 
 pub next_label-requires : goal.next_label-requires
 next_label-requires c =
@@ -22,11 +22,11 @@ next_label-requires c =
     let o = c.requires in
     let l = level_inside 32 a.n (held a.rows.now) a.z a.k c.shared_prefixes-shared.result
     c.shared_prefixes-shared.ensures (omega arith)
-    c.level-p.result c.level-p.ensures (omega arith) (omega arith) o.1.2 in
+    c.level-p.result c.level-p.ensures (omega arith) (omega arith) o.z_lt_n.2 in
     record {
-  h_bound = omega arith;
-  digit = o.0.valid a.z (omega arith) c.level-p.result l;
-}
+      h_bound = omega arith;
+      digit = o.orderly.valid a.z (omega arith) c.level-p.result l;
+    }
 
 pub returns : goal.returns
 unfolding new_label

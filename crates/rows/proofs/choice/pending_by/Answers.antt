@@ -14,9 +14,9 @@ new_label-requires c =
     let o = c.requires.orderly in
     let l = newest_inside _ _ (orderly_total _ _ o) (omega (arith, o.low)) in
     record {
-  orderly = o;
-  z_lt_n = (rw c.requires.z_value l, search rules, λ q. c.if-k-z.false (sym q));
-}
+      orderly = o;
+      z_lt_n = (rw c.requires.z_value l, search rules, λ q. c.if-k-z.false (sym q));
+    }
 
 pub returns : goal.returns
 returns c = c.new_label.ensures ∙ pending_new _ _ _ _ _ c.requires.z_value c.if-k-z.false

@@ -1,5 +1,5 @@
 use Prim.Native.Nat.{◌-◌, ◌≤◌}
-use mathlib.Core.Path.{◌≡◌, ◌∙◌}
+use mathlib.Core.Path.{◌≡◌}
 use Rattle.label.specs.Labels.{first_difference}
 use Rattle.label.specs.Rows.{digit}
 use Rattle.rows.specs.Held.{held}

@@ -1,4 +1,3 @@
-use Prim.Native.Nat.{◌-◌, ◌≤◌}
 use native.Mathlib.Omega.{arith}
 use Rattle.rows.proofs.NewestLaws.{leads_one, leads_all}
 use borrow.Author.Rules.{rules}
@@ -18,4 +17,6 @@ pub loop-j-preserved : goal.loop-j-preserved
 loop-j-preserved c = (search rules, search rules, c.with_next-top.ensures)
 
 pub returns : goal.returns
-returns c = leads_all c.requires (omega arith) c.loop-j.invariant.2
+returns c =
+    let all = leads_all c.requires (omega arith) c.loop-j.invariant.2 in
+    record { station_value = all.0; holders_value = all.1 }

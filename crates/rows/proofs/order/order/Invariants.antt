@@ -1,5 +1,5 @@
 use Prim.Native.Nat.{◌-◌, ◌≤◌}
-use mathlib.Core.Path.{◌≡◌, ◌∙◌}
+use mathlib.Core.Path.{◌≡◌}
 use Rattle.rows.specs.Held.{stands_in}
 use Rattle.rows.proofs.OrderLaws.{order_in}
 use Rattle.rows.proofs.order.order.Given as goal

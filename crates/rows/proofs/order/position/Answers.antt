@@ -1,6 +1,5 @@
-use Prim.Native.Nat.{◌+◌, ◌-◌, ◌/◌, ◌≤◌, ◌<◌}
+use Prim.Native.Nat.{◌+◌, ◌/◌, ◌<◌}
 use mathlib.Core.Path.{◌≡◌}
-use mathlib.Core.Bool.{true}
 use native.Mathlib.Omega.{arith}
 use lib.ListN.{get_or}
 use Rattle.rows.proofs.OrderLaws.{orderly_total, before_front, before_back}
@@ -27,36 +26,34 @@ label_before-requires c =
     let valid = c.requires.orderly.valid in
     let h = listed (goal.at.label_before-requires c).In-loop-low in
     record {
-  m_bound = search rules;
-  valid = valid _ (omega arith);
-  valid_2 = valid _ (omega arith);
-}
+      m_bound = search rules;
+      valid = valid _ (omega arith);
+      valid_2 = valid _ (omega arith);
+    }
 
 pub loop-low-preserved-then-label_before : goal.loop-low-preserved-then-label_before
-loop-low-preserved-then-label_before c =
-    (
-      omega arith,
-      search rules,
-      before_front (orderly_total _ _ c.requires.orderly) _ c.requires.k_lt_n.0 _ c.args.order.now c.requires.by_index c.requires.by_index_2 _
-          (omega arith) c.label_before.ensures c.if-label_before.true,
-      c.loop-low.invariant.3,
-    )
+loop-low-preserved-then-label_before c = (
+  omega arith,
+  search rules,
+  before_front (orderly_total _ _ c.requires.orderly) _ c.requires.k_lt_n.0 _ c.args.order.now c.requires.by_index c.requires.by_index_2 _
+      (omega arith) c.label_before.ensures c.if-label_before.true,
+  c.loop-low.invariant.3,
+)
 
 pub loop-low-preserved : goal.loop-low-preserved
-loop-low-preserved c =
-    (
-      omega arith,
-      omega arith,
-      c.loop-low.invariant.2,
-      before_back (orderly_total _ _ c.requires.orderly) _ c.requires.k_lt_n.0 _ c.args.order.now c.requires.by_index c.requires.by_index_2 _
-          (omega arith) c.label_before.ensures c.if-label_before.false,
-    )
+loop-low-preserved c = (
+  omega arith,
+  omega arith,
+  c.loop-low.invariant.2,
+  before_back (orderly_total _ _ c.requires.orderly) _ c.requires.k_lt_n.0 _ c.args.order.now c.requires.by_index c.requires.by_index_2 _
+      (omega arith) c.label_before.ensures c.if-label_before.false,
+)
 
 pub returns : goal.returns
 returns c =
     let e : c.loop-low.low ≡ c.loop-low.high = omega arith in
     record {
-  upper_bound = search rules;
-  by_index_3 = c.loop-low.invariant.2;
-  by_index_4 = λ p h. c.loop-low.invariant.3 p (omega arith);
-}
+      upper_bound = search rules;
+      by_index_3 = c.loop-low.invariant.2;
+      by_index_4 = λ p h. c.loop-low.invariant.3 p (omega arith);
+    }

@@ -6,4 +6,4 @@ use Rattle.rows.proofs.order.take_out.Goals as goal
 pub returns : goal.returns
 returns c =
     let args = c.args in
-    c.remove_at.ensures ∙ ap (λ q. taken_out (args.n - 1) q args.order-1.now) c.place-q.ensures
+    c.remove_at.ensures ∙ ap (λ q. taken_out (args.n - 1) q args.order.now) c.place-q.ensures

@@ -11,9 +11,9 @@ below_at-requires c =
     let valid = c.requires.orderly.valid in
     let l = c.if-p-m.true in
     record {
-  p_bound = omega (arith, c.requires.orderly.high);
-  digit = (valid _ (omega (arith, c.requires.leads.inside)) _ l, valid _ c.requires.j_lt_n _ l);
-}
+      p_bound = omega (arith, c.requires.orderly.high);
+      digit = (valid _ (omega (arith, c.requires.leads.inside)) _ l, valid _ c.requires.j_lt_n _ l);
+    }
 
 pub returns-then-below_at : goal.returns-then-below_at
 returns-then-below_at c =

@@ -1,6 +1,5 @@
-use Prim.Native.Nat.{◌-◌, ◌≤◌}
 use mathlib.Core.Path.{◌≡◌, ap, sym, ◌∙◌}
-use mathlib.Core.Bool.{true, false, not, ◌&&◌}
+use mathlib.Core.Bool.{false, not, ◌&&◌}
 use native.Mathlib.Omega.{arith}
 use lib.Dec.{eqb}
 use borrow.Author.Rules.{rules}
@@ -10,7 +9,7 @@ use Rattle.basics.proofs.Facts.{both, left_no, right_no}
 use Rattle.basics.proofs.Loops.{every_none, every_more, every_done}
 use Rattle.rows.proofs.Rings.{some_here, reads, reads_not}
 use Rattle.rows.proofs.ring.parts_with.Goals as goal
-use Rattle.rows.proofs.ring.parts_with.Goals.{else-rows-j, then-rows-j}
+use Rattle.rows.proofs.ring.parts_with.Goals.{else-rows-j-via-else-rows-j, else-rows-j-via-then-rows-j+else-agree}
 
 pub loop-j-init : goal.loop-j-init
 loop-j-init c = (search rules, every_none _)
@@ -31,7 +30,7 @@ loop-j-preserved c =
     let here = eqb (held a.rows.now j a.p) a.d in
     let same = agrees a.p (held a.rows.now a.i) (held a.rows.now j) in
     let none : (here && same) ≡ false =
-    elim c.if-rows-j.branch [ then-rows-j w ↦ right_no here (sym w.3.ensures ∙ w.4.left) | else-rows-j w ↦ left_no same (reads_not a.rows.now j a.p a.d (search rules) w.left) ] in
+    elim c.else-rows-j.branch [ else-rows-j-via-then-rows-j+else-agree w ↦ right_no here (sym w.agree.ensures ∙ w.if-agree.false) | else-rows-j-via-else-rows-j w ↦ left_no same (reads_not a.rows.now j a.p a.d (search rules) w.if-rows-j.false) ] in
     (search rules, every_more _ _ c.loop-j.invariant.1 (ap not none))
 
 pub returns : goal.returns
