@@ -31,7 +31,7 @@ pub fn print_numbers(list: &[u32], out: &mut [u8]) -> usize
 }
 
 // What was read of some bytes: how many numbers, each on a line of its own, and whether these lines are all that there is.
-#[derive(Drop)]
+#[derive(Clone, Copy)]
 pub struct Read {
     pub whole: bool,
     pub count: usize,
