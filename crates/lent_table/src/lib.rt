@@ -1,4 +1,6 @@
 // The step calls on a table that its owner lends, and a question to it. Each calls the function on a table by value that has its name; two owners come last.
+#![tactic(auto)]
+
 ghost use Rattle.std.specs.Prelude.{◌≡◌, [], length};
 ghost use Rattle.simulation.specs.Calls.{Buffer, Bytes};
 ghost use Rattle.transition.specs.Questions.{Tells};
