@@ -94,7 +94,7 @@ pub fn return_to_service(t: &mut Table, station: u64) -> Reply
 
 // How many stations have the newest's label: a question, for which the table is lent and not changed.
 pub fn top_holders(t: &Table) -> Holders
-    ensures { Tells declared t.now (refusal_number result.refusal) result.stations × (t.now ≡ t.now) }
+    ensures { Tells declared t.now (refusal_number result.refusal) result.stations × (t.exit.now ≡ t.entry.now) }
 {
     step::top_holders(*t)
 }
