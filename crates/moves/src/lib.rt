@@ -5,7 +5,7 @@ ghost use Rattle.simulation.specs.Calls.{refused, unless, job_fits, not_due, nee
 ghost use Rattle.moves.specs.Moves.{phase_of, room_of, standing_of, refusal_number, move_of, called, directly, place_of};
 
 // What a process is doing: it takes a label, or it scans (document 01: mark, list).
-#[derive(Drop)]
+#[derive(Clone, Copy)]
 pub enum Operation {
     Label,
     Scan,
@@ -13,7 +13,7 @@ pub enum Operation {
 
 // What a process is due to do next (document 01: idle; due to look, write, end). The paper's pc with its op. A scan snaps as it begins, so a snap that is
 // due is for a label.
-#[derive(Drop)]
+#[derive(Clone, Copy)]
 pub enum Phase {
     Idle,
     Snap,
@@ -22,7 +22,7 @@ pub enum Phase {
 }
 
 // What a caller lends for the report of a scan: a buffer of so many bytes, or a panel of so many records.
-#[derive(Drop)]
+#[derive(Clone, Copy)]
 pub enum Room {
     Buffer(usize),
     Panel(usize),
@@ -30,7 +30,7 @@ pub enum Room {
 
 // Why a call is turned down, in the order of the documents' numbers, of which those from 14 on are document 02's; `Accepted` is 0. Document 01's trade
 // words stand beside the names.
-#[derive(Drop)]
+#[derive(Clone, Copy)]
 pub enum Refusal {
     Accepted,
     StationCount, // 1, bad crew
@@ -88,7 +88,7 @@ impl Refusal {
 }
 
 // A step call as its caller makes it; report lines bear the number `line`.
-#[derive(Drop)]
+#[derive(Clone, Copy)]
 pub struct Request {
     pub code: u64,
     pub station: u64,
@@ -109,7 +109,7 @@ pub fn direct(code: u64, station: u64, job: u64) -> Request
 }
 
 // What a call amounts to; a scan's begin is part of its snap.
-#[derive(Drop)]
+#[derive(Clone, Copy)]
 pub enum Move {
     Refused(Refusal),
     BeginLabel,
@@ -123,7 +123,7 @@ pub enum Move {
 }
 
 // What a call is judged by of the station that it names: its phase, whether it is out of service, and how many stations its scan result shows.
-#[derive(Drop)]
+#[derive(Clone, Copy)]
 pub struct Standing {
     pub phase: Phase,
     pub out: bool,

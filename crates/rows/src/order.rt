@@ -5,7 +5,7 @@ ghost use Rattle.label.specs.Labels.{holders};
 ghost use Rattle.rows.specs.Held.{held, stands_in, Orderly, OrderedBefore, place_among, taken_out, Leads};
 
 // The newest station, and how many stations have its label, the newest itself among them.
-#[derive(Drop)]
+#[derive(Clone, Copy)]
 pub struct Top {
     pub station: usize,
     pub holders: usize,

@@ -1,4 +1,5 @@
 // The lines of a schedule file: the header, and the step lines after it. Nothing here runs a step.
+#![tactic(auto)]
 ghost use Rattle.std.specs.Prelude.{◌≡◌, cond, ◌+◌, ◌≤◌, length, take, drop, eqb};
 ghost use Rattle.moves.specs.declared.Refusal.TheVariants.{Accepted};
 ghost use Rattle.simulation.specs.Calls.{original};
@@ -9,14 +10,14 @@ use columns::{Column, read_column, read_three};
 use moves::{Refusal, Request};
 
 // What a line of the file says: a step call, or the refusal that ends the reading.
-#[derive(Drop)]
+#[derive(Clone, Copy)]
 pub enum Line {
     Step { station: u64, code: u64, job: u64 },
     Refused(Refusal),
 }
 
 // What stands at a place of a file: a step call, the end, or the refusal that ends the reading.
-#[derive(Drop)]
+#[derive(Clone, Copy)]
 pub enum Next {
     Call(Request),
     End,
@@ -24,7 +25,7 @@ pub enum Next {
 }
 
 // What the first line says: the number of stations, or the refusal that ends the reading.
-#[derive(Drop)]
+#[derive(Clone, Copy)]
 pub enum Header {
     Stations(usize),
     Refused(Refusal),
@@ -127,7 +128,7 @@ pub fn from(file: &[u8], at: usize) -> &[u8]
 
 // What the lines of a part of a file come to, up to the refusal that ends the reading, if there is one: that refusal, how many lines are steps, and how
 // many of these are of step 3.
-#[derive(Drop)]
+#[derive(Clone, Copy)]
 pub struct Survey {
     pub refusal: Refusal,
     pub steps: u32,
