@@ -15,7 +15,7 @@ pub const ROOM: usize = 73764;
 
 // How far a file is read, of which no line is run: its header is still to come; so many lines are read, the header among them, and none is refused; or it is
 // refused, whatever follows.
-#[derive(Drop)]
+#[derive(Clone, Copy)]
 pub enum Reading {
     Start,
     Lines(u32),
@@ -90,7 +90,7 @@ pub fn told(reading: Reading) -> Refusal
 }
 
 // A schedule that was read: it could not be, it is refused, or so many bytes are all of it.
-#[derive(Drop)]
+#[derive(Clone, Copy)]
 pub enum Intake {
     Failed,
     Refused(Refusal),
