@@ -3,20 +3,13 @@ use Prim.Native.Nat.{◌<◌}
 use native.Mathlib.Omega.{arith}
 use mathlib.Core.Path.{sym, ◌∙◌}
 use lib.ListN.{length}
-use Rattle.schedule.proofs.Runs.{header_within}
-use Rattle.intake.proofs.Parts.{first_none, first_refused, first_read}
+use Rattle.intake.proofs.Parts.{first_refused, first_read}
 use Rattle.intake.proofs.read_first.Goals as goal
 use Rattle.intake.proofs.read_first.Goals.{After-line_at-header}
 
 -- where the header has been found
 some : (l : goal.After-line_at-header) → 0 < length l.args.part.now
 some l = omega (arith, l.if-part-eq0.false)
-
-pub returns-then-part-eq0 : goal.returns-then-part-eq0
-returns-then-part-eq0 c = first_none c.args.part.now c.if-part-eq0.true
-
-pub from-requires : goal.from-requires
-from-requires c = header_within c.args.part.now _ c.line_at-header.ensures
 
 pub returns-in-Refused : goal.returns-in-Refused
 returns-in-Refused c =

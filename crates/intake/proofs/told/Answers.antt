@@ -12,6 +12,3 @@ returns-in-Start c = sym (ap (λ w. ahead_read w []) c.in-Start.is ∙ told_star
 
 pub returns-else-lines-gt4097 : goal.returns-else-lines-gt4097
 returns-else-lines-gt4097 c = sym (ap (λ w. ahead_read w []) c.in-Lines.is ∙ told_few _ c.if-lines-gt4097.false)
-
-pub returns-in-Refused : goal.returns-in-Refused
-returns-in-Refused c = sym (ap (λ w. ahead_read w []) c.in-Refused.is)
