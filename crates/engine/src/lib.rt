@@ -1,4 +1,5 @@
 // The one engine: step calls on a table in four arrays, which are lent and changed in place, and a question to it, which changes nothing.
+#![tactic(auto)]
 ghost use Rattle.std.specs.Prelude.{◌≡◌, ◌≢◌, true, map, ℕ, ◌*◌, ◌≤◌, ◌<◌, length, get_or, replicate};
 ghost use Rattle.basics.specs.Tests.{newest};
 ghost use Rattle.rows.specs.Held.{stands_in, Orderly};
@@ -29,14 +30,14 @@ const PHASE: usize = 0;
 const SERVICE: usize = 1;
 
 // What a caller is told: the refusal, and how many bytes or records of report were written.
-#[derive(Drop)]
+#[derive(Clone, Copy)]
 pub struct Reply {
     pub refusal: Refusal,
     pub written: usize,
 }
 
 // A call that has been judged: its move, the place of its station, its job, the newest station, and how many entries the end of a scan hands out.
-#[derive(Drop)]
+#[derive(Clone, Copy)]
 pub struct Task {
     pub action: Move,
     pub place: usize,
@@ -46,7 +47,7 @@ pub struct Task {
 }
 
 // What a call hands out, before it is written anywhere: its refusal, and so many entries of the scan result at a place.
-#[derive(Drop)]
+#[derive(Clone, Copy)]
 pub struct Handed {
     pub refusal: Refusal,
     pub place: usize,
@@ -410,7 +411,7 @@ pub fn step_shown(
 }
 
 // What is told of a table: the refusal, and how many stations have the newest's label; none if it is refused.
-#[derive(Drop)]
+#[derive(Clone, Copy)]
 pub struct Holders {
     pub refusal: Refusal,
     pub stations: usize,

@@ -16,7 +16,7 @@ use arrays::{Control, Jobs, Labels, Results};
 
 // What a caller is told: the documents' number, 0 if the call is served, and how many bytes or records of report, or numbers, were written.
 #[repr(C)]
-#[derive(Drop)]
+#[derive(Clone, Copy)]
 pub struct Answer {
     pub refusal: u64,
     pub written: u64,
@@ -100,7 +100,7 @@ pub extern "C" fn tickets_step_panel(
 
 // What is told of a table: the documents' number, 0 if it is well-formed, and how many stations have the newest's label.
 #[repr(C)]
-#[derive(Drop)]
+#[derive(Clone, Copy)]
 pub struct Holders {
     pub refusal: u64,
     pub stations: u64,
@@ -131,7 +131,7 @@ pub extern "C" fn tickets_top_holders(
 // What is told of the report of a file: 7 if it does not fit, else 0; the final refusal of the file, 0 if it has none; how many bytes were written, none with
 // 7; and how long the report is.
 #[repr(C)]
-#[derive(Drop)]
+#[derive(Clone, Copy)]
 pub struct Reported {
     pub refusal: u64,
     pub ended: u64,
@@ -171,7 +171,7 @@ pub extern "C" fn tickets_numbers(schedule: &[u8], numbers: &mut [u32]) -> Answe
 
 // What is told of a log: the documents' number, 0 if its schedule is served; and 1 if the log is right, else 0.
 #[repr(C)]
-#[derive(Drop)]
+#[derive(Clone, Copy)]
 pub struct Verdict {
     pub refusal: u64,
     pub right: u64,

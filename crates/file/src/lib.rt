@@ -1,4 +1,5 @@
 // Schedule files on the engine: the lines of a part of a file, and a whole file with its report.
+#![tactic(auto)]
 ghost use Rattle.std.specs.Prelude.{◌≡◌, ◌≢◌, cond, [], ◌++◌, ◌+◌, ◌*◌, ◌/◌, ◌≤◌, ◌<◌, length, take};
 ghost use Rattle.rows.specs.Held.{Orderly, OrderedBefore};
 ghost use Rattle.simulation.specs.Calls.{Buffer};
@@ -24,7 +25,7 @@ const ROOM: usize = 928;
 
 // What lines leave beside the table and the output buffer: how many lines are counted, the final refusal if there is one, the
 // bytes of the part that were read, and the bytes that were printed.
-#[derive(Drop)]
+#[derive(Clone, Copy)]
 struct Progress {
     lines: u32,
     refusal: Refusal,
@@ -64,7 +65,7 @@ fn refresh_order(m: Move, place: usize, rows: &[[u8; 31]; 32], n: usize, order: 
 
 // A step call that was served: what it amounts to, the newest station before it, its refusal, and so many entries of the scan result at a place, that of its
 // station, which it hands out.
-#[derive(Drop)]
+#[derive(Clone, Copy)]
 pub struct Turn {
     pub action: Move,
     pub newest: usize,
@@ -195,7 +196,7 @@ fn report_lines(
 }
 
 // A file in its run: how many lines are counted, 0 before the header; how many stations its table has; and its final refusal, if there is one.
-#[derive(Drop)]
+#[derive(Clone, Copy)]
 pub struct Run {
     pub lines: u32,
     pub count: usize,
@@ -204,7 +205,7 @@ pub struct Run {
 
 // What a part of the file leaves beside the table and the output buffer: the run, the bytes of the part that were read, the bytes that were printed, and
 // whether more can be served of the part, for which there is no room.
-#[derive(Drop)]
+#[derive(Clone, Copy)]
 pub struct Fed {
     pub run: Run,
     pub read: usize,
@@ -280,7 +281,7 @@ fn fed_by(n: usize, at: usize, r: Progress, end: usize) -> Fed
 
 // How a part starts: with nothing that can be served, with a header that is refused, or with lines behind `lines` others, from a place on, on a table of
 // `count` stations.
-#[derive(Drop)]
+#[derive(Clone, Copy)]
 enum Opening {
     Nothing,
     Refused(Refusal),
@@ -420,7 +421,7 @@ fn put(bytes: &[u8], out: &mut [u8], at: usize) -> usize
 }
 
 // The final refusal of a file, and the length of its report.
-#[derive(Drop)]
+#[derive(Clone, Copy)]
 struct Ending {
     refusal: Refusal,
     length: usize,
@@ -471,7 +472,7 @@ fn run_file(file: &[u8], out: &mut [u8]) -> Ending
 
 // What the call that reports a file tells: its own refusal, 7 if the report does not fit; the final refusal of the file; how many bytes were written, and how
 // long the report is.
-#[derive(Drop)]
+#[derive(Clone, Copy)]
 pub struct FileReply {
     pub refusal: Refusal,
     pub ended: Refusal,

@@ -37,7 +37,7 @@ fn comes_next(part: &[u8], at: usize, bytes: &[u8]) -> bool
 }
 
 // Whether the number of a step line fits; and then how many numbers are used up, and how many bytes the line writes.
-#[derive(Drop)]
+#[derive(Clone, Copy)]
 struct Ran {
     fits: bool,
     used: usize,
@@ -87,7 +87,7 @@ fn run_line(
 
 // How far the check of a log is, beside the table that is run: whether all is right so far; how many stations and numbers there are, and how many numbers are
 // used up; the place in the schedule, behind so many lines; and how many bytes the last step wrote to a buffer, and how many of these the report has shown.
-#[derive(Drop)]
+#[derive(Clone, Copy)]
 pub struct Progress {
     pub right: bool,
     pub stations: usize,
@@ -210,7 +210,7 @@ pub fn finish(check: Progress) -> bool
 }
 
 // The start of a check: the schedule is refused, before any step is run, or the report can come.
-#[derive(Drop)]
+#[derive(Clone, Copy)]
 pub enum Begun {
     Refused(Refusal),
     Running(Progress),
@@ -281,7 +281,7 @@ pub fn start(
 }
 
 // What is told of a log: the refusal of its schedule, and, if there is none, whether it is right.
-#[derive(Drop)]
+#[derive(Clone, Copy)]
 pub struct Verdict {
     pub refusal: Refusal,
     pub right: bool,

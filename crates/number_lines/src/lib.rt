@@ -1,5 +1,6 @@
 // Numbers on lines of 12 bytes each (document 02, Cards 6 and 7): printed, and read back.
 #![tactic(auto)]
+
 ghost use Rattle.std.specs.Prelude.{◌≡◌, ◌++◌, ◌*◌, ◌≤◌, length, drop};
 ghost use Rattle.number_lines.specs.Lines.{number_line, number_lines, number_read, NumbersRead};
 
@@ -30,7 +31,7 @@ pub fn print_numbers(list: &[u32], out: &mut [u8]) -> usize
 }
 
 // What was read of some bytes: how many numbers, each on a line of its own, and whether these lines are all that there is.
-#[derive(Drop)]
+#[derive(Clone, Copy)]
 pub struct Read {
     pub whole: bool,
     pub count: usize,

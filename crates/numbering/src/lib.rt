@@ -26,7 +26,7 @@ use moves::{Move, Refusal, Request};
 use schedule::{Header, Next, Survey};
 
 // Where the number of a new label goes among those in use: it is one of them, or it comes right after one.
-#[derive(Drop)]
+#[derive(Clone, Copy)]
 enum Slot {
     Shared(u32),
     After(u32),

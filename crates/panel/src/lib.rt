@@ -7,7 +7,7 @@ use step::Outcome;
 use table::{Entry, Table};
 
 // A place of a scan result, from 1, with its station and job.
-#[derive(Drop)]
+#[derive(Clone, Copy)]
 pub struct Record {
     pub place: u32,
     pub station: u32,
@@ -59,7 +59,7 @@ pub fn step_lent(t: &mut Table, code: u64, station: u64, job: u64, panel: &mut [
 }
 
 // What an owner has after a call: the table, the reply and its records.
-#[derive(Drop)]
+#[derive(Clone, Copy)]
 pub struct Shown {
     pub table: Table,
     pub reply: Reply,

@@ -14,7 +14,7 @@ use schedule::{Header, Line};
 use table::Table;
 
 // How many lines were counted, the header among them; the final refusal, or `Accepted`; the table.
-#[derive(Drop)]
+#[derive(Clone, Copy)]
 pub struct Session {
     pub lines: u32,
     pub refusal: Refusal,
@@ -22,7 +22,7 @@ pub struct Session {
 }
 
 // What a line leaves: the session, and the reply to the line.
-#[derive(Drop)]
+#[derive(Clone, Copy)]
 pub struct Served {
     pub session: Session,
     pub reply: Reply,

@@ -1,4 +1,5 @@
 // The unbounded table, with whole numbers in place of labels (document 02, Card 7: the growing-number table), fed with the numbers of a log.
+#![tactic(auto)]
 pub mod numbers;
 
 ghost use Rattle.std.specs.Prelude.{◌≡◌, ◌≢◌, ◌≤◌, ◌<◌, length};
@@ -35,7 +36,7 @@ pub fn refresh(
 }
 
 // The number that a move is given, if it takes one, and how many it takes; and whether it fits.
-#[derive(Drop)]
+#[derive(Clone, Copy)]
 struct Given {
     fits: bool,
     number: u32,
@@ -88,7 +89,7 @@ fn refresh_order(m: Move, place: usize, current: &[u32; 32], n: usize, order: &m
 }
 
 // What a step call comes to: whether its number fits, how many numbers are used up then, and what it hands out. A refused call takes no number.
-#[derive(Drop)]
+#[derive(Clone, Copy)]
 pub struct NumberedTurn {
     pub fits: bool,
     pub used: usize,

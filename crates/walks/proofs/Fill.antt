@@ -16,8 +16,8 @@ use lib.WfN.{lt-wf_rel}
 use lib.Dec.{T, ltb, ltb→lt, nltb→le, lit<}
 use lib.ListN.{length, set}
 use seplogic.Ra.Ura.{Ura}
-use seplogic.Ra.TreeShare.{full_share}
-use mir.Syntax.{Ty, Name, Fn, Body, seq, skip as skipᴹ, assign, block, loop, cond, exit, return, call, named, mut, w64, ty_int, ty_bool, ty_ptr, ty_ref, ty_array}
+use base.Fraction.{full_share}
+use mir.Syntax.{Ty, Callee, Fn, Body, seq, skip as skipᴹ, assign, block, loop, cond, exit, return, call, named, mut, w64, ty_int, ty_bool, ty_ptr, ty_ref, ty_array}
 use mir.Syntax.{ty_unit, unsigned, lt, mul, add, offset, op2, int, opd_unit, rv_opd, copy, place, field, deref, local, value_local}
 use mir.Val.{Val, vint, vptr, vunit}
 use base.Logic.{SProp, ent, emp, snd∗, ex_e, id⊢}
@@ -128,27 +128,29 @@ module _ (E R : Data) (w : ℕ) where
   word = ty_int w64
 
   -- a turn, without its test; a turn; what comes after the loop; and the loop with it
-  abbrev stores : Name → Body
+  abbrev stores : Callee → Body
   stores key = seq (call key (copy (place 2 []) ∷ copy (place 4 []) ∷ []) (place 6 []))
       (seq (assign (place 7 []) (op2 (mul unsigned) (copy (place 4 [])) (int w64 (bytes R))))
       (seq (assign (place 8 []) (op2 offset (copy (place 1 (field 0 ∷ []))) (copy (place 7 []))))
       (seq (assign (place 8 (deref (ty R) ∷ [])) (rv_opd (copy (place 6 []))))
       (assign (place 4 []) (op2 (add unsigned) (copy (place 4 [])) (int w64 1))))))
 
-  abbrev turn : Name → Body
+  abbrev turn : Callee → Body
   turn key = seq (assign (place 5 []) (op2 (lt unsigned) (copy (place 4 [])) (copy (place 3 []))))
       (seq (cond (copy (place 5 [])) skipᴹ (exit 1)) (stores key))
 
   abbrev leave : Body
   leave = seq (assign (place 0 []) (rv_opd opd_unit)) return
 
-  abbrev run : Name → Body
+  abbrev run : Callee → Body
   run key = seq (block (loop (turn key))) leave
 
-  abbrev pub fill_function : Name → Fn
+  abbrev pub fill_function : Callee → Fn
   fill_function key = record {
     lifetimes = 1;
     outlives = [];
+    ty_params = [];
+    givens = 0;
     params = 3;
     locals = local ty_unit value_local ∷ local slice value_local ∷ local list value_local ∷ local word value_local ∷ local word value_local ∷ local ty_bool value_local
         ∷ local (ty R) value_local ∷ local word value_local ∷ local ty_ptr value_local ∷ [];
@@ -164,7 +166,7 @@ module _ (E R : Data) (w : ℕ) where
   abbrev stayed : Stays fill_ended.signature.params fill_ended.kept
   stayed = (stay_slice (0 ∷ []) tt (plain (λ _. row R)), (stay_none (λ _. Es) yes, (stay_none (λ _. usize) yes, tt)))
 
-  module _ (f : Makes E R) (key : Name) (thin : T (ltb (bytes R) (2 ^ 64))) where
+  module _ (f : Makes E R) (key : Callee) (thin : T (ltb (bytes R) (2 ^ 64))) where
     record_of : {M : Type 1} {𝓤 : Ura M} (𝓛 : Logic 𝓤) (es : List (row E).Denot) (i : ℕ) (r : (row R).Denot)
         → ent 𝓤 (ensured 𝓛 record_ended (record_clauses f 𝓤) tt (es, (i, tt)) tt r) (fact 𝓤 (r ≡ f es i))
     record_of {𝓤 = 𝓤} 𝓛 es i r = ex_e 𝓤 _ (λ ws. snd∗ 𝓤 (sem 𝓛 (lasts record_ended tt (es, (i, tt)) ws)) (fact 𝓤 (r ≡ f es i)))
@@ -192,7 +194,7 @@ module _ (E R : Data) (w : ℕ) where
       abbrev Post : Val → SProp 𝓤
       Post = (walk_of 𝓛 fill_ended stayed (fill_clauses f 𝓤)).post (((κ, tt), (q, tt), tt, a, av), tt)
 
-      es_makes : ent 𝓤 (emp 𝓤) (sem 𝓛 (Es.own es (ev ∷ [])))
+      es_makes : ent 𝓤 (emp 𝓤) (sem 𝓛 (Es.own_val es (ev ∷ [])))
       es_makes = Array-Makes 𝓛 (row E) (makes E 𝓛) w es (ev ∷ []) is-es
 
       -- what `record_at`'s triple binds outside, and what makes what it asks
@@ -202,7 +204,7 @@ module _ (E R : Data) (w : ℕ) where
       goes_record : (i : ℕ) → i < w → i < 2 ^ 64 → ent 𝓤 (emp 𝓤) ((RecordAt f 𝓛).pre (to_record i))
       goes_record i small fits =
           qed 𝓛 [] ∵ says ! small $ nothing ! $ owned ! usize (Is usize) (uint_Makes 𝓛 w64) i _ (refl, fits) $ fjoin ! $
-          use0 𝓛 (‵ (Es.own es (ev ∷ []))) es_makes $ fjoin ! $ nothing ! $ frame ! $ done !
+          use0 𝓛 (‵ (Es.own_val es (ev ∷ []))) es_makes $ fjoin ! $ nothing ! $ frame ! $ done !
 
       -- the panel when i records are filled
       abbrev panel : ℕ → List (row R).Denot
@@ -224,7 +226,7 @@ module _ (E R : Data) (w : ℕ) where
             subst (Room (row R))
                 (sym l) room,
           ) $ fjoin ! $
-          nothing ! $ owned ! usize (Is usize) (uint_Makes 𝓛 w64) n _ (refl, n-fits) $ fjoin ! $ use0 𝓛 (‵ (Es.own es (ev ∷ []))) es_makes $ fjoin ! $
+          nothing ! $ owned ! usize (Is usize) (uint_Makes 𝓛 w64) n _ (refl, n-fits) $ fjoin ! $ use0 𝓛 (‵ (Es.own_val es (ev ∷ []))) es_makes $ fjoin ! $
           move ! (1 ∷ 0 ∷ []) $ fjoin ! $ frame ! $ feq_i ! (List Val) (vunit ∷ []) (vunit ∷ []) refl $ done !
 
       -- ---- the loop
@@ -271,7 +273,7 @@ module _ (E R : Data) (w : ℕ) where
             use0 𝓛 (raw ((RecordAt f 𝓛).pre (to_record i.0))) (goes_record i.0 (lt_of_lt_of_le (under less) short) (fits i)) $
             calls_at ! (fm_of 𝓤 H 𝓛.laws 𝓣) (RecordAt f 𝓛) known (to_record i.0) (and_then ! (load ! (from ! (stop !)) (look ! 17 refl))
             (and_then ! (load ! (from ! (stop !)) (look ! 13 refl)) (no_more !))) (λ v.
-            use1 𝓛 (later (some (λ (r : (row R).Denot). (‵ ftrue ⊛ ‵ ((row R).own r (v ∷ []))) ⊛ raw
+            use1 𝓛 (later (some (λ (r : (row R).Denot). (‵ ftrue ⊛ ‵ ((row R).own_val r (v ∷ []))) ⊛ raw
             (ensured 𝓛 record_ended (record_clauses f 𝓤) tt (es, (i.0, tt)) tt r)))) (id⊢ 𝓤 _) $ await ! tt $ pick ! (λ r.
             split ! $ move ! (1 ∷ []) $ use1 𝓛 (raw (fact 𝓤 (r ≡ f es i.0))) (record_of 𝓛 es i.0 r) $
             heard ! (r ≡ f es i.0) (λ e. split ! $ drop ! $ peeks ! (row R) (Is (row R)) (shows 𝓛 (row R)) r (v ∷ []) (λ is.
@@ -363,7 +365,7 @@ module _ (E R : Data) (w : ℕ) where
             (Goes-none 𝓛 1 (λ _. Es) yes (λ κs. silent (array_same E w)), (Goes-none 𝓛 1 (λ _. usize) yes (λ κs x f. refl), tt)),
           ) (fill_clauses f 𝓤) (WpFn 𝓤 H 𝓣.C 𝓣.Λ (fill_function key)) (WpFn-mono 𝓤 H 𝓛.laws 𝓣 (fill_function key)) fill_walks
 
-    module _ {M : Type 1} {𝓤 : Ura M} (𝓛 : Logic 𝓤) (𝓜 : Model 𝓤 𝓛.H) (𝓡 : Running 𝓤 𝓛.H 𝓜) (γ : Linkage) (n : Name) (r : Routine) where
+    module _ {M : Type 1} {𝓤 : Ura M} (𝓛 : Logic 𝓤) (𝓜 : Model 𝓤 𝓛.H) (𝓡 : Running 𝓤 𝓛.H 𝓜) (γ : Linkage) (n : Callee) (r : Routine) where
       open 𝓛 use {H}
 
       pub fill_spec : γ key ≡ r → Closed 𝓤 H (tables 𝓤 H 𝓜 𝓡 γ).C (tables 𝓤 H 𝓜 𝓡 γ).Λ n (fill_function key)

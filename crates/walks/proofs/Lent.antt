@@ -8,21 +8,21 @@ use mathlib.Core.Path.{◌≡◌, refl, sym, ap, subst}
 use Prim.Native.Nat.{ℕ, suc}
 use mathlib.Core.List.{[], ◌∷◌, List}
 use seplogic.Ra.Ura.{Ura}
-use seplogic.Ra.TreeShare.{full_share}
-use mir.Syntax.{Ty, Name, Fn, named, mut, ty_ref, deref, field, place, copy, local, value_local, rv_opd, seq, assign, call, return}
+use base.Fraction.{full_share}
+use mir.Syntax.{Ty, Step as PStep, Callee, Fn, named, mut, ty_ref, deref, field, place, copy, local, value_local, rv_opd, seq, assign, call, return}
 use mir.Val.{Val, vptr}
 use base.Logic.{SProp, ent, emp, via, fst∗, id⊢}
 use base.Fml.{GName, fat, flft, fobs, fbor}
 use prog.Model.{Model}
 use prog.Routine.{Routine, Env}
-use prog.Wp.{Heap, Calls, Loops, WpFn, Tables, Closed}
+use prog.Wp.{Heap, Spot, Calls, Loops, WpFn, Tables, Closed, spot_of}
 use types.Logic.{Logic}
 use contract.Monad.{fact}
 use contract.Lifetimes.{Lfts, Shares, toks}
 use contract.Running.{Running, tables}
-use types.Kit.{‵, raw, ◌⊛◌, some, later, given, ⋆, ◌$◌, ◌∵◌, !, qed, by, move, keep, drop, use1, use3, split, join, pick, learn, rewrite, fsplit}
+use types.Kit.{Item, ‵, raw, ◌⊛◌, some, later, given, ⋆, ◌$◌, ◌∵◌, !, qed, by, move, keep, drop, use1, use3, split, join, pick, learn, rewrite, fsplit}
 use types.Kit.{fsplit3, fjoin, fjoin3, feq_i, suffices, frame, await, done}
-use types.Run.{look, look_raw, init, store_raw, forget, stop, hop, fld, from, load, of_opd, and_then, assigns, land, returns, enter, alloc1, params1, pass1}
+use types.Run.{Walks as Follows, Finds, look, look_raw, init, store_raw, forget, stop, hop, fld, from, load, of_opd, and_then, assigns, land, returns, enter, alloc1, params1, pass1}
 use types.Run.{alloc0, free1, free0}
 use types.Part.{whole, sub, look_in}
 use types.SemTy.{Body}
@@ -55,6 +55,11 @@ use Rattle.walks.proofs.Report.{prepares, read_borrow, free_buffer, free_borrow}
 -- what a call says: of the table, the numbers and the buffer passed, and of the table, the reply and the buffer left
 abbrev pub Says : {T R : Plainly} → Both T R → Beside → ℕ → Type 1
 Says {T} {R} S b k = T.R.Denot → Nums k → List (Cell b) → T.R.Denot → R.R.Denot → List (Cell b) → Type 0
+
+-- in the MIR of the call the table that is stored stands after the borrow of the buffer
+abbrev behind : Beside → ℕ
+behind none = 2
+behind (slice X) = 4
 
 module _ {T R : Plainly} (S : Both T R) (b : Beside) (k : ℕ) where
   -- ---- the signatures of the step by value and of the call on a lent table
@@ -91,18 +96,21 @@ module _ {T R : Plainly} (S : Both T R) (b : Beside) (k : ℕ) where
   }
 
   -- ---- the MIR of the call, which calls the key
-  abbrev pub lent_function : Name → Fn
+  abbrev pub lent_function : Callee → Fn
   lent_function key = record {
     lifetimes = suc (lives b);
     outlives = [];
+    ty_params = [];
+    givens = 0;
     params = suc (past k (beyond b 0));
     locals = local R.mir value_local ∷ local (ty_ref (named 0) mut (pointee T.R.written)) value_local
-        ∷ locals k (buffer_local 1 b (local (layout S) value_local ∷ local T.mir value_local ∷ borrow_locals b []));
+        ∷ locals k (buffer_local 1 b (local (layout S) value_local ∷ local T.mir value_local ∷ borrow_locals b (local T.mir value_local ∷ [])));
     body = seq (assign (place (after k (beyond b 1)) []) (rv_opd (copy (place 1 (deref T.mir ∷ [])))))
         (prepare b k 2
         (seq (call key (copy (place (after k (beyond b 1)) []) ∷ reads k (λ i. suc (suc i)) (passed b k 2)) (place (after k (beyond b 0)) []))
-        (seq (assign (place 1 (deref T.mir ∷ [])) (rv_opd (copy (place (after k (beyond b 0)) (field 0 ∷ [])))))
-        (seq (assign (place 0 []) (rv_opd (copy (place (after k (beyond b 0)) (field 1 ∷ []))))) return))));
+        (seq (assign (place (after k (beyond b (behind b))) []) (rv_opd (copy (place (after k (beyond b 0)) (field 0 ∷ [])))))
+        (seq (assign (place 1 (deref T.mir ∷ [])) (rv_opd (copy (place (after k (beyond b (behind b))) []))))
+        (seq (assign (place 0 []) (rv_opd (copy (place (after k (beyond b 0)) (field 1 ∷ []))))) return)))));
   }
 
   abbrev stayed : Stays lent_ended.signature.params lent_ended.kept
@@ -114,17 +122,29 @@ module _ {T R : Plainly} (S : Both T R) (b : Beside) (k : ℕ) where
   abbrev pub Lend : Says S b k → {M : Type 1} {𝓤 : Ura M} (𝓛 : Logic 𝓤) → Contract 𝓤
   Lend Q {𝓤 = 𝓤} 𝓛 = triple_of 𝓛 lent_ended.signature (closing 𝓛 lent_ended (lent_clauses Q 𝓤))
 
--- the locals after the numbers and the buffer, at their blocks: what the step returns, the table, and the borrow; and where the buffer and the borrow stand
-abbrev rest : {T R : Plainly} → Both T R → Beside → ℕ → ℕ → ℕ → ℕ → List (Ty × ℕ)
-rest {T} S b r₀ r₁ i j = (layout S, r₀) ∷ (T.mir, r₁) ∷ borrow_env b i j []
+-- the locals after the numbers and the buffer, at their blocks: what the step returns, the table, the borrow, and the table that is stored; and where the
+-- buffer and the borrow stand
+abbrev rest : {T R : Plainly} → Both T R → Beside → (r₀ r₁ i j r₂ : ℕ) → List (Ty × ℕ)
+rest {T} S b r₀ r₁ i j r₂ = (layout S, r₀) ∷ (T.mir, r₁) ∷ borrow_env b i j ((T.mir, r₂) ∷ [])
 
-stand : {M : Type 1} (𝓤 : Ura M) (H : Heap 𝓤) {T R : Plainly} (S : Both T R) (b : Beside) (k : ℕ) (bs : Nums k) (p r₀ r₁ i j : ℕ)
-    → Stand 𝓤 H (env k bs (buffer_env 1 b p (rest S b r₀ r₁ i j))) 1 b k 2 p i j
-stand 𝓤 H S none k bs p r₀ r₁ i j = tt
-stand 𝓤 H S (slice X) k bs p r₀ r₁ i j = let at = past_is 𝓤 H k bs (buffer_env 1 (slice X) p (rest S (slice X) r₀ r₁ i j)) in (at 0, at 3, at 4)
+stand : {M : Type 1} (𝓤 : Ura M) (H : Heap 𝓤) {T R : Plainly} (S : Both T R) (b : Beside) (k : ℕ) (bs : Nums k) (p r₀ r₁ i j r₂ : ℕ)
+    → Stand 𝓤 H (env k bs (buffer_env 1 b p (rest S b r₀ r₁ i j r₂))) 1 b k 2 p i j
+stand 𝓤 H S none k bs p r₀ r₁ i j r₂ = tt
+stand 𝓤 H S (slice X) k bs p r₀ r₁ i j r₂ =
+    let at = past_is 𝓤 H k bs (buffer_env 1 (slice X) p (rest S (slice X) r₀ r₁ i j r₂)) in (at 0, at 3, at 4)
+
+module _ {M : Type 1} {𝓤 : Ura M} {𝓛 : Logic 𝓤} {K : Type 0} {Γ : List (Item 𝓤)} where
+  -- the table that is stored
+  open 𝓛 use {H}
+
+  from_stored : K → {T R : Plainly} (S : Both T R) (b : Beside) (k : ℕ) (bs : Nums k) (p r₀ r₁ i j r₂ : ℕ) {e e' : Ty × ℕ} {st : List PStep} {sp : Spot 𝓤 H}
+      → Follows K 𝓛 Γ (e ∷ e' ∷ env k bs (buffer_env 1 b p (rest S b r₀ r₁ i j r₂))) (spot_of 𝓤 H ((T.mir, r₂) ∷ []) 0) st sp
+      → Finds K 𝓛 Γ (e ∷ e' ∷ env k bs (buffer_env 1 b p (rest S b r₀ r₁ i j r₂))) (place (after k (beyond b (behind b))) st) sp
+  from_stored t S none k bs p r₀ r₁ i j r₂ = from_rest t 2 1 none k bs p (rest S none r₀ r₁ i j r₂)
+  from_stored t S (slice X) k bs p r₀ r₁ i j r₂ = from_rest t 4 1 (slice X) k bs p (rest S (slice X) r₀ r₁ i j r₂)
 
 module _ {M : Type 1} {𝓤 : Ura M} (𝓛 : Logic 𝓤) {T R : Plainly} (S : Both T R) (b : Beside) (k : ℕ)
-    (Q : Says S b k) (key : Name) (κs : Lfts (suc (lives b))) (qs : Shares (suc (lives b))) (m o : ℕ) (γ : GName) (h : T.R.Denot) (ns : Nums k)
+    (Q : Says S b k) (key : Callee) (κs : Lfts (suc (lives b))) (qs : Shares (suc (lives b))) (m o : ℕ) (γ : GName) (h : T.R.Denot) (ns : Nums k)
     (x : Denots (types_at (buffer b) κs)) (fit : Fit k ns) (fine : Fine b (held b κs x)) where
   open 𝓛 use {H}
 
@@ -179,10 +199,10 @@ module _ {M : Type 1} {𝓤 : Ura M} (𝓛 : Logic 𝓤) {T R : Plainly} (S : Bo
   abbrev to : (Step S b k Q 𝓛).Ghost
   to = ((κs.1, qs.1, tt, a', av'), tt)
 
-  goes : ent 𝓤 (⋆ 𝓛 (raw (toks 𝓛 (lives b) κs.1 qs.1) ∷ ‵ (owns (types_at (buffer' b) κs.1) x' vs') ∷ ‵ (T.R.own h (tv h ∷ [])) ∷ []))
+  goes : ent 𝓤 (⋆ 𝓛 (raw (toks 𝓛 (lives b) κs.1 qs.1) ∷ ‵ (owns (types_at (buffer' b) κs.1) x' vs') ∷ ‵ (T.R.own_val h (tv h ∷ [])) ∷ []))
       ((Step S b k Q 𝓛).pre to)
   goes =
-      qed 𝓛 (raw (toks 𝓛 (lives b) κs.1 qs.1) ∷ ‵ (owns (types_at (buffer' b) κs.1) x' vs') ∷ ‵ (T.R.own h (tv h ∷ [])) ∷ []) ∵ move !
+      qed 𝓛 (raw (toks 𝓛 (lives b) κs.1 qs.1) ∷ ‵ (owns (types_at (buffer' b) κs.1) x' vs') ∷ ‵ (T.R.own_val h (tv h ∷ [])) ∷ []) ∵ move !
       (1 ∷ []) $
       use1 𝓛 (‵ (owns (types_at (nums k (buffer' b)) κs.1) a'.1 av'.1)) (own_all 𝓛 κs.1 (buffer' b) x' vs' k ns fit) $
       move ! (2 ∷ 0 ∷ []) $ fjoin ! $
@@ -212,11 +232,13 @@ module _ {M : Type 1} {𝓤 : Ura M} (𝓛 : Logic 𝓤) {T R : Plainly} (S : Bo
         (owns (types_at (lent_ended S b k).signature.params κs) a av) ∷ []) ∵ enter ! C Λ
         (lent_function S b k key) (flat (types_at (lent_ended S b k).signature.params κs) av) _ $
         alloc1 ! (λ l₀. alloc1 ! (λ l₁. alloc_nums ! k (λ bs. alloc_buffer ! 1 b (λ p. alloc1 ! (λ r₀. alloc1 ! (λ r₁. alloc_borrow ! b (λ i j.
-        alloc0 ! $ params1 ! $
-        -- [the borrow's; r₁; …; r₀; …; the buffer's; the numbers; _1; …; room for _0; …; the tokens; what the parameters own]
-        pass1 ! (init ! 7 refl (tt, tt)) $ move ! (6 ∷ []) $ pass_nums ! k bs ns fit κs (buffer b) vs $ move ! (6 ∷ []) $
-        pass_buffer ! b κs x fine p (rest S b r₀ r₁ i j) $
-        -- [the buffer's; the numbers; the borrow's; r₁; …; r₀; …; _1; …; room for _0; …; the tokens; what the parameters own]
+        alloc1 ! (λ r₂. alloc0 ! $ params1 ! $
+        -- [r₂; …; the borrow's; r₁; …; r₀; …; the buffer's; the numbers; _1; …; room for _0; …; the tokens; what the parameters own]
+        pass1 ! (init ! 9 refl (tt, tt)) $ move ! (8 ∷ []) $ pass_nums ! k bs ns fit κs (buffer b) vs $ move ! (8 ∷ []) $
+        pass_buffer ! b κs x fine p (rest S b r₀ r₁ i j r₂) $
+        -- r₂ is put last
+        move ! (0 ∷ 1 ∷ 4 ∷ 5 ∷ 6 ∷ 7 ∷ 8 ∷ 9 ∷ 10 ∷ 11 ∷ 12 ∷ 13 ∷ 14 ∷ []) $
+        -- [the buffer's; the numbers; the borrow's; r₁; …; r₀; …; _1; …; room for _0; …; the tokens; what the parameters own; r₂; …]
         move ! (12 ∷ []) $ fsplit ! $ move ! (1 ∷ []) $ use1 𝓛 (‵ (owns (types_at (buffer b) κs) x vs)) (own_rest 𝓛 κs (buffer b) x vs k ns) $
         use1 𝓛 (‵ (owns (types_at (buffer' b) κs.1) x' vs')) (hand_on 𝓛 b κs x) $
         move ! (13 ∷ []) $ split ! $ move ! (3 ∷ []) $ fsplit3 ! $ drop ! $
@@ -229,16 +251,16 @@ module _ {M : Type 1} {𝓤 : Ura M} (𝓛 : Logic 𝓤) {T R : Plainly} (S : Bo
         -- [the table's cell; what a Table owns; the open borrow; obs; auth; the buffer's token; what it owns; its cell; the numbers; the borrow's; r₁; …;
         -- r₀; …; _1;
         -- …; room for _0; …]
-        assigns ! (of_opd ! (load ! (from ! (hop ! (look ! 14 refl) (stop !))) (look_raw ! 0 refl))) (from_rest ! 1 1 b k bs p (rest S b r₀ r₁ i j) (stop !))
+        assigns ! (of_opd ! (load ! (from ! (hop ! (look ! 14 refl) (stop !))) (look_raw ! 0 refl))) (from_rest ! 1 1 b k bs p (rest S b r₀ r₁ i j r₂) (stop !))
         (init ! 10 refl (T.typed M 𝓤 𝓛 h _ g)) $
-        move ! (9 ∷ 7 ∷ []) $ prepares ! 1 b (held b κs x) fine k 2 p i j (stand 𝓤 H S b k bs p r₀ r₁ i j) $
+        move ! (9 ∷ 7 ∷ []) $ prepares ! 1 b (held b κs x) fine k 2 p i j (stand 𝓤 H S b k bs p r₀ r₁ i j r₂) $
         move ! (7 ∷ 8 ∷ 3 ∷ []) $ use3 𝓛 (raw ((Step S b k Q 𝓛).pre to)) goes $
         -- [what the step asks; the borrow's; the buffer's; the table's cell; the open borrow; obs; auth; the numbers; r₁; …; r₀; …; _1; …; room for _0; …]
-        calls_at ! fm (Step S b k Q 𝓛) known to (and_then ! (load ! (from_rest ! 1 1 b k bs p (rest S b r₀ r₁ i j) (stop !)) (look ! 8 refl))
-        (read_nums ! 7 k bs ns κs.1 (buffer' b) vs' (λ i. suc (suc i)) (buffer_env 1 b p (rest S b r₀ r₁ i j)) refl (λ i. refl)
-        (read_borrow ! 1 1 b κs x k 2 p i j (stand 𝓤 H S b k bs p r₀ r₁ i j) refl)))
+        calls_at ! fm (Step S b k Q 𝓛) known to (and_then ! (load ! (from_rest ! 1 1 b k bs p (rest S b r₀ r₁ i j r₂) (stop !)) (look ! 8 refl))
+        (read_nums ! 7 k bs ns κs.1 (buffer' b) vs' (λ i. suc (suc i)) (buffer_env 1 b p (rest S b r₀ r₁ i j r₂)) refl (λ i. refl)
+        (read_borrow ! 1 1 b κs x k 2 p i j (stand 𝓤 H S b k bs p r₀ r₁ i j r₂) refl)))
         (λ v.
-        use1 𝓛 (later (some (λ (r : S.R.Denot). (raw (toks 𝓛 (lives b) κs.1 qs.1) ⊛ ‵ (S.R.own r (v ∷ []))) ⊛ raw
+        use1 𝓛 (later (some (λ (r : S.R.Denot). (raw (toks 𝓛 (lives b) κs.1 qs.1) ⊛ ‵ (S.R.own_val r (v ∷ []))) ⊛ raw
         (ensured 𝓛 (step_ended S b k) (step_clauses S b k Q 𝓤) κs.1 a' tt r)))) (id⊢ 𝓤 _) $ await ! tt $ pick ! (λ r.
         -- what the step ensures, at some last contents of the buffer
         split ! $ move ! (1 ∷ []) $ use1 𝓛 (some (λ (ws : Lasts (step_ended S b k) κs.1 a'). ‵ (lasting (step_ended S b k) κs.1 a' ws) ⊛ raw
@@ -251,26 +273,28 @@ module _ {M : Type 1} {𝓤 : Ura M} (𝓛 : Logic 𝓤) {T R : Plainly} (S : Bo
         -- [what an Outcome owns; the buffer's token; what is had of it; the borrow's; the buffer's; the table's cell; the open borrow; obs; auth; the
         -- numbers; r₁;
         -- …; r₀; …; _1; …; room for _0; …]
-        land ! (from_rest ! 0 1 b k bs p (rest S b r₀ r₁ i j) (stop !)) (init ! 12 refl (S.typed M 𝓤 𝓛 r _ is)) $
+        land ! (from_rest ! 0 1 b k bs p (rest S b r₀ r₁ i j r₂) (stop !)) (init ! 12 refl (S.typed M 𝓤 𝓛 r _ is)) $
         rewrite ! 12 (λ (u : Val). ‵ (fat full_share (layout S) r₀ 0 u)) (ap only (S.tells r _ is)) refl $
-        drop ! $ assigns ! (of_opd ! (load ! (from_rest ! 0 1 b k bs p (rest S b r₀ r₁ i j) (fld ! refl (stop !))) (look_in ! 11 (sub ! 0 refl (whole !)))))
+        drop ! $ assigns ! (of_opd ! (load ! (from_rest ! 0 1 b k bs p (rest S b r₀ r₁ i j r₂) (fld ! refl (stop !))) (look_in ! 11 (sub ! 0 refl (whole !)))))
+        (from_stored ! S b k bs p r₀ r₁ i j r₂ (stop !)) (init ! 17 refl (T.typed M 𝓤 𝓛 (S.first r) _ (S.is_first r _ is))) $
+        assigns ! (of_opd ! (load ! (from_stored ! S b k bs p r₀ r₁ i j r₂ (stop !)) (look ! 17 refl)))
         (from ! (hop ! (look ! 13 refl) (stop !)))
         (store_raw ! 4 refl (T.typed M 𝓤 𝓛 (S.first r) _ (S.is_first r _ is))) $
-        assigns ! (of_opd ! (load ! (from_rest ! 0 1 b k bs p (rest S b r₀ r₁ i j) (fld ! refl (stop !))) (look_in ! 11 (sub ! 1 refl (whole !)))))
+        assigns ! (of_opd ! (load ! (from_rest ! 0 1 b k bs p (rest S b r₀ r₁ i j r₂) (fld ! refl (stop !))) (look_in ! 11 (sub ! 1 refl (whole !)))))
         (from ! (stop !)) (init ! 15 refl (R.typed M 𝓤 𝓛 (S.second r) _ (S.is_second r _ is))) $
         rewrite ! 4 (λ (τs : List Ty). ‵ (cell_at full_share τs (tv (S.first r) ∷ []) m o)) (sym T.mir_is) refl $
         owned ! T.R (Is T.R) (T.makes M 𝓤 𝓛) (S.first r) _ (S.is_first r _ is) $ move ! (5 ∷ 0 ∷ 6 ∷ 7 ∷ 8 ∷ []) $
         closes ! tt T.R (S.first r) (tv (S.first r) ∷ []) m o $
         -- [obs; the borrow of t; the table's token; the buffer's; what is had of it; the borrow's; the buffer's cell; the numbers; r₁; …; r₀; …; _1; …; _0; …]
-        returns ! (look ! 14 refl) $ forget ! 8 refl $ forget ! 10 refl $ forget ! 12 refl $ forget ! 14 refl $
+        returns ! (look ! 14 refl) $ forget ! 8 refl $ forget ! 10 refl $ forget ! 12 refl $ forget ! 14 refl $ forget ! 16 refl $
         move ! (14 ∷ 15 ∷ []) $ free1 ! $ move ! (12 ∷ 13 ∷ []) $ free1 ! $ move ! (7 ∷ []) $ free_nums ! k bs ns $ move ! (6 ∷ []) $
         free_buffer ! 1 b (held b κs x) p $ move ! (8 ∷ 9 ∷ []) $ free1 ! $ move ! (6 ∷ 7 ∷ []) $ free1 ! $ move ! (5 ∷ []) $
-        free_borrow ! b (held b κs x) i j $ free0 ! $ keep ! (0 ∷ 1 ∷ 2 ∷ 3 ∷ 4 ∷ []) $
+        free_borrow ! b (held b κs x) i j $ move ! (5 ∷ 6 ∷ []) $ free1 ! $ free0 ! $ keep ! (0 ∷ 1 ∷ 2 ∷ 3 ∷ 4 ∷ []) $
         by ! (exits r (end b κs x (last' ws)) (same_said b κs x (last' ws) (λ ys zs. Q h ns ys (S.first r) (S.second r) zs)
-        (clause_out κs.1 (buffer' b) x' k (Said' r) ns ws.1 e)) f (S.is_second r _ is)))))))))))))))))
+        (clause_out κs.1 (buffer' b) x' k (Said' r) ns ws.1 e)) f (S.is_second r _ is))))))))))))))))))
 
 module _ {M : Type 1} {𝓤 : Ura M} (𝓛 : Logic 𝓤) {T R : Plainly} (S : Both T R) (b : Beside) (k : ℕ)
-    (Q : Says S b k) (key : Name) where
+    (Q : Says S b k) (key : Callee) where
   -- the numbers and the buffer, and their machine values
   open 𝓛 use {H}
 
@@ -294,7 +318,7 @@ module _ {M : Type 1} {𝓤 : Ura M} (𝓛 : Logic 𝓤) {T R : Plainly} (S : Bo
       (fit_of κs (buffer b) (spell b κs) k a.1 are.1) (fine_of b κs (back κs (buffer b) k a.1)
       (are_of κs (buffer b) (spell b κs) k a.1 are.1)) C Λ fm known)))
 
-lent_meets : {T R : Plainly} (S : Both T R) (b : Beside) (k : ℕ) (Q : Says S b k) (key : Name) {M : Type 1} {𝓤 : Ura M} (𝓛 : Logic 𝓤)
+lent_meets : {T R : Plainly} (S : Both T R) (b : Beside) (k : ℕ) (Q : Says S b k) (key : Callee) {M : Type 1} {𝓤 : Ura M} (𝓛 : Logic 𝓤)
     → (𝓣 : Tables 𝓤 𝓛.H) → Triple 𝓤 (𝓣.C key) (Step S b k Q 𝓛)
     → Triple 𝓤 (WpFn 𝓤 𝓛.H 𝓣.C 𝓣.Λ (lent_function S b k key)) (Lend S b k Q 𝓛)
 lent_meets {T} S b k Q key {𝓤 = 𝓤} 𝓛 𝓣 known =
@@ -306,7 +330,7 @@ lent_meets {T} S b k Q key {𝓤 = 𝓤} 𝓛 𝓣 known =
     (lent_walks 𝓛 S b k Q key 𝓣.C 𝓣.Λ (fm_of 𝓤 𝓛.H 𝓛.laws 𝓣) known)
 
 pub lent_spec : {T R : Plainly} (S : Both T R) (b : Beside) (k : ℕ) (Q : Says S b k) {M : Type 1} {𝓤 : Ura M} (𝓛 : Logic 𝓤) (𝓜 : Model 𝓤 𝓛.H)
-    (𝓡 : Running 𝓤 𝓛.H 𝓜) (γ : Env) (n key : Name) (r : Routine) → γ key ≡ r
+    (𝓡 : Running 𝓤 𝓛.H 𝓜) (γ : Env) (n key : Callee) (r : Routine) → γ key ≡ r
     → Closed 𝓤 𝓛.H (tables 𝓤 𝓛.H 𝓜 𝓡 γ).C (tables 𝓤 𝓛.H 𝓜 𝓡 γ).Λ n (lent_function S b k key)
     → Triple 𝓤 (𝓡.run r) (Step S b k Q 𝓛) → Triple 𝓤 (𝓡.run (γ n)) (Lend S b k Q 𝓛)
 lent_spec S b k Q {𝓤 = 𝓤} 𝓛 𝓜 𝓡 γ n key r at closed =

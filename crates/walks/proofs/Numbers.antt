@@ -7,7 +7,7 @@ use mathlib.Core.Path.{◌≡◌, refl, sym, subst}
 use Prim.Native.Nat.{ℕ, zero, suc, ◌<◌, ◌^◌}
 use mathlib.Core.List.{List, [], ◌∷◌}
 use seplogic.Ra.Ura.{Ura}
-use seplogic.Ra.TreeShare.{full_share}
+use base.Fraction.{full_share}
 use mir.Syntax.{Ty, w64, ty_int, Local, local, value_local, Step as PStep, place, Opd as Operand, copy}
 use mir.Val.{Val, vint}
 use base.Logic.{SProp, ent, sep, wand, ex, via, comm∗, assoc∗, assoc', mono_r, wand_i, ex_i, id⊢}

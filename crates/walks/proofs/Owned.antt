@@ -7,8 +7,8 @@ use mathlib.Core.Path.{◌≡◌, refl, sym, ap, subst}
 use Prim.Native.Nat.{ℕ, suc}
 use mathlib.Core.List.{[], ◌∷◌, List}
 use seplogic.Ra.Ura.{Ura}
-use seplogic.Ra.TreeShare.{full_share}
-use mir.Syntax.{Ty, Step as PStep, Name, Fn, named, erased, mut, ty_ref, place, copy, local, value_local, memory_slot, rv_opd, addr_of, aggregate, seq, assign, call}
+use base.Fraction.{full_share}
+use mir.Syntax.{Ty, Step as PStep, Callee, Fn, named, erased, mut, ty_ref, place, copy, local, value_local, memory_slot, rv_opd, addr_of, aggregate, seq, assign, call}
 use mir.Syntax.{return}
 use mir.Val.{Val, vptr, vstruct, vnil, vcons}
 use base.Logic.{SProp, ent, emp, via, fst∗, id⊢}
@@ -63,10 +63,12 @@ behind none = 3
 behind (slice X) = 5
 
 module _ {T R : Plainly} (S : Both T R) (b : Beside) (k : ℕ) where
-  abbrev pub own_function : Name → Fn
+  abbrev pub own_function : Callee → Fn
   own_function key = record {
     lifetimes = lives b;
     outlives = [];
+    ty_params = [];
+    givens = 0;
     params = suc (past k (beyond b 0));
     locals = local (layout S) value_local ∷ local T.mir value_local ∷ locals k (buffer_local 0 b
         (local T.mir memory_slot ∷ local R.mir value_local ∷ local (ref_ty T) value_local ∷ borrow_locals b (local T.mir value_local ∷ [])));
@@ -102,7 +104,7 @@ module _ {M : Type 1} {𝓤 : Ura M} {𝓛 : Logic 𝓤} {K : Type 0} {Γ : List
   from_copy t S (slice X) k bs p r₀ r₁ r₂ i j r₃ = from_rest t 5 0 (slice X) k bs p (rest S (slice X) r₀ r₁ r₂ i j r₃)
 
 module _ {M : Type 1} {𝓤 : Ura M} (𝓛 : Logic 𝓤) {T R : Plainly} (S : Both T R) (b : Beside) (k : ℕ)
-    (Q : Says S b k) (key : Name) (κs : Lfts (lives b)) (qs : Shares (lives b)) (h : T.R.Denot) (ns : Nums k) (x : Denots (types_at (buffer' b) κs))
+    (Q : Says S b k) (key : Callee) (κs : Lfts (lives b)) (qs : Shares (lives b)) (h : T.R.Denot) (ns : Nums k) (x : Denots (types_at (buffer' b) κs))
     (is-h : Is T.R h (T.val h ∷ [])) (fit : Fit k ns) (fine : Fine b (held' b κs x)) where
   open 𝓛 use {H}
 
@@ -215,12 +217,12 @@ module _ {M : Type 1} {𝓤 : Ura M} (𝓛 : Logic 𝓤) {T R : Plainly} (S : Bo
         calls_at ! fm (Lend S b k Q 𝓛) known (to r₀ ν δ) (and_then ! (load ! (from_rest ! 2 0 b k bs p (rest S b r₀ r₁ r₂ i j r₃) (stop !)) (look ! 7 refl))
         (read_nums ! 4 k bs ns (κs' r₀ ν δ) (buffer b) (vs' r₀ ν δ) (λ i. suc (suc i)) (buffer_env 0 b p (rest S b r₀ r₁ r₂ i j r₃)) refl (λ i. refl)
         (read_borrow' ! 2 0 b (κs' r₀ ν δ) x k 3 p i j (stand 𝓤 H S b k bs p r₀ r₁ r₂ i j r₃) refl))) (λ v.
-        use1 𝓛 (later (some (λ (r : R.R.Denot). ((‵ (flft (ν ∷ []) full_share) ⊛ raw (toks 𝓛 (lives b) κs qs)) ⊛ ‵ (R.R.own r (v ∷ []))) ⊛ raw
+        use1 𝓛 (later (some (λ (r : R.R.Denot). ((‵ (flft (ν ∷ []) full_share) ⊛ raw (toks 𝓛 (lives b) κs qs)) ⊛ ‵ (R.R.own_val r (v ∷ []))) ⊛ raw
         (ensured 𝓛 (lent_ended S b k) (lent_clauses S b k Q 𝓤) (κs' r₀ ν δ) (a' r₀ ν δ) tt r)))) (id⊢ 𝓤 _) $ await ! tt $ pick ! (λ r.
         -- what the call ensures, at some last contents of the table and the buffer
         split ! $ move ! (1 ∷ []) $ use1 𝓛 (some (λ (ws : Lasts (lent_ended S b k) (κs' r₀ ν δ) (a' r₀ ν δ)). ‵
         (lasting (lent_ended S b k) (κs' r₀ ν δ) (a' r₀ ν δ) ws) ⊛ raw (fact 𝓤 (Ensured r₀ ν δ r ws)))) (id⊢ 𝓤 _) $ pick ! (λ ws.
-        split ! $ move ! (1 ∷ []) $ heard ! (Ensured r₀ ν δ r ws) (λ e. fsplit ! $ move ! (1 ∷ []) $
+        split ! $ move ! (1 ∷ []) $ heard ! (Ensured r₀ ν δ r ws) (λ e. fsplit ! $ fsplit ! $ move ! (1 ∷ []) $ drop ! $ move ! (1 ∷ []) $
         use1 𝓛 (‵ (lasts_of (κs' r₀ ν δ) (buffer b) (all yes (buffer b)) (x' r₀ ν δ) (last' r₀ ν δ ws)))
         (last_rest 𝓛 (κs' r₀ ν δ) (buffer b) (x' r₀ ν δ) (vs' r₀ ν δ) k ns ws.1) $
         use1 𝓛 (given (fits_of κs (buffer' b) (all yes (buffer' b)) (gave' b) x (end' b (κs' r₀ ν δ) x (last' r₀ ν δ ws)))
@@ -234,7 +236,7 @@ module _ {M : Type 1} {𝓤 : Ura M} (𝓛 : Logic 𝓤) {T R : Plainly} (S : Bo
         -- the lifetime is ended, and the local comes back at that table
         split ! $ lft_end ! tt $ move ! (0 ∷ 4 ∷ 3 ∷ []) $ use3 𝓛 (later (‵ ((mem T.R).own_at ws.0 r₀ 0)))
         (ref_back 𝓛 T.R (ν ∷ []) δ ws.0 r₀ 0) $ await ! tt $
-        use1 𝓛 (‵ (fat full_share T.mir r₀ 0 (T.val ws.0)) ⊛ ‵ (T.R.own ws.0 (T.val ws.0 ∷ []))) (lies_out 𝓛 T ws.0 r₀) $ split ! $
+        use1 𝓛 (‵ (fat full_share T.mir r₀ 0 (T.val ws.0)) ⊛ ‵ (T.R.own_val ws.0 (T.val ws.0 ∷ []))) (lies_out 𝓛 T ws.0 r₀) $ split ! $
         move ! (1 ∷ []) $ peeks ! T.R (Is T.R) (shows 𝓛 T.R) ws.0 (T.val ws.0 ∷ []) (λ g. move ! (1 ∷ 0 ∷ []) $
         -- [r₀; what the table owns; the tokens; what is had of the buffer; the borrow's; the buffer's; the numbers; r₃; …; r₂; …; r₁; …; r₀'s end; _1; …; room
         -- for _0; …]
@@ -256,7 +258,7 @@ module _ {M : Type 1} {𝓤 : Ura M} (𝓛 : Logic 𝓤) {T R : Plainly} (S : Bo
         (S.is_both ws.0 r g (subst (Is R.R r) (R.tells r _ is) is)))))))))))))))))))))
 
 module _ {M : Type 1} {𝓤 : Ura M} (𝓛 : Logic 𝓤) {T R : Plainly} (S : Both T R) (b : Beside) (k : ℕ)
-    (Q : Says S b k) (key : Name) where
+    (Q : Says S b k) (key : Callee) where
   -- the numbers and the buffer, and their machine values
   open 𝓛 use {H}
 
@@ -277,7 +279,7 @@ module _ {M : Type 1} {𝓤 : Ura M} (𝓛 : Logic 𝓤) {T R : Plainly} (S : Bo
       (fit_of κs (buffer' b) (spell' b κs) k a.1 are.1) (fine_of' b κs (back κs (buffer' b) k a.1)
       (are_of κs (buffer' b) (spell' b κs) k a.1 are.1)) C Λ fm known)))
 
-own_meets : {T R : Plainly} (S : Both T R) (b : Beside) (k : ℕ) (Q : Says S b k) (key : Name) {M : Type 1} {𝓤 : Ura M} (𝓛 : Logic 𝓤)
+own_meets : {T R : Plainly} (S : Both T R) (b : Beside) (k : ℕ) (Q : Says S b k) (key : Callee) {M : Type 1} {𝓤 : Ura M} (𝓛 : Logic 𝓤)
     → (𝓣 : Tables 𝓤 𝓛.H) → Triple 𝓤 (𝓣.C key) (Lend S b k Q 𝓛)
     → Triple 𝓤 (WpFn 𝓤 𝓛.H 𝓣.C 𝓣.Λ (own_function S b k key)) (Step S b k Q 𝓛)
 own_meets {T} S b k Q key {𝓤 = 𝓤} 𝓛 𝓣 known =
@@ -289,7 +291,7 @@ own_meets {T} S b k Q key {𝓤 = 𝓤} 𝓛 𝓣 known =
     (own_walks 𝓛 S b k Q key 𝓣.C 𝓣.Λ (fm_of 𝓤 𝓛.H 𝓛.laws 𝓣) known)
 
 pub own_spec : {T R : Plainly} (S : Both T R) (b : Beside) (k : ℕ) (Q : Says S b k) {M : Type 1} {𝓤 : Ura M} (𝓛 : Logic 𝓤) (𝓜 : Model 𝓤 𝓛.H)
-    (𝓡 : Running 𝓤 𝓛.H 𝓜) (γ : Env) (n key : Name) (r : Routine) → γ key ≡ r
+    (𝓡 : Running 𝓤 𝓛.H 𝓜) (γ : Env) (n key : Callee) (r : Routine) → γ key ≡ r
     → Closed 𝓤 𝓛.H (tables 𝓤 𝓛.H 𝓜 𝓡 γ).C (tables 𝓤 𝓛.H 𝓜 𝓡 γ).Λ n (own_function S b k key)
     → Triple 𝓤 (𝓡.run r) (Lend S b k Q 𝓛) → Triple 𝓤 (𝓡.run (γ n)) (Step S b k Q 𝓛)
 own_spec S b k Q {𝓤 = 𝓤} 𝓛 𝓜 𝓡 γ n key r at closed =

@@ -19,13 +19,13 @@ vals_same D L (x ∷ xs) = ap (λ (vs : List Val). LL.val D L x ∷ vs) (vals_sa
 
 module _ (D : Declared) where
   each_up : (xs : List D.D) (us : List Val) → shadow (each (field D).row.Denot (field D).row.own_val (map D.to xs) us)
-      → shadow (each (row D).Denot (row D).own xs us)
+      → shadow (each (row D).Denot (row D).own_val xs us)
   each_up [] [] s = s
   each_up [] (u ∷ us) s = s
   each_up (x ∷ xs) [] s = s
   each_up (x ∷ xs) (u ∷ us) s = (s.0, each_up xs us s.1)
 
-  each_down : (xs : List D.D) (us : List Val) → shadow (each (row D).Denot (row D).own xs us)
+  each_down : (xs : List D.D) (us : List Val) → shadow (each (row D).Denot (row D).own_val xs us)
       → shadow (each (field D).row.Denot (field D).row.own_val (map D.to xs) us)
   each_down [] [] s = s
   each_down [] (u ∷ us) s = s

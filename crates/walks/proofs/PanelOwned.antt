@@ -14,12 +14,12 @@ use mathlib.Core.Path.{◌≡◌, refl, sym, ap, subst, ◌∙◌}
 use Prim.Native.Nat.{ℕ, ◌≤◌, ◌<◌, ◌^◌, min}
 use native.Mathlib.Nat.{lt_of_le_of_lt, mul-le-mul_right}
 use native.Mathlib.Omega.{arith}
-use mathlib.Core.List.{[], ◌∷◌, List, map, ◌++◌}
+use mathlib.Core.List.{[], ◌∷◌, List, ◌++◌}
 use lib.Dec.{T}
 use lib.ListN.{length, take, drop as dropped, length-take, take-append-drop}
 use seplogic.Ra.Ura.{Ura}
-use seplogic.Ra.TreeShare.{full_share}
-use mir.Syntax.{Name, Fn, named, erased, mut, w64, ty_int, ty_ref, ty_array, seq, assign, call, return, rv_opd, copy, addr_of, aggregate, place, local, value_local}
+use base.Fraction.{full_share}
+use mir.Syntax.{Callee, Fn, named, erased, mut, w64, ty_int, ty_ref, ty_array, seq, assign, call, return, rv_opd, copy, addr_of, aggregate, place, local, value_local}
 use mir.Syntax.{memory_slot}
 use mir.Val.{Val, vint, vptr, vstruct, vnil, vcons, WT, has_ty}
 use base.Logic.{SProp, ent, sep, emp, emp∗, mono_l, comm∗, via, fst∗, snd∗, ex_e, id⊢}
@@ -43,7 +43,7 @@ use sound.WpLaws.{fm_of, WpFn-mono}
 use denote.RattleType.{RattleType, owns}
 use denote.Laws.{Is, shows}
 use denote.Memory.{mem, cell_at, pointee, part_at, shares, part_of}
-use denote.Array.{Array, array_val, array_vals, Array-Tells, Array-Lawful, Array-Makes}
+use denote.Array.{Array, array_vals, Array-Tells, Array-Lawful, Array-Makes}
 use denote.ArrayMemory.{Array-apart, Array-whole}
 use denote.Index.{row as elements, whole_out, whole_in}
 use denote.Lend.{Held, lends_ref, ref_back, lends_slice, slice_back}
@@ -54,9 +54,6 @@ use denote.Slice.{slice_val, slice_ty, MutSlice, Room}
 use denote.Signature.{plain}
 use denote.Steps.{only, owned, peeks, heard, nothing}
 use denote.Struct.Steps.{spelt}
-use denote.Struct.Struct.{Struct}
-use denote.Struct.Declared.{shape}
-use denote.Struct.Laws as LL
 use denote.Triple.Statement.{Contract, Triple}
 use denote.Triple.Call.{calls_at}
 use denote.Triple.Clauses.{Clauses, Ended, AtExit, ensured, lasts, closing}
@@ -72,7 +69,6 @@ use Rattle.walks.proofs.Report.{slice}
 use Rattle.walks.proofs.PanelLinked.{linked_two}
 use Rattle.walks.proofs.Structs.{Data, held, is_made, plainly, row, ty, val, vals, tells, same, array_same, makes, lawful, typed}
 use Rattle.walks.proofs.PanelTypes.{Board, both}
-use Rattle.walks.proofs.PanelArrays.{vals_same, down}
 use Rattle.walks.proofs.PanelStep.{Table, Reply, Record, Show}
 use Rattle.walks.proofs.FillLists.{lent_said, others_stay}
 
@@ -96,13 +92,13 @@ module _ (R : Data) (w : ℕ) where
     abbrev past : List (row R).Denot → ℕ
     past ys = at 0 (mem (row R)).size (length ys)
 
-    apart : (k : ℕ) (ys : List (row R).Denot) → ent 𝓤 (⋆ 𝓛 (‵ (fat full_share (ty_array (ty R) w) l 0 (rv ys)) ∷ ‵ (Rs.own ys (rv ys ∷ [])) ∷ []))
+    apart : (k : ℕ) (ys : List (row R).Denot) → ent 𝓤 (⋆ 𝓛 (‵ (fat full_share (ty_array (ty R) w) l 0 (rv ys)) ∷ ‵ (Rs.own_val ys (rv ys ∷ [])) ∷ []))
         (⋆ 𝓛 (‵ (cells (mem (row R)) (take k ys) l 0) ∷ ‵ (cells (mem (row R)) (dropped k ys) l (past (take k ys))) ∷ []))
     unfolding part_of
     apart k ys =
-        qed 𝓛 (‵ (fat full_share (ty_array (ty R) w) l 0 (rv ys)) ∷ ‵ (Rs.own ys (rv ys ∷ [])) ∷ []) ∵
+        qed 𝓛 (‵ (fat full_share (ty_array (ty R) w) l 0 (rv ys)) ∷ ‵ (Rs.own_val ys (rv ys ∷ [])) ∷ []) ∵
         use1 𝓛 (‵ (cell_at full_share Rs.mir (rv ys ∷ []) l 0)) (𝓛.laws.at_raw full_share (ty_array (ty R) w) l 0 (rv ys)) $ fjoin ! $
-        fpack ! (List Val) (λ us. fsep (cell_at full_share Rs.mir us l 0) (Rs.own ys us)) (rv ys ∷ []) $
+        fpack ! (List Val) (λ us. fsep (cell_at full_share Rs.mir us l 0) (Rs.own_val ys us)) (rv ys ∷ []) $
         use1 𝓛 (‵ ((arr_parts (shares (row R)) w).part full_share ys l 0)) (Array-apart 𝓛 (row R) full_share tt w ys l 0) $ fsplit ! $ drop ! $
         use1 𝓛 (‵ (cells (mem (row R)) ys l 0)) (whole_in 𝓛 (row R) ys l 0) $
         rewrite ! 0 (λ (zs : List (row R).Denot). ‵ (cells (mem (row R)) zs l 0)) (sym (take-append-drop k ys)) refl $
@@ -110,7 +106,7 @@ module _ (R : Data) (w : ℕ) where
 
     together : (zs ys : List (row R).Denot) → length (zs ++ ys) ≡ w
         → ent 𝓤 (⋆ 𝓛 (‵ (cells (mem (row R)) zs l 0) ∷ ‵ (cells (mem (row R)) ys l (past zs)) ∷ []))
-        (⋆ 𝓛 (‵ (fat full_share (ty_array (ty R) w) l 0 (rv (zs ++ ys))) ∷ ‵ (Rs.own (zs ++ ys) (rv (zs ++ ys) ∷ [])) ∷ []))
+        (⋆ 𝓛 (‵ (fat full_share (ty_array (ty R) w) l 0 (rv (zs ++ ys))) ∷ ‵ (Rs.own_val (zs ++ ys) (rv (zs ++ ys) ∷ [])) ∷ []))
     unfolding part_of
     together zs ys e =
         qed 𝓛 (‵ (cells (mem (row R)) zs l 0) ∷ ‵ (cells (mem (row R)) ys l (past zs)) ∷ []) ∵
@@ -188,10 +184,12 @@ module _ (Z : Board) where
       → Owns Shows a.0 a.1.0 a.1.1.0 a.1.1.1.0 a.1.1.1.1.0 a.1.1.1.1.1.0 (Z.shown.values r)
       → ent 𝓤 (emp 𝓤) ((C tt a).ensures g r e)
 
-  abbrev own_function : Name → Name → Fn
+  abbrev own_function : Callee → Callee → Fn
   own_function most-key lent_key = record {
     lifetimes = 0;
     outlives = [];
+    ty_params = [];
+    givens = 0;
     params = 6;
     locals = local (ty S) value_local ∷ local (ty B) value_local ∷ local (ty_int w64) value_local ∷ local (ty_int w64) value_local ∷ local (ty_int w64) value_local
         ∷ local (ty_array (ty R) w) value_local ∷ local (ty_int w64) value_local ∷ local (ty B) memory_slot ∷ local (ty_array (ty R) w) memory_slot
@@ -234,19 +232,13 @@ module _ (Z : Board) where
 
   is_whole : (t : Table Z) (r : Reply Z) (zs : List (Record Z)) → Is (row B) t (tv t ∷ []) → Is (row Q) r (pv r ∷ []) → Is (Rs R w) zs (rv R w zs ∷ [])
       → Is (row S) (whole_of t r zs) (mach t r zs ∷ [])
-  is_whole t r zs g is k =
-      let same = vals_same R.type R.laws zs in
-      let k' = down R.type w zs _ (subst (λ (us : List Val). Is (Rs R w) zs (array_val us ∷ [])) (sym same) k) in
-      is_made Z.shown (t, (r, (zs, tt))) _
-      (subst (λ (us : List Val). Is (Struct (shape S.type)) (B.type.to t, (Q.type.to r, (map R.type.to zs, tt)))
-      (vstruct (vcons (tv t) (vcons (pv r) (vcons (array_val us) vnil))) ∷ [])) same
-      ((tv t ∷ [], (pv r ∷ [], (array_val (map (LL.tuple_val R.type R.laws) (map R.type.to zs)) ∷ [], tt))), (refl, (g, (is, (k', tt))))))
+  is_whole t r zs g is k = is_made Z.shown (t, (r, (zs, tt))) _ ((tv t ∷ [], (pv r ∷ [], (rv R w zs ∷ [], tt))), (refl, (g, (is, (k, tt)))))
 
   most_of : {M : Type 1} {𝓤 : Ura M} (𝓛 : Logic 𝓤) (n k : ℕ)
       → ent 𝓤 (ensured 𝓛 most_ended (most_clauses 𝓤) tt (n, tt) tt k) (fact 𝓤 (k ≡ min n w))
   most_of {𝓤 = 𝓤} 𝓛 n k = ex_e 𝓤 _ (λ ws. snd∗ 𝓤 (sem 𝓛 (lasts most_ended tt (n, tt) ws)) (fact 𝓤 (k ≡ min n w)))
 
-  module _ (Shows : Show Z) (most-key lent_key : Name) (wide : Room (row R) w) where
+  module _ (Shows : Show Z) (most-key lent_key : Callee) (wide : Room (row R) w) where
     module _ {M : Type 1} {𝓤 : Ura M} (𝓛 : Logic 𝓤) (C : Clauses 𝓤 own_ended) (law : Follows Shows 𝓤 C)
         (h : Table Z) (c n j : ℕ) (ys : List (Record Z)) (lent : ℕ) (is-h : Is (row B) h (tv h ∷ [])) (c-fits : c < 2 ^ 64) (n-fits : n < 2 ^ 64)
         (j-fits : j < 2 ^ 64) (is-ys : Is (Rs R w) ys (rs_vals R w ys)) (lent_fits : lent < 2 ^ 64)
@@ -268,7 +260,7 @@ module _ (Z : Board) where
       typed_records : (zs : List (Record Z)) → Is (Rs R w) zs (rv R w zs ∷ []) → T (has_ty (ty_array (ty R) w) (rv R w zs)) × WT (rv R w zs)
       typed_records zs is = ((Array-Lawful 𝓛 (row R) (lawful R 𝓛) w).typed zs _ is).0
 
-      abbrev rs_makes : ent 𝓤 (emp 𝓤) (sem 𝓛 ((Rs R w).own ys (rv R w ys ∷ [])))
+      abbrev rs_makes : ent 𝓤 (emp 𝓤) (sem 𝓛 ((Rs R w).own_val ys (rv R w ys ∷ [])))
       rs_makes = Array-Makes 𝓛 (row R) (makes R 𝓛) w ys (rv R w ys ∷ []) is-ys
 
       abbrev to_most : (Most 𝓛).Ghost
@@ -352,7 +344,7 @@ module _ (Z : Board) where
             holds ! (law a gh _ _ (subst (Owns Shows h c n j ys lent) (sym (Z.shown.made (t, (r, (back zs, tt)))))
             (lent_said lent k w k-is ys zs long l (λ us vs. Shows h c n j us t r vs) e, others_stay lent k w k-is ys zs long l))) $ nothing ! $ frame ! $
             nothing ! $ owned ! usize (Is usize) (uint_Makes 𝓛 w64) lent _ (refl, lent_fits) $ fjoin ! $
-            use0 𝓛 (‵ ((Rs R w).own ys (rv R w ys ∷ []))) rs_makes $ fjoin ! $
+            use0 𝓛 (‵ ((Rs R w).own_val ys (rv R w ys ∷ []))) rs_makes $ fjoin ! $
             owned ! u64 (Is u64) (uint_Makes 𝓛 w64) j _ (refl, j-fits) $ fjoin ! $ owned ! u64 (Is u64) (uint_Makes 𝓛 w64) n _ (refl, n-fits) $
             fjoin ! $ owned ! u64 (Is u64) (uint_Makes 𝓛 w64) c _ (refl, c-fits) $ fjoin ! $
             owned ! (row B) (Is (row B)) (makes B 𝓛) h _ is-h $ fjoin ! $ frame ! $
@@ -411,14 +403,14 @@ module _ (Z : Board) where
             (and_then ! (load ! (from ! (stop !)) (look ! 13 refl)) (and_then ! (load ! (from ! (stop !)) (look ! 29 refl))
             (and_then ! (load ! (from ! (stop !)) (look ! 27 refl)) (and_then ! (load ! (from ! (stop !)) (look ! 25 refl))
             (and_then ! (load ! (from ! (stop !)) (look ! 9 refl)) (no_more !)))))) (λ v'.
-            use1 𝓛 (later (some (λ (r : Reply Z). ((‵ (flft (ν ∷ []) full_share) ⊛ ‵ (flft (ν' ∷ []) full_share) ⊛ ‵ ftrue) ⊛ ‵ ((row Q).own r (v' ∷ []))) ⊛ raw
+            use1 𝓛 (later (some (λ (r : Reply Z). ((‵ (flft (ν ∷ []) full_share) ⊛ ‵ (flft (ν' ∷ []) full_share) ⊛ ‵ ftrue) ⊛ ‵ ((row Q).own_val r (v' ∷ []))) ⊛ raw
             (ensured 𝓛 lent_ended (lent_clauses Shows 𝓤) (ν ∷ [], (ν' ∷ [], tt)) (loan l₇ δ, Rest k l₈ δ') tt r)))) (id⊢ 𝓤 _) $
             await ! tt $ pick ! (λ r.
             split ! $ move ! (1 ∷ []) $ use1 𝓛 (some (λ (zs : Left). ‵
             (lasts lent_ended (ν ∷ [], (ν' ∷ [], tt)) (loan l₇ δ, Rest k l₈ δ') zs) ⊛ raw (fact 𝓤 (Ensured k r zs.0 (shown zs)))))
             (id⊢ 𝓤 _) $ pick ! (λ zs.
-            split ! $ move ! (1 ∷ []) $ heard ! (Ensured k r zs.0 (shown zs)) (λ e. fsplit ! $ move ! (1 ∷ []) $ fsplit ! $ drop ! $ fsplit ! $
-            drop ! $ fsplit ! $ drop ! $ fsplit ! $ fsplit ! $ move ! (1 ∷ []) $ feq_l ! (λ l.
+            split ! $ move ! (1 ∷ []) $ heard ! (Ensured k r zs.0 (shown zs)) (λ e. fsplit ! $ fsplit ! $ move ! (1 ∷ []) $ drop ! $ move ! (1 ∷ []) $
+            fsplit ! $ drop ! $ fsplit ! $ drop ! $ fsplit ! $ drop ! $ fsplit ! $ fsplit ! $ fsplit ! $ move ! (1 ∷ []) $ feq_l ! (λ l. move ! (1 ∷ []) $ drop ! $
             -- [the records' last contents; true; the table's last value; the tokens and the result; the records' lender's part; the other records; the table's
             -- lender's part; what lent owns; _15; …]
             move ! (3 ∷ []) $ split ! $ move ! (1 ∷ []) $ peeks ! (row Q) (Is (row Q)) (shows 𝓛 (row Q)) r (v' ∷ []) (λ is.
@@ -427,7 +419,7 @@ module _ (Z : Board) where
             -- ν is ended, and the table comes back
             split ! $ lft_end ! tt $ move ! (0 ∷ 7 ∷ 4 ∷ []) $ use3 𝓛 (later (‵ ((mem (row B)).own_at zs.0 l₇ 0)))
             (ref_back 𝓛 (row B) (ν ∷ []) δ zs.0 l₇ 0) $ await ! tt $
-            use1 𝓛 (‵ (fat full_share (ty B) l₇ 0 (tv zs.0)) ⊛ ‵ ((row B).own zs.0 (tv zs.0 ∷ []))) (lies_out 𝓛 (plainly B) zs.0 l₇) $ split ! $
+            use1 𝓛 (‵ (fat full_share (ty B) l₇ 0 (tv zs.0)) ⊛ ‵ ((row B).own_val zs.0 (tv zs.0 ∷ []))) (lies_out 𝓛 (plainly B) zs.0 l₇) $ split ! $
             move ! (1 ∷ []) $ peeks ! (row B) (Is (row B)) (shows 𝓛 (row B)) zs.0 (tv zs.0 ∷ []) (λ g. drop ! $
             -- [_7; ν''s token and true; the records' last contents; true; their lender's part; the other records; what lent owns; _15; …]
             -- ν' is ended, and the first records come back, beside the others
@@ -436,7 +428,7 @@ module _ (Z : Board) where
             (slice_back 𝓛 (row R) (ν' ∷ []) δ' (shown zs) (length (front k)) l₈ 0) $ await ! tt $ fsplit ! $ drop ! $ move ! (0 ∷ 4 ∷ []) $
             rewrite ! 1 (λ (m : ℕ). ‵ (cells (mem (row R)) (dropped k ys) l₈ (at 0 (mem (row R)).size m))) (sym l) refl $
             use2 𝓛 (‵ (fat full_share (ty_array (ty R) w) l₈ 0 (rv R w (back k (shown zs)))) ⊛ ‵
-            ((Rs R w).own (back k (shown zs)) (rv R w (back k (shown zs)) ∷ [])))
+            ((Rs R w).own_val (back k (shown zs)) (rv R w (back k (shown zs)) ∷ [])))
             (together R w 𝓛 l₈ (shown zs) (dropped k ys) (same_len k ys (shown zs) l ∙ long)) $ split ! $
             move ! (1 ∷ []) $ peeks ! (Rs R w) (Is (Rs R w)) (shows 𝓛 (Rs R w)) (back k (shown zs)) (rv R w (back k (shown zs)) ∷ []) (λ g'. drop ! $
             -- [_8; true; _7; true; what lent owns; _15; …; _14; …; _13; …; _12; …; _11; …; _10; …; _9; …; _8's end; _7's end; _6; …; _5; …; _4; …; _3; …; _2;
@@ -489,7 +481,7 @@ module _ (Z : Board) where
           (WpFn-mono 𝓤 H 𝓛.laws 𝓣 (own_function most-key lent_key)) own_walks
 
     module _ {M : Type 1} {𝓤 : Ura M} (𝓛 : Logic 𝓤) (𝓜 : Model 𝓤 𝓛.H) (𝓡 : Running 𝓤 𝓛.H 𝓜) (C : Clauses 𝓤 own_ended)
-        (law : Follows Shows 𝓤 C) (γ : Env) (n : Name) (r r' : Routine) where
+        (law : Follows Shows 𝓤 C) (γ : Env) (n : Callee) (r r' : Routine) where
       open 𝓛 use {H}
 
       pub own_spec : γ most-key ≡ r → γ lent_key ≡ r' → Closed 𝓤 H (tables 𝓤 H 𝓜 𝓡 γ).C (tables 𝓤 H 𝓜 𝓡 γ).Λ n (own_function most-key lent_key)

@@ -10,13 +10,13 @@ use Prim.Native.Nat.{ℕ, ◌≤◌, ◌<◌, ◌^◌}
 use mathlib.Core.List.{[], ◌∷◌, List, map}
 use lib.ListN.{length}
 use seplogic.Ra.Ura.{Ura}
-use seplogic.Ra.TreeShare.{full_share}
-use mir.Syntax.{Name, Fn, named, erased, mut, w64, ty_int, ty_ref, ty_array, ty_unit, seq, assign, call, return, rv_opd, copy, addr_of, aggregate, place, field}
+use base.Fraction.{full_share}
+use mir.Syntax.{Callee, Fn, named, erased, mut, w64, ty_int, ty_ref, ty_array, ty_unit, seq, assign, call, return, rv_opd, copy, addr_of, aggregate, place, field}
 use mir.Syntax.{deref}
 use mir.Syntax.{local, value_local}
 use mir.Val.{Val, vint}
 use base.Logic.{SProp, ent, emp, via, fst∗, snd∗, ex_e, id⊢}
-use base.Fml.{GName, Lft, Share, ftrue, fat, flft}
+use base.Fml.{GName, Lft, Share, Fml, ftrue, fsep, fat, flft, fbor}
 use prog.Model.{Model}
 use prog.Routine.{Routine, Env}
 use prog.Wp.{Closed, WpFn, Tables}
@@ -37,6 +37,7 @@ use denote.Plain.{uint_vals, uint_Tells, uint_Makes, Nothing-Lawful}
 use denote.Builtin.{u64, usize, unit, SliceRefMutOf}
 use denote.Ref.{MutBor}
 use denote.Slice.{slice_val, slice_ty, MutSlice, Room, finally, mut_slice_vals, mut_slice_Tells}
+use denote.Lend.{Held}
 use denote.Signature.{plain}
 use denote.Steps.{only, owned, peeks, heard, nothing}
 use denote.Struct.Laws as LL
@@ -51,7 +52,6 @@ use Rattle.walks.proofs.PanelLinked.{linked_two}
 use Rattle.walks.proofs.Plain.{last_same, silent}
 use Rattle.walks.proofs.Structs.{Data, held, row, ty, val, vals, tells, same, makes, lawful, typed}
 use Rattle.walks.proofs.PanelTypes.{Board}
-use Rattle.walks.proofs.PanelArrays.{up}
 use Rattle.walks.proofs.FillLists.{filled}
 use Rattle.walks.proofs.Fill.{Makes, Fill, fill_ended, fill_clauses}
 
@@ -161,10 +161,12 @@ module _ (Z : Board) where
   abbrev pub Step : Show → {M : Type 1} {𝓤 : Ura M} (𝓛 : Logic 𝓤) → Contract 𝓤
   Step Shows {𝓤 = 𝓤} 𝓛 = triple_of 𝓛 step_ended.signature (closing 𝓛 step_ended (step_clauses Shows 𝓤))
 
-  abbrev step_function : Name → Name → Fn
+  abbrev step_function : Callee → Callee → Fn
   step_function with-key fill-key = record {
     lifetimes = 1;
     outlives = [];
+    ty_params = [];
+    givens = 0;
     params = 5;
     locals = local (ty O) value_local ∷ local (ty B) value_local ∷ local (ty_int w64) value_local ∷ local (ty_int w64) value_local ∷ local (ty_int w64) value_local
         ∷ local (slice_ty (ty_ref (named 0) mut (pointee (row R).written))) value_local ∷ local (ty S) value_local ∷ local (ty_array (ty E) w) value_local
@@ -199,21 +201,21 @@ module _ (Z : Board) where
 
   -- the machine value of the entries' field
   abbrev ev : Unfilled → Val
-  ev r = array_val (map (LL.tuple_val E.type E.laws) (map E.type.to (entries r)))
+  ev r = array_val (map (val E) (entries r))
 
   -- what whoever holds what is handed out knows of its parts
   is_outcome : (r : Unfilled) (vs : List Val) → Is (row S) r vs → Is (row O) (outcome r) (ov r ∷ [])
   is_outcome r vs is = (LL.owed S.type S.laws r vs is).0
 
   is_entries : (r : Unfilled) (vs : List Val) → Is (row S) r vs → Is Es (entries r) (ev r ∷ [])
-  is_entries r vs is = up E.type w (entries r) _ (LL.owed S.type S.laws r vs is).1.0
+  is_entries r vs is = (LL.owed S.type S.laws r vs is).1.0
 
   is_count : (r : Unfilled) (vs : List Val) → Is (row S) r vs → count r < 2 ^ 64
   is_count r vs is =
       let Q : Data = held Z.reply in
       (LL.owed Q.type Q.laws (reply (outcome r)) _ (LL.owed O.type O.laws (outcome r) _ (is_outcome r vs is)).1.0).1.0.1
 
-  module _ (f : Makes E R) (Hands : Hand) (Shows : Show) (law : Filling f Hands Shows) (with-key fill-key : Name) where
+  module _ (f : Makes E R) (Hands : Hand) (Shows : Show) (law : Filling f Hands Shows) (with-key fill-key : Callee) where
     with_of : {M : Type 1} {𝓤 : Ura M} (𝓛 : Logic 𝓤) (h : Table) (c n j m : ℕ) (r : Unfilled)
         → ent 𝓤 (ensured 𝓛 with_ended (with_clauses Hands 𝓤) tt (h, (c, (n, (j, (m, tt))))) tt r) (fact 𝓤 (Hands h c n j m r))
     with_of {𝓤 = 𝓤} 𝓛 h c n j m r = ex_e 𝓤 _ (λ ws. snd∗ 𝓤 (sem 𝓛 (lasts with_ended tt (h, (c, (n, (j, (m, tt))))) ws)) (fact 𝓤 (Hands h c n j m r)))
@@ -251,9 +253,9 @@ module _ (Z : Board) where
         tt,
       )
 
-      goes_with : ent 𝓤 (sem 𝓛 ((row B).own h (tv h ∷ []))) ((With Hands 𝓛).pre to_with)
+      goes_with : ent 𝓤 (sem 𝓛 ((row B).own_val h (tv h ∷ []))) ((With Hands 𝓛).pre to_with)
       goes_with =
-          qed 𝓛 (‵ ((row B).own h (tv h ∷ [])) ∷ []) ∵ nothing ! $ owned ! usize (Is usize) (uint_Makes 𝓛 w64) (length ys) _ (refl, room.0) $ fjoin ! $
+          qed 𝓛 (‵ ((row B).own_val h (tv h ∷ [])) ∷ []) ∵ nothing ! $ owned ! usize (Is usize) (uint_Makes 𝓛 w64) (length ys) _ (refl, room.0) $ fjoin ! $
           owned ! u64 (Is u64) (uint_Makes 𝓛 w64) j _ (refl, j-fits) $ fjoin ! $ owned ! u64 (Is u64) (uint_Makes 𝓛 w64) n _ (refl, n-fits) $
           fjoin ! $
           owned ! u64 (Is u64) (uint_Makes 𝓛 w64) c _ (refl, c-fits) $ fjoin ! $ move ! (1 ∷ 0 ∷ []) $ fjoin ! $ nothing ! $ join ! $ frame ! $ done !
@@ -271,16 +273,20 @@ module _ (Z : Board) where
       )
 
       goes_fill : (r : Unfilled) → Hands h c n j (length ys) r → count r < 2 ^ 64 → ent 𝓤 (⋆ 𝓛 ((‵ (flft κ q) ⊛ ‵ ftrue) ∷ ‵
-          ((MutSlice (named 0) κ (row R)).own_val x (s ∷ [])) ∷ ‵ (Es.own (entries r) (ev r ∷ [])) ∷ [])) ((Fill E R w f 𝓛).pre (to_fill r))
+          ((MutSlice (named 0) κ (row R)).own_val x (s ∷ [])) ∷ ‵ (Es.own_val (entries r) (ev r ∷ [])) ∷ [])) ((Fill E R w f 𝓛).pre (to_fill r))
       goes_fill r e fits =
-          qed 𝓛 ((‵ (flft κ q) ⊛ ‵ ftrue) ∷ ‵ ((MutSlice (named 0) κ (row R)).own_val x (s ∷ [])) ∷ ‵ (Es.own (entries r) (ev r ∷ [])) ∷ []) ∵
+          qed 𝓛 ((‵ (flft κ q) ⊛ ‵ ftrue) ∷ ‵ ((MutSlice (named 0) κ (row R)).own_val x (s ∷ [])) ∷ ‵ (Es.own_val (entries r) (ev r ∷ [])) ∷ []) ∵
           says ! (law.fits ys e) $ nothing ! $ owned ! usize (Is usize) (uint_Makes 𝓛 w64) (count r) _ (refl, fits) $ fjoin ! $
           move ! (3 ∷ 0 ∷ []) $ fjoin ! $ move ! (2 ∷ 0 ∷ []) $ fjoin ! $ move ! (1 ∷ 0 ∷ []) $ frame ! $ done !
 
+      -- what says the panel's last contents, and its borrow, which is handed back
+      abbrev gone : List Record → Fml
+      gone zs = fsep (finally (row R) γ zs) (fbor κ (Held (row R) (length ys) b o γ))
+
       exits : (r : Unfilled) (zs : List Record) → Hands h c n j (length ys) r → zs ≡ filled (f (entries r)) (count r) ys → length zs ≡ length ys
-          → Is (row O) (outcome r) (ov r ∷ []) → ent 𝓤 (⋆ 𝓛 ((‵ (flft κ q) ⊛ ‵ ftrue) ∷ ‵ (finally (row R) γ zs) ∷ [])) (Post (ov r))
+          → Is (row O) (outcome r) (ov r ∷ []) → ent 𝓤 (⋆ 𝓛 ((‵ (flft κ q) ⊛ ‵ ftrue) ∷ ‵ (gone zs) ∷ [])) (Post (ov r))
       exits r zs e same-zs l is =
-          qed 𝓛 ((‵ (flft κ q) ⊛ ‵ ftrue) ∷ ‵ (finally (row R) γ zs) ∷ []) ∵
+          qed 𝓛 ((‵ (flft κ q) ⊛ ‵ ftrue) ∷ ‵ (gone zs) ∷ []) ∵
           suffices ! _ (ends_at 𝓛 step_ended stayed (step_clauses Shows 𝓤) (((κ, tt), (q, tt), tt, a, av), tt) (ov r) (outcome r)
           (last_same (same B) h, (tt, (tt, (tt, (zs, tt))))) (tt, (tt, (tt, (tt, (l, tt)))))) $
           says ! (subst (λ (us : List Record). Shows h c n j ys (table (outcome r)) (reply (outcome r)) us) (sym same-zs) (law.shows ys e)) $ frame ! $
@@ -313,7 +319,7 @@ module _ (Z : Board) where
             calls_at ! (fm_of 𝓤 H 𝓛.laws 𝓣) (With Hands 𝓛) known-with to_with (and_then ! (load ! (from ! (stop !)) (look ! 24 refl))
             (and_then ! (load ! (from ! (stop !)) (look ! 22 refl)) (and_then ! (load ! (from ! (stop !)) (look ! 20 refl))
             (and_then ! (load ! (from ! (stop !)) (look ! 18 refl)) (and_then ! (load ! (from ! (stop !)) (look ! 10 refl)) (no_more !)))))) (λ v.
-            use1 𝓛 (later (some (λ (r : Unfilled). (‵ ftrue ⊛ ‵ ((row S).own r (v ∷ []))) ⊛ raw
+            use1 𝓛 (later (some (λ (r : Unfilled). (‵ ftrue ⊛ ‵ ((row S).own_val r (v ∷ []))) ⊛ raw
             (ensured 𝓛 with_ended (with_clauses Hands 𝓤) tt (h, (c, (n, (j, (length ys, tt))))) tt r)))) (id⊢ 𝓤 _) $ await ! tt $ pick ! (λ r.
             split ! $ move ! (1 ∷ []) $ use1 𝓛 (raw (fact 𝓤 (Hands h c n j (length ys) r))) (with_of 𝓛 h c n j (length ys) r) $
             heard ! (Hands h c n j (length ys) r) (λ e. split ! $ drop ! $ peeks ! (row S) (Is (row S)) (shows 𝓛 (row S)) r (v ∷ []) (λ is.
@@ -337,8 +343,8 @@ module _ (Z : Board) where
             pick ! (λ z. split ! $ move ! (1 ∷ []) $ use1 𝓛 (some (λ (zs : List Record × (Last (Es.exit yes) (entries r) × (Unit {0} × Unit {0}))). ‵
             (lasts (fill_ended E R w) (κ, tt) (x, (entries r, (count r, tt))) zs) ⊛ raw
             (fact 𝓤 (zs.0 ≡ filled (f (entries r)) (count r) ys)))) (id⊢ 𝓤 _) $ pick ! (λ zs.
-            split ! $ move ! (1 ∷ []) $ heard ! (zs.0 ≡ filled (f (entries r)) (count r) ys) (λ same-zs. fsplit ! $ fsplit ! $ move ! (1 ∷ []) $
-            feq_l ! (λ l. move ! (2 ∷ []) $ split ! $ move ! (1 ∷ []) $ peeks ! unit (Is unit) (shows 𝓛 unit) z (v' ∷ []) (λ is-z.
+            split ! $ move ! (1 ∷ []) $ heard ! (zs.0 ≡ filled (f (entries r)) (count r) ys) (λ same-zs. fsplit ! $ fsplit ! $ fsplit ! $ move ! (1 ∷ []) $
+            feq_l ! (λ l. fjoin ! $ move ! (2 ∷ []) $ split ! $ move ! (1 ∷ []) $ peeks ! unit (Is unit) (shows 𝓛 unit) z (v' ∷ []) (λ is-z.
             -- [what () owns; the token; the panel's last contents; true; true; _11; …]
             land ! (from ! (stop !)) (init ! 9 refl ((Nothing-Lawful 𝓛).typed z _ is-z).0) $ drop ! $
             assigns ! (of_opd ! (load ! (from ! (fld ! refl (stop !))) (look_in ! 14 (sub ! 0 refl (whole !))))) (from ! (stop !))
@@ -377,7 +383,7 @@ module _ (Z : Board) where
           ) (step_clauses Shows 𝓤) (WpFn 𝓤 H 𝓣.C 𝓣.Λ (step_function with-key fill-key))
           (WpFn-mono 𝓤 H 𝓛.laws 𝓣 (step_function with-key fill-key)) step_walks
 
-    module _ {M : Type 1} {𝓤 : Ura M} (𝓛 : Logic 𝓤) (𝓜 : Model 𝓤 𝓛.H) (𝓡 : Running 𝓤 𝓛.H 𝓜) (γ : Env) (n : Name) (r r' : Routine) where
+    module _ {M : Type 1} {𝓤 : Ura M} (𝓛 : Logic 𝓤) (𝓜 : Model 𝓤 𝓛.H) (𝓡 : Running 𝓤 𝓛.H 𝓜) (γ : Env) (n : Callee) (r r' : Routine) where
       open 𝓛 use {H}
 
       pub step_spec : γ with-key ≡ r → γ fill-key ≡ r'

@@ -10,7 +10,7 @@ use mathlib.Core.Option.{some}
 use mir.Syntax.{w64, ty_int}
 use prog.Memory.{field_of}
 use Rattle.walks.proofs.Plain.{Both}
-use Rattle.walks.proofs.Structs.{Data, Part, Holds, held, part, array, usize, ty, plainly, both_of}
+use Rattle.walks.proofs.Structs.{Data, Part, Holds, held, part, array_of, usize, ty, plainly, both_of}
 
 pub record Board : Type 2 where
   pub table : Data
@@ -21,9 +21,9 @@ pub record Board : Type 2 where
   pub outcome : Holds (part table ∷ part (held reply) ∷ [])
   pub width : ℕ
   pub entry : Data
-  pub unfilled : Holds (part (held outcome) ∷ array (part entry) width ∷ [])
+  pub unfilled : Holds (part (held outcome) ∷ array_of entry width ∷ [])
   pub recorded : Data
-  pub shown : Holds (part table ∷ part (held reply) ∷ array (part recorded) width ∷ [])
+  pub shown : Holds (part table ∷ part (held reply) ∷ array_of recorded width ∷ [])
 
 abbrev pub both : (Z : Board) → Both (plainly Z.table) (plainly (held Z.reply))
 both Z = both_of Z.table (held Z.reply) Z.outcome

@@ -8,7 +8,7 @@ use Prim.Native.Nat.{ℕ}
 use mathlib.Core.List.{[], ◌∷◌, List}
 use lib.Dec.{T}
 use seplogic.Ra.Ura.{Ura}
-use seplogic.Ra.TreeShare.{full_share}
+use base.Fraction.{full_share}
 use mir.Syntax.{Sym, Ty, ty_struct, tnil, tcons}
 use mir.Val.{Val, vstruct, vnil, vcons, WT, has_ty}
 use base.Logic.{ent}
@@ -17,6 +17,7 @@ use types.Logic.{Logic, sem}
 use types.Kit.{‵, ⋆, ◌$◌, ◌∵◌, !, qed, use1, rewrite, fsplit, fjoin, fpick, fpack, done}
 use denote.Exit.{Kept, Exit, unchanged, Last, left}
 use denote.RattleType.{RattleType}
+use denote.Copied.{Copied}
 use denote.Laws.{Is, shows, Tells, Makes, Copy}
 use denote.Memory.{mem, cell_at, part_of}
 use denote.Struct.Steps.{spelt}
@@ -31,6 +32,7 @@ pub record Plainly : Type 2 where
   pub typed : (M : Type 1) (𝓤 : Ura M) (𝓛 : Logic 𝓤) → (x : R.Denot) (v : Val) → Is R x (v ∷ [])
       → T (has_ty mir v) × WT v
   pub copies : (M : Type 1) (𝓤 : Ura M) (𝓛 : Logic 𝓤) → Copy 𝓛 R
+  pub copied : (M : Type 1) (𝓤 : Ura M) (𝓛 : Logic 𝓤) → Copied 𝓛 R
   pub still : (k : Kept) → R.exit k ≡ unchanged
 
 -- nothing is bound or said of what is seen at exit as it was passed
@@ -65,15 +67,15 @@ abbrev pub layout : {B Q : Plainly} → Both B Q → Ty
 layout {B} {Q} S = layout_of B Q S.ν
 
 module _ {M : Type 1} {𝓤 : Ura M} (𝓛 : Logic 𝓤) (B : Plainly) (h : B.R.Denot) (l : ℕ) where
-  pub lies_in : ent 𝓤 (⋆ 𝓛 (‵ (fat full_share B.mir l 0 (B.val h)) ∷ ‵ (B.R.own h (B.val h ∷ [])) ∷ [])) (sem 𝓛 ((mem B.R).own_at h l 0))
+  pub lies_in : ent 𝓤 (⋆ 𝓛 (‵ (fat full_share B.mir l 0 (B.val h)) ∷ ‵ (B.R.own_val h (B.val h ∷ [])) ∷ [])) (sem 𝓛 ((mem B.R).own_at h l 0))
   unfolding part_of
   lies_in =
-      qed 𝓛 (‵ (fat full_share B.mir l 0 (B.val h)) ∷ ‵ (B.R.own h (B.val h ∷ [])) ∷ []) ∵
+      qed 𝓛 (‵ (fat full_share B.mir l 0 (B.val h)) ∷ ‵ (B.R.own_val h (B.val h ∷ [])) ∷ []) ∵
       use1 𝓛 (‵ (cell_at full_share (B.mir ∷ []) (B.val h ∷ []) l 0)) (𝓛.laws.at_raw full_share B.mir l 0 (B.val h)) $
       rewrite ! 0 (λ (τs : List Ty). ‵ (cell_at full_share τs (B.val h ∷ []) l 0)) (sym B.mir_is) refl $ fjoin ! $
-      fpack ! (List Val) (λ us. fsep (cell_at full_share B.R.mir us l 0) (B.R.own h us)) (B.val h ∷ []) $ done !
+      fpack ! (List Val) (λ us. fsep (cell_at full_share B.R.mir us l 0) (B.R.own_val h us)) (B.val h ∷ []) $ done !
 
-  pub lies_out : ent 𝓤 (sem 𝓛 ((mem B.R).own_at h l 0)) (⋆ 𝓛 (‵ (fat full_share B.mir l 0 (B.val h)) ∷ ‵ (B.R.own h (B.val h ∷ [])) ∷ []))
+  pub lies_out : ent 𝓤 (sem 𝓛 ((mem B.R).own_at h l 0)) (⋆ 𝓛 (‵ (fat full_share B.mir l 0 (B.val h)) ∷ ‵ (B.R.own_val h (B.val h ∷ [])) ∷ []))
   unfolding part_of
   lies_out =
       qed 𝓛 (‵ ((mem B.R).own_at h l 0) ∷ []) ∵ fpick ! (λ vs. fsplit ! $

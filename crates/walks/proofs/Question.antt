@@ -8,24 +8,24 @@ use mathlib.Core.Path.{◌≡◌, refl, sym}
 use Prim.Native.Nat.{ℕ}
 use mathlib.Core.List.{[], ◌∷◌, List}
 use seplogic.Ra.Ura.{Ura}
-use mir.Syntax.{Ty, Name, Fn, named, imm, ty_ref, deref, place, copy, local, value_local, rv_opd, seq, assign, call, return}
+use mir.Syntax.{Ty, Callee, Fn, named, imm, ty_ref, deref, place, copy, local, value_local, rv_opd, seq, assign, call, return}
 use mir.Val.{Val, vptr}
 use base.Logic.{SProp, ent, emp, via, fst∗, snd∗, ex_e, id⊢}
-use base.Fml.{GName, Lft, Share, ftrue, flft, fres, fshr_bor}
+use base.Fml.{Lft, Share, ftrue, flft}
 use prog.Model.{Model}
 use prog.Routine.{Routine, Env}
 use prog.Wp.{Calls, Loops, WpFn, Tables, Closed}
 use types.Logic.{Logic, sem}
 use contract.Monad.{fact}
 use contract.Running.{Running, tables}
-use types.Kit.{‵, raw, ◌⊛◌, some, later, ⋆, ◌$◌, ◌∵◌, !, qed, by, move, keep, drop, use1, split, join, pick, rewrite, fsplit, fsplit3, fjoin, fjoin3}
+use types.Kit.{‵, raw, ◌⊛◌, some, later, ⋆, ◌$◌, ◌∵◌, !, qed, by, move, keep, drop, use1, split, join, pick, rewrite, fsplit, fjoin}
 use types.Kit.{feq_i, suffices, frame, await, done}
 use types.Run.{look, look_raw, init, forget, stop, hop, from, load, of_opd, and_then, no_more, assigns, land, returns, enter, alloc1, alloc0, params1, pass1}
 use types.Run.{pass0, free1, free0}
 use sound.WpLaws.{FmC, fm_of, WpFn-mono}
 use denote.RattleType.{owns}
 use denote.Laws.{Is, shows}
-use denote.Memory.{cell_at, part_at, pointee}
+use denote.Memory.{cell_at, hidden_shr, pointee}
 use denote.Ref.{Bor, ShrRef, shr_vals, shr_Tells}
 use denote.Signature.{plain, shr_ref_to}
 use denote.Steps.{looks, shuts, owned, peeks, heard, nothing}
@@ -76,10 +76,12 @@ module _ (T R : Plainly) where
   AskLent Q {𝓤 = 𝓤} 𝓛 = triple_of 𝓛 lent_ended.signature (closing 𝓛 lent_ended (lent_clauses Q 𝓤))
 
   -- ---- the MIR of the question to a lent table, which calls the key
-  abbrev pub lent_function : Name → Fn
+  abbrev pub lent_function : Callee → Fn
   lent_function key = record {
     lifetimes = 1;
     outlives = [];
+    ty_params = [];
+    givens = 0;
     params = 1;
     locals = local R.mir value_local ∷ local (ty_ref (named 0) imm (pointee T.R.written)) value_local ∷ local T.mir value_local ∷ [];
     body = seq (assign (place 2 []) (rv_opd (copy (place 1 (deref T.mir ∷ []))))) (seq (call key (copy (place 2 []) ∷ []) (place 0 [])) return);
@@ -88,8 +90,8 @@ module _ (T R : Plainly) where
   abbrev stayed : Stays lent_ended.signature.params lent_ended.kept
   stayed = (stay_none_ref (0 ∷ []) tt (plain (λ _. T.R)) yes, tt)
 
-module _ {M : Type 1} {𝓤 : Ura M} (𝓛 : Logic 𝓤) (T R : Plainly) (Q : Told T R) (key : Name) (κ : Lft) (q : Share)
-    (b o : ℕ) (γ : GName) (h : T.R.Denot) where
+module _ {M : Type 1} {𝓤 : Ura M} (𝓛 : Logic 𝓤) (T R : Plainly) (Q : Told T R) (key : Callee) (κ : Lft) (q : Share)
+    (b o : ℕ) (h : T.R.Denot) where
   open 𝓛 use {H}
 
   abbrev x : Bor T.R.Denot × Unit {0}
@@ -104,20 +106,19 @@ module _ {M : Type 1} {𝓤 : Ura M} (𝓛 : Logic 𝓤) (T R : Plainly) (Q : To
   abbrev to : (Ask T R Q 𝓛).Ghost
   to = ((tt, tt, tt, (h, tt), (T.val h ∷ [], tt)), tt)
 
-  goes : ent 𝓤 (sem 𝓛 (T.R.own h (T.val h ∷ []))) ((Ask T R Q 𝓛).pre to)
-  goes = qed 𝓛 (‵ (T.R.own h (T.val h ∷ [])) ∷ []) ∵ nothing ! $ move ! (1 ∷ 0 ∷ []) $ join ! $ nothing ! $ join ! $ frame ! $ done !
+  goes : ent 𝓤 (sem 𝓛 (T.R.own_val h (T.val h ∷ []))) ((Ask T R Q 𝓛).pre to)
+  goes = qed 𝓛 (‵ (T.R.own_val h (T.val h ∷ [])) ∷ []) ∵ nothing ! $ move ! (1 ∷ 0 ∷ []) $ join ! $ nothing ! $ join ! $ frame ! $ done !
 
   -- of what the question ensures, the clause alone: there is no `&mut`
   said : (r : R.R.Denot) → ent 𝓤 (ensured 𝓛 (ask_ended T R) (ask_clauses T R Q 𝓤) tt (h, tt) tt r) (fact 𝓤 (Q h r))
   said r = ex_e 𝓤 _ (λ ws. snd∗ 𝓤 (sem 𝓛 (lasts (ask_ended T R) tt (h, tt) ws)) (fact 𝓤 (Q h r)))
 
-  exits : (r : R.R.Denot) (v : Val) → Q h r → ent 𝓤 (⋆ 𝓛 (‵ (R.R.own r (v ∷ [])) ∷ ‵ (flft κ q) ∷ ‵ (fres γ (T.R.coded.code h)) ∷ ‵
-      (fshr_bor κ (λ s. part_at T.R s h b o)) ∷ [])) (Post v)
+  exits : (r : R.R.Denot) (v : Val) → Q h r → ent 𝓤 (⋆ 𝓛 (‵ (R.R.own_val r (v ∷ [])) ∷ ‵ (flft κ q) ∷ ‵ (hidden_shr T.R κ h b o) ∷ [])) (Post v)
   exits r v e =
-      qed 𝓛 (‵ (R.R.own r (v ∷ [])) ∷ ‵ (flft κ q) ∷ ‵ (fres γ (T.R.coded.code h)) ∷ ‵ (fshr_bor κ (λ s. part_at T.R s h b o)) ∷ []) ∵
+      qed 𝓛 (‵ (R.R.own_val r (v ∷ [])) ∷ ‵ (flft κ q) ∷ ‵ (hidden_shr T.R κ h b o) ∷ []) ∵
       suffices ! _ (ends_at 𝓛 (lent_ended T R) (stayed T R) (lent_clauses T R Q 𝓤) (((κ, tt), (q, tt), tt, x, at), tt) v r (tt, tt) (tt, tt)) $
-      says ! (e, refl) $ move ! (1 ∷ 2 ∷ 3 ∷ []) $ nothing ! $ move ! (1 ∷ 0 ∷ []) $ join ! $ frame ! $
-      feq_i ! (List Val) (vptr b o ∷ []) (vptr b o ∷ []) refl $ fjoin3 ! $ nothing ! $ move ! (1 ∷ 0 ∷ []) $ fjoin ! $ frame ! $ done !
+      says ! (e, refl) $ move ! (1 ∷ []) $ nothing ! $ move ! (1 ∷ 0 ∷ []) $ join ! $ frame ! $ move ! (1 ∷ []) $
+      feq_i ! (List Val) (vptr b o ∷ []) (vptr b o ∷ []) refl $ fjoin ! $ nothing ! $ move ! (1 ∷ 0 ∷ []) $ fjoin ! $ frame ! $ done !
 
   module _ (C : Calls 𝓤 H) (Λ : Loops 𝓤 H) (fm : FmC 𝓤 H 𝓛.laws C) (known : Triple 𝓤 (C key) (Ask T R Q 𝓛)) where
     walk : ent 𝓤 (on_entry 𝓛 (lent_ended T R).signature (κ, tt) (q, tt) x at) (WpFn 𝓤 H C Λ (lent_function T R key) (vptr b o ∷ []) Post)
@@ -125,37 +126,37 @@ module _ {M : Type 1} {𝓤 : Ura M} (𝓛 : Logic 𝓤) (T R : Plainly) (Q : To
         qed 𝓛 ((‵ (flft κ q) ⊛ ‵ ftrue) ∷ ‵ (owns (ShrRef (named 0) κ T.R ∷ []) x at) ∷ []) ∵ enter ! C Λ (lent_function T R key) (vptr b o ∷ []) _ $
         alloc1 ! (λ l₀. alloc1 ! (λ l₁. alloc1 ! (λ l₂. alloc0 ! $ params1 ! $ pass1 ! (init ! 2 refl (tt, tt)) $ pass0 ! $
         -- [room for _2; …; _1; …; room for _0; …; the token; what the parameter owns]
-        move ! (7 ∷ []) $ fsplit ! $ fsplit3 ! $ drop ! $ move ! (9 ∷ []) $ split ! $ move ! (3 ∷ 0 ∷ []) $
-        looks ! tt T.R (Is T.R) (shows 𝓛 T.R) (λ y. T.val y ∷ []) T.tells (T.copies M 𝓤 𝓛) h b o (λ q' vs.
+        move ! (7 ∷ []) $ fsplit ! $ fsplit ! $ drop ! $ move ! (8 ∷ []) $ split ! $ move ! (2 ∷ 0 ∷ []) $
+        looks ! tt T.R (T.copied M 𝓤 𝓛).opens h b o (λ q' vs.
         spelt ! T.R (Is T.R) (shows 𝓛 T.R) (λ y. T.val y ∷ []) T.tells q' h vs b o $
         rewrite ! 0 (λ (τs : List Ty). ‵ (cell_at q' τs (T.val h ∷ []) b o)) T.mir_is refl $
         move ! (1 ∷ []) $ peeks ! T.R (Is T.R) (shows 𝓛 T.R) h (T.val h ∷ []) (λ g. move ! (1 ∷ 0 ∷ []) $
-        -- [a share of the table's cell; what a table owns; what shuts it; the fractured borrow; true; res; true; _2; …; _1; …; room for _0; …]
-        assigns ! (of_opd ! (load ! (from ! (hop ! (look ! 9 refl) (stop !))) (look_raw ! 0 refl))) (from ! (stop !))
-        (init ! 7 refl (T.typed M 𝓤 𝓛 h _ g)) $
+        -- [a share of the table's cell; what a table owns; what shuts it; what the borrow holds; true; true; _2; …; _1; …; room for _0; …]
+        assigns ! (of_opd ! (load ! (from ! (hop ! (look ! 8 refl) (stop !))) (look_raw ! 0 refl))) (from ! (stop !))
+        (init ! 6 refl (T.typed M 𝓤 𝓛 h _ g)) $
         rewrite ! 0 (λ (τs : List Ty). ‵ (cell_at q' τs (T.val h ∷ []) b o)) (sym T.mir_is) refl $
         shuts ! tt T.R q' h (T.val h ∷ []) b o $
         owned ! T.R (Is T.R) (T.makes M 𝓤 𝓛) h _ g $ use1 𝓛 (raw ((Ask T R Q 𝓛).pre to)) goes $
-        -- [what the question asks; the token; the borrow; true; res; true; _2; …; _1; …; room for _0; …]
-        calls_at ! fm (Ask T R Q 𝓛) known to (and_then ! (load ! (from ! (stop !)) (look ! 6 refl)) (no_more !)) (λ v.
-        use1 𝓛 (later (some (λ (r : R.R.Denot). (‵ ftrue ⊛ ‵ (R.R.own r (v ∷ []))) ⊛ raw
+        -- [what the question asks; the token; what the borrow holds; true; true; _2; …; _1; …; room for _0; …]
+        calls_at ! fm (Ask T R Q 𝓛) known to (and_then ! (load ! (from ! (stop !)) (look ! 5 refl)) (no_more !)) (λ v.
+        use1 𝓛 (later (some (λ (r : R.R.Denot). (‵ ftrue ⊛ ‵ (R.R.own_val r (v ∷ []))) ⊛ raw
         (ensured 𝓛 (ask_ended T R) (ask_clauses T R Q 𝓤) tt (h, tt) tt r)))) (id⊢ 𝓤 _) $ await ! tt $ pick ! (λ r.
         split ! $ move ! (1 ∷ []) $ use1 𝓛 (raw (fact 𝓤 (Q h r))) (said r) $ heard ! (Q h r) (λ e. split ! $ drop ! $
         peeks ! R.R (Is R.R) (shows 𝓛 R.R) r (v ∷ []) (λ is.
-        -- [what the answer owns; the token; the borrow; true; res; true; _2; …; _1; …; room for _0; …]
-        land ! (from ! (stop !)) (init ! 10 refl (R.typed M 𝓤 𝓛 r _ is)) $
-        returns ! (look ! 10 refl) $ forget ! 6 refl $ forget ! 8 refl $ forget ! 10 refl $
-        move ! (10 ∷ 11 ∷ []) $ free1 ! $ move ! (8 ∷ 9 ∷ []) $ free1 ! $ move ! (6 ∷ 7 ∷ []) $ free1 ! $ free0 ! $
-        keep ! (0 ∷ 1 ∷ 4 ∷ 2 ∷ []) $ by ! (exits r v e))))))))))
+        -- [what the answer owns; the token; what the borrow holds; true; true; _2; …; _1; …; room for _0; …]
+        land ! (from ! (stop !)) (init ! 9 refl (R.typed M 𝓤 𝓛 r _ is)) $
+        returns ! (look ! 9 refl) $ forget ! 5 refl $ forget ! 7 refl $ forget ! 9 refl $
+        move ! (9 ∷ 10 ∷ []) $ free1 ! $ move ! (7 ∷ 8 ∷ []) $ free1 ! $ move ! (5 ∷ 6 ∷ []) $ free1 ! $ free0 ! $
+        keep ! (0 ∷ 1 ∷ 2 ∷ []) $ by ! (exits r v e))))))))))
 
-module _ {M : Type 1} {𝓤 : Ura M} (𝓛 : Logic 𝓤) (T R : Plainly) (Q : Told T R) (key : Name) where
+module _ {M : Type 1} {𝓤 : Ura M} (𝓛 : Logic 𝓤) (T R : Plainly) (Q : Told T R) (key : Callee) where
   open 𝓛 use {H}
 
   ask_walks : (C : Calls 𝓤 H) (Λ : Loops 𝓤 H) → FmC 𝓤 H 𝓛.laws C → Triple 𝓤 (C key) (Ask T R Q 𝓛)
       → Walks 𝓛 (lent_ended T R) (stayed T R) (WpFn 𝓤 H C Λ (lent_function T R key)) (lent_clauses T R Q 𝓤)
   ask_walks C Λ fm known = walked 𝓛 (lent_ended T R) (stayed T R) (lent_clauses T R Q 𝓤) (WpFn 𝓤 H C Λ (lent_function T R key))
       (λ κs. (shr_vals, tt)) (λ κs. (shr_Tells (named 0) κs.0 T.R, tt))
-      (λ κs qs bounds a _ _. via 𝓤 _ (fst∗ 𝓤 _ (emp 𝓤)) (walk 𝓛 T R Q key κs.0 qs.0 a.0.ref_ptr.0 a.0.ref_ptr.1 0 a.0.now
+      (λ κs qs bounds a _ _. via 𝓤 _ (fst∗ 𝓤 _ (emp 𝓤)) (walk 𝓛 T R Q key κs.0 qs.0 a.0.ref_ptr.0 a.0.ref_ptr.1 a.0.now
       C Λ fm known))
 
   ask_meets : (𝓣 : Tables 𝓤 H) → Triple 𝓤 (𝓣.C key) (Ask T R Q 𝓛)
@@ -166,7 +167,7 @@ module _ {M : Type 1} {𝓤 : Ura M} (𝓛 : Logic 𝓤) (T R : Plainly) (Q : To
       (ask_walks 𝓣.C 𝓣.Λ (fm_of 𝓤 H 𝓛.laws 𝓣) known)
 
 pub ask_spec : (T R : Plainly) (Q : Told T R) {M : Type 1} {𝓤 : Ura M} (𝓛 : Logic 𝓤) (𝓜 : Model 𝓤 𝓛.H) (𝓡 : Running 𝓤 𝓛.H 𝓜)
-    (γ : Env) (n key : Name) (r : Routine) → γ key ≡ r → Closed 𝓤 𝓛.H (tables 𝓤 𝓛.H 𝓜 𝓡 γ).C (tables 𝓤 𝓛.H 𝓜 𝓡 γ).Λ n (lent_function T R key)
+    (γ : Env) (n key : Callee) (r : Routine) → γ key ≡ r → Closed 𝓤 𝓛.H (tables 𝓤 𝓛.H 𝓜 𝓡 γ).C (tables 𝓤 𝓛.H 𝓜 𝓡 γ).Λ n (lent_function T R key)
     → Triple 𝓤 (𝓡.run r) (Ask T R Q 𝓛) → Triple 𝓤 (𝓡.run (γ n)) (AskLent T R Q 𝓛)
 ask_spec T R Q {𝓤 = 𝓤} 𝓛 𝓜 𝓡 γ n key r at closed =
     linked 𝓤 𝓛.H 𝓜 𝓡 γ n key r (lent_function T R key) (AskLent T R Q 𝓛) (Ask T R Q 𝓛) at closed

@@ -6,11 +6,11 @@ use mathlib.Core.Path.{◌≡◌, refl}
 use Prim.Native.Nat.{ℕ}
 use mathlib.Core.List.{[], ◌∷◌}
 use seplogic.Ra.Ura.{Ura}
-use seplogic.Ra.TreeShare.{full_share}
-use mir.Syntax.{Name, Fn, named, erased, imm, ty_ref, place, copy, local, value_local, memory_slot, rv_opd, addr_of, seq, assign, call, return}
+use base.Fraction.{full_share}
+use mir.Syntax.{Callee, Fn, named, erased, imm, ty_ref, place, copy, local, value_local, memory_slot, rv_opd, addr_of, seq, assign, call, return}
 use mir.Val.{Val, vptr}
 use base.Logic.{SProp, ent, emp, via, fst∗, snd∗, ex_e, id⊢}
-use base.Fml.{GName, Lft, ftrue, fat, flft, flent}
+use base.Fml.{Lft, ftrue, fat, flft, flent}
 use prog.Model.{Model}
 use prog.Routine.{Routine, Env}
 use prog.Wp.{Calls, Loops, WpFn, Tables, Closed}
@@ -26,7 +26,7 @@ use sound.WpLaws.{FmC, fm_of, WpFn-mono}
 use denote.RattleType.{owns}
 use denote.Laws.{Is, shows}
 use denote.Memory.{mem, part_at, pointee}
-use denote.Lend.{lends_shr}
+use denote.Lend.{lends_free}
 use denote.Ref.{Bor, ShrRef}
 use denote.Steps.{owned, peeks, heard, nothing}
 use denote.Triple.Statement.{Triple}
@@ -41,10 +41,12 @@ use Rattle.walks.proofs.Question.{Told, Ask, AskLent, ask_ended, ask_clauses, le
 
 module _ (T R : Plainly) where
   -- ---- the MIR of the owner, which calls the key
-  abbrev pub own_function : Name → Fn
+  abbrev pub own_function : Callee → Fn
   own_function key = record {
     lifetimes = 0;
     outlives = [];
+    ty_params = [];
+    givens = 0;
     params = 1;
     locals = local R.mir value_local ∷ local T.mir value_local ∷ local T.mir memory_slot
         ∷ local (ty_ref erased imm (pointee T.R.written)) value_local ∷ [];
@@ -55,13 +57,13 @@ module _ (T R : Plainly) where
   abbrev stayed : Stays (ask_ended T R).signature.params (ask_ended T R).kept
   stayed = (stay_none (λ _. T.R) yes, tt)
 
-module _ {M : Type 1} {𝓤 : Ura M} (𝓛 : Logic 𝓤) (T R : Plainly) (Q : Told T R) (key : Name) (h : T.R.Denot)
+module _ {M : Type 1} {𝓤 : Ura M} (𝓛 : Logic 𝓤) (T R : Plainly) (Q : Told T R) (key : Callee) (h : T.R.Denot)
     (is-h : Is T.R h (T.val h ∷ [])) where
-  -- the loan of the local l under the name δ
+  -- the loan of the local l
   open 𝓛 use {H}
 
-  abbrev loan : ℕ → GName → Bor T.R.Denot
-  loan l δ = record { ref_ptr = (l, 0); now = h }
+  abbrev loan : ℕ → Bor T.R.Denot
+  loan l = record { ref_ptr = (l, 0); now = h }
 
   -- what the question to a lent table says then
   abbrev Says : R.R.Denot → Type 0
@@ -70,22 +72,22 @@ module _ {M : Type 1} {𝓤 : Ura M} (𝓛 : Logic 𝓤) (T R : Plainly) (Q : To
   abbrev Post : Val → SProp 𝓤
   Post = (walk_of 𝓛 (ask_ended T R) (stayed T R) (ask_clauses T R Q 𝓤)).post ((tt, tt, tt, (h, tt), (T.val h ∷ [], tt)), tt)
 
-  abbrev to : ℕ → Lft → GName → (AskLent T R Q 𝓛).Ghost
-  to l κ δ = (((κ, tt), (full_share, tt), tt, (loan l δ, tt), (vptr l 0 ∷ [], tt)), tt)
+  abbrev to : ℕ → Lft → (AskLent T R Q 𝓛).Ghost
+  to l κ = (((κ, tt), (full_share, tt), tt, (loan l, tt), (vptr l 0 ∷ [], tt)), tt)
 
-  goes : (l : ℕ) (κ : Lft) (δ : GName) → ent 𝓤 (⋆ 𝓛 (‵ (flft κ full_share) ∷ ‵ ((ShrRef (named 0) κ T.R).own_val (loan l δ) (vptr l 0 ∷ [])) ∷ []))
-      ((AskLent T R Q 𝓛).pre (to l κ δ))
-  goes l κ δ =
-      qed 𝓛 (‵ (flft κ full_share) ∷ ‵ ((ShrRef (named 0) κ T.R).own_val (loan l δ) (vptr l 0 ∷ [])) ∷ []) ∵
+  goes : (l : ℕ) (κ : Lft) → ent 𝓤 (⋆ 𝓛 (‵ (flft κ full_share) ∷ ‵ ((ShrRef (named 0) κ T.R).own_val (loan l) (vptr l 0 ∷ [])) ∷ []))
+      ((AskLent T R Q 𝓛).pre (to l κ))
+  goes l κ =
+      qed 𝓛 (‵ (flft κ full_share) ∷ ‵ ((ShrRef (named 0) κ T.R).own_val (loan l) (vptr l 0 ∷ [])) ∷ []) ∵
       nothing ! $ move ! (2 ∷ 0 ∷ []) $ fjoin ! $ nothing ! $ move ! (2 ∷ 0 ∷ []) $ join ! $ move ! (0 ∷ 1 ∷ []) $ join ! $ frame ! $ done !
 
-  said : (l : ℕ) (κ : Lft) (δ : GName) (r : R.R.Denot)
-      → ent 𝓤 (ensured 𝓛 (lent_ended T R) (lent_clauses T R Q 𝓤) (κ, tt) (loan l δ, tt) tt r) (fact 𝓤 (Says r))
-  said l κ δ r = ex_e 𝓤 _ (λ ws. snd∗ 𝓤 (sem 𝓛 (lasts (lent_ended T R) (κ, tt) (loan l δ, tt) ws)) (fact 𝓤 (Says r)))
+  said : (l : ℕ) (κ : Lft) (r : R.R.Denot)
+      → ent 𝓤 (ensured 𝓛 (lent_ended T R) (lent_clauses T R Q 𝓤) (κ, tt) (loan l, tt) tt r) (fact 𝓤 (Says r))
+  said l κ r = ex_e 𝓤 _ (λ ws. snd∗ 𝓤 (sem 𝓛 (lasts (lent_ended T R) (κ, tt) (loan l, tt) ws)) (fact 𝓤 (Says r)))
 
-  exits : (r : R.R.Denot) (v : Val) → Says r → ent 𝓤 (sem 𝓛 (R.R.own r (v ∷ []))) (Post v)
+  exits : (r : R.R.Denot) (v : Val) → Says r → ent 𝓤 (sem 𝓛 (R.R.own_val r (v ∷ []))) (Post v)
   exits r v e =
-      qed 𝓛 (‵ (R.R.own r (v ∷ [])) ∷ []) ∵
+      qed 𝓛 (‵ (R.R.own_val r (v ∷ [])) ∷ []) ∵
       suffices ! _ (ends_at 𝓛 (ask_ended T R) (stayed T R) (ask_clauses T R Q 𝓤) ((tt, tt, tt, (h, tt), (T.val h ∷ [], tt)), tt) v r
       (last_same (T.still yes) h, tt) (tt, tt)) $
       says ! e.0 $ owned ! T.R (Is T.R) (T.makes M 𝓤 𝓛) h _ is-h $ nothing ! $ move ! (1 ∷ 0 ∷ []) $ fjoin ! $ nothing ! $ done !
@@ -102,27 +104,27 @@ module _ {M : Type 1} {𝓤 : Ura M} (𝓛 : Logic 𝓤) (T R : Plainly) (Q : To
         move ! (9 ∷ []) $ fsplit ! $ move ! (4 ∷ 0 ∷ []) $ use2 𝓛 (‵ ((mem T.R).own_at h l₂ 0)) (lies_in 𝓛 T h l₂) $
         -- the local is lent for a lifetime ν of the call
         lft_new ! tt (λ ν. move ! (1 ∷ []) $
-        use1 𝓛 (later (some (λ (δ : GName). ‵ ((ShrRef (named 0) (ν ∷ []) T.R).own_val (loan l₂ δ) (vptr l₂ 0 ∷ [])) ⊛ ‵
-        (flent (ν ∷ []) (part_at T.R full_share h l₂ 0))))) (lends_shr 𝓛 T.R (named 0) (ν ∷ []) full_share h l₂ 0) $
-        await ! tt $ pick ! (λ δ. split ! $
+        use1 𝓛 (later (‵ ((ShrRef (named 0) (ν ∷ []) T.R).own_val (loan l₂) (vptr l₂ 0 ∷ [])) ⊛ ‵
+        (flent (ν ∷ []) (part_at T.R full_share h l₂ 0)))) (lends_free 𝓛 T.R (named 0) (ν ∷ []) full_share h l₂ 0 ((T.copied M 𝓤 𝓛).lends full_share h l₂ 0)) $
+        await ! tt $ split ! $
         -- [the loan; the lender's part; ν's token; true; _3; …; _2's end; _1; …; room for _0; …; true]
-        move ! (2 ∷ 0 ∷ []) $ use2 𝓛 (raw ((AskLent T R Q 𝓛).pre (to l₂ (ν ∷ []) δ))) (goes l₂ (ν ∷ []) δ) $
-        calls_at ! fm (AskLent T R Q 𝓛) known (to l₂ (ν ∷ []) δ) (and_then ! (load ! (from ! (stop !)) (look ! 3 refl)) (no_more !)) (λ v.
-        use1 𝓛 (later (some (λ (r : R.R.Denot). ((‵ (flft (ν ∷ []) full_share) ⊛ ‵ ftrue) ⊛ ‵ (R.R.own r (v ∷ []))) ⊛ raw
-        (ensured 𝓛 (lent_ended T R) (lent_clauses T R Q 𝓤) (ν ∷ [], tt) (loan l₂ δ, tt) tt r)))) (id⊢ 𝓤 _) $ await ! tt $ pick ! (λ r.
-        split ! $ move ! (1 ∷ []) $ use1 𝓛 (raw (fact 𝓤 (Says r))) (said l₂ (ν ∷ []) δ r) $ heard ! (Says r) (λ e. split ! $ move ! (1 ∷ []) $
+        move ! (2 ∷ 0 ∷ []) $ use2 𝓛 (raw ((AskLent T R Q 𝓛).pre (to l₂ (ν ∷ [])))) (goes l₂ (ν ∷ [])) $
+        calls_at ! fm (AskLent T R Q 𝓛) known (to l₂ (ν ∷ [])) (and_then ! (load ! (from ! (stop !)) (look ! 3 refl)) (no_more !)) (λ v.
+        use1 𝓛 (later (some (λ (r : R.R.Denot). ((‵ (flft (ν ∷ []) full_share) ⊛ ‵ ftrue) ⊛ ‵ (R.R.own_val r (v ∷ []))) ⊛ raw
+        (ensured 𝓛 (lent_ended T R) (lent_clauses T R Q 𝓤) (ν ∷ [], tt) (loan l₂, tt) tt r)))) (id⊢ 𝓤 _) $ await ! tt $ pick ! (λ r.
+        split ! $ move ! (1 ∷ []) $ use1 𝓛 (raw (fact 𝓤 (Says r))) (said l₂ (ν ∷ []) r) $ heard ! (Says r) (λ e. split ! $ move ! (1 ∷ []) $
         peeks ! R.R (Is R.R) (shows 𝓛 R.R) r (v ∷ []) (λ is.
         -- [what the answer owns; the token and true; the lender's part; true; _3; …; _2's end; _1; …; room for _0; …; true]
         land ! (from ! (stop !)) (init ! 9 refl (R.typed M 𝓤 𝓛 r _ is)) $
         -- the lifetime is ended, and the local comes back
         move ! (1 ∷ []) $ split ! $ lft_end ! tt $ move ! (0 ∷ 3 ∷ []) $ lent_back ! tt $
-        use1 𝓛 (‵ (fat full_share T.mir l₂ 0 (T.val h)) ⊛ ‵ (T.R.own h (T.val h ∷ []))) (lies_out 𝓛 T h l₂) $ split ! $
+        use1 𝓛 (‵ (fat full_share T.mir l₂ 0 (T.val h)) ⊛ ‵ (T.R.own_val h (T.val h ∷ []))) (lies_out 𝓛 T h l₂) $ split ! $
         -- [_2; what the table owns; true; what the answer owns; true; _3; …; _2's end; _1; …; _0; …; true]
         returns ! (look ! 10 refl) $ forget ! 0 refl $ forget ! 5 refl $ forget ! 8 refl $ forget ! 10 refl $
         move ! (10 ∷ 11 ∷ []) $ free1 ! $ move ! (8 ∷ 9 ∷ []) $ free1 ! $ move ! (0 ∷ 7 ∷ []) $ free1 ! $ move ! (4 ∷ 5 ∷ []) $ free1 ! $ free0 ! $
-        keep ! (2 ∷ []) $ by ! (exits r v e)))))))))))
+        keep ! (2 ∷ []) $ by ! (exits r v e))))))))))
 
-module _ {M : Type 1} {𝓤 : Ura M} (𝓛 : Logic 𝓤) (T R : Plainly) (Q : Told T R) (key : Name) where
+module _ {M : Type 1} {𝓤 : Ura M} (𝓛 : Logic 𝓤) (T R : Plainly) (Q : Told T R) (key : Callee) where
   open 𝓛 use {H}
 
   own_walks : (C : Calls 𝓤 H) (Λ : Loops 𝓤 H) → FmC 𝓤 H 𝓛.laws C → Triple 𝓤 (C key) (AskLent T R Q 𝓛)
@@ -139,7 +141,7 @@ module _ {M : Type 1} {𝓤 : Ura M} (𝓛 : Logic 𝓤) (T R : Plainly) (Q : To
       (own_walks 𝓣.C 𝓣.Λ (fm_of 𝓤 H 𝓛.laws 𝓣) known)
 
 pub ask_owned_spec : (T R : Plainly) (Q : Told T R) {M : Type 1} {𝓤 : Ura M} (𝓛 : Logic 𝓤) (𝓜 : Model 𝓤 𝓛.H) (𝓡 : Running 𝓤 𝓛.H 𝓜)
-    (γ : Env) (n key : Name) (r : Routine) → γ key ≡ r → Closed 𝓤 𝓛.H (tables 𝓤 𝓛.H 𝓜 𝓡 γ).C (tables 𝓤 𝓛.H 𝓜 𝓡 γ).Λ n (own_function T R key)
+    (γ : Env) (n key : Callee) (r : Routine) → γ key ≡ r → Closed 𝓤 𝓛.H (tables 𝓤 𝓛.H 𝓜 𝓡 γ).C (tables 𝓤 𝓛.H 𝓜 𝓡 γ).Λ n (own_function T R key)
     → Triple 𝓤 (𝓡.run r) (AskLent T R Q 𝓛) → Triple 𝓤 (𝓡.run (γ n)) (Ask T R Q 𝓛)
 ask_owned_spec T R Q {𝓤 = 𝓤} 𝓛 𝓜 𝓡 γ n key r at closed =
     linked 𝓤 𝓛.H 𝓜 𝓡 γ n key r (own_function T R key) (Ask T R Q 𝓛) (AskLent T R Q 𝓛) at closed

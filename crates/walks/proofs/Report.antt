@@ -10,7 +10,7 @@ use Prim.Native.Nat.{ℕ, zero, suc}
 use mathlib.Core.List.{List, [], ◌∷◌}
 use lib.ListN.{length}
 use seplogic.Ra.Ura.{Ura}
-use seplogic.Ra.TreeShare.{full_share}
+use base.Fraction.{full_share}
 use mir.Syntax.{Ty, Step as PStep, named, erased, mut, ty_ref, deref, field, place, copy, Opd as Operand, addr_of, aggregate, Body, seq, assign}
 use mir.Syntax.{Local, local, value_local}
 use mir.Val.{vptr}
@@ -183,8 +183,8 @@ module _ {M : Type 1} {𝓤 : Ura M} (𝓛 : Logic 𝓤) where
       (mean 𝓛 (given (fits_of κs (buffer b) (all yes (buffer b)) (gave b) x (end b κs x w))
       (‵ (has_of κs (buffer b) (all yes (buffer b)) (gave b) x (end b κs x w) (valss (types_at (buffer b) κs) (spell b κs) x)))))
   take_back none κs x w = qed 𝓛 (‵ ftrue ∷ []) ∵ check ! tt $ done !
-  take_back (slice X) κs x w = qed 𝓛 (‵ (lasts_of κs.1 (buffer' (slice X)) (all yes (buffer' (slice X))) x w) ∷ []) ∵ fsplit ! $ fsplit ! $ move ! (1 ∷ []) $
-      feq_l ! (λ l. check ! (l, tt) $ fjoin ! $ done !)
+  take_back (slice X) κs x w = qed 𝓛 (‵ (lasts_of κs.1 (buffer' (slice X)) (all yes (buffer' (slice X))) x w) ∷ []) ∵ fsplit ! $ fsplit ! $ fsplit ! $
+      move ! (1 ∷ []) $ feq_l ! (λ l. check ! (l, tt) $ fjoin ! $ fjoin ! $ done !)
 
   pub hand_off : (b : Beside) (κs : Lfts (suc (lives b))) (x : Denots (types_at (buffer' b) κs.1))
       → ent 𝓤 (sem 𝓛 (owns (types_at (buffer' b) κs.1) x (valss (types_at (buffer' b) κs.1) (spell' b κs.1) x)))
@@ -197,8 +197,8 @@ module _ {M : Type 1} {𝓤 : Ura M} (𝓛 : Logic 𝓤) where
       (mean 𝓛 (given (fits_of κs.1 (buffer' b) (all yes (buffer' b)) (gave' b) x (end' b κs x w))
       (‵ (has_of κs.1 (buffer' b) (all yes (buffer' b)) (gave' b) x (end' b κs x w) (valss (types_at (buffer' b) κs.1) (spell' b κs.1) x)))))
   have_back none κs x w = qed 𝓛 (‵ ftrue ∷ []) ∵ check ! tt $ done !
-  have_back (slice X) κs x w = qed 𝓛 (‵ (lasts_of κs (buffer (slice X)) (all yes (buffer (slice X))) x w) ∷ []) ∵ fsplit ! $ fsplit ! $ move ! (1 ∷ []) $
-      feq_l ! (λ l. check ! (l, tt) $ fjoin ! $ done !)
+  have_back (slice X) κs x w = qed 𝓛 (‵ (lasts_of κs (buffer (slice X)) (all yes (buffer (slice X))) x w) ∷ []) ∵ fsplit ! $ fsplit ! $ fsplit ! $
+      move ! (1 ∷ []) $ feq_l ! (λ l. check ! (l, tt) $ fjoin ! $ fjoin ! $ done !)
 
 -- ---- the MIR
 -- the local j places after the result, the table and the k numbers; and after the buffer

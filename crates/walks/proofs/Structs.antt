@@ -5,7 +5,7 @@
 --     plainly, both_of     a struct, and a struct of two structs, as the walks of lent calls ask for them (`Plain.antt`)
 use mathlib.Core.Path.{◌≡◌, refl, sym, ap, subst}
 use Prim.Native.Nat.{ℕ}
-use mathlib.Core.List.{List, [], ◌∷◌}
+use mathlib.Core.List.{List, [], ◌∷◌, map}
 use seplogic.Ra.Ura.{Ura}
 use lib.Dec.{T}
 use mir.Syntax.{Ty, Sym, Lifetime}
@@ -13,15 +13,18 @@ use mir.Val.{Val, WT, has_ty}
 use types.Logic.{Logic}
 use denote.RattleType.{RattleType}
 use denote.Laws.{Is, Tells, Makes, Lawful}
-use denote.Array.{Array}
+use denote.Array.{Array, array_val, Array-Tells, Array-Lawful}
 use denote.Exit.{unchanged, each_of, yes}
 use denote.Struct.Struct.{Plains, Struct, layout}
-use denote.Struct.Field.{Field, rows, usize-field, array_field}
+use denote.Struct.Field.{Field, rows, row_field, usize-field, array_field}
 use denote.Struct.Values.{Values, intos}
 use denote.Struct.Record.{Record}
 use denote.Struct.Declared as Declared
 use denote.Struct.Declared.{Declared, fields, shape}
 use denote.Struct.Laws as LL
+use denote.Param.Laws.{struct_copy, array_copy}
+use denote.Param.Plain.{struct_plain, array_plain}
+use denote.Param.Drops.{Array-Drops}
 use Rattle.walks.proofs.Plain.{Plainly, Both}
 
 pub record Data : Type 2 where
@@ -90,6 +93,22 @@ array P n = record {
   copies = LL.array_copy P.field P.copies n;
 }
 
+-- an array of a declared struct, as a field has it: over the structs themselves
+abbrev pub array_of : Data → ℕ → Part
+array_of X n = record {
+  field = row_field (Array (row X) n);
+  laws = record {
+    val = λ xs. array_val (map (val X) xs);
+    tells = Array-Tells (row X) (vals X) (tells X) n;
+    low = λ xs. array_val (map (val X) xs);
+    low-is = Array-Tells (row X) (vals X) (tells X) n;
+    lawful = λ 𝓛. Array-Lawful 𝓛 (row X) (lawful X 𝓛) n;
+    drops = λ 𝓛. Array-Drops 𝓛 (row X) (LL.drops X.type X.laws 𝓛) n;
+  };
+  plain = array_plain (row X) (struct_plain X.type X.plain) n;
+  copies = array_copy (row X) (struct_copy X.type X.copies) n;
+}
+
 abbrev pub parts : List Part → List Field
 parts [] = []
 parts (P ∷ Ps) = P.field ∷ parts Ps
@@ -109,6 +128,7 @@ copiess (P ∷ Ps) = (P.copies, copiess Ps)
 pub record Holds (Ps : List Part) : Type 2 where
   pub name : Sym
   pub args : List Lifetime
+  pub types : List RattleType
   pub D : Type 0
   pub values : D → Values (parts Ps)
   pub one : (x y : D) → intos (parts Ps) (values x) ≡ intos (parts Ps) (values y) → x ≡ y
@@ -119,11 +139,29 @@ pub record Holds (Ps : List Part) : Type 2 where
 abbrev pub struct_of : {Ps : List Part} (N : Record) (values : N.D → Values (parts Ps))
     → ((x y : N.D) → intos (parts Ps) (values x) ≡ intos (parts Ps) (values y) → x ≡ y) → (make : Values (parts Ps) → N.D)
     → ((v : Values (parts Ps)) → values (make v) ≡ v) → Holds Ps
-struct_of N values one make made = record { name = N.name; args = N.args; D = N.D; values = values; one = one; make = make; made = made }
+struct_of N values one make made = record { name = N.name; args = N.args; types = N.types; D = N.D; values = values; one = one; make = make; made = made }
 
 abbrev pub held : {Ps : List Part} → Holds Ps → Data
 held {Ps} S = record {
-  type = record { name = S.name; args = S.args; parts = parts Ps; D = S.D; to = λ d. intos (parts Ps) (S.values d); to_one = S.one };
+  type = record {
+    name = S.name;
+    args = S.args;
+    types = S.types;
+    parts = parts Ps;
+    D = S.D;
+    to = λ d. intos (parts Ps) (S.values d);
+    to_one = S.one;
+    as_values = S.values;
+    to_is = λ d. refl;
+    cover = record {
+      Ghost = λ v. Unit {0};
+      ghosts = λ d. tt;
+      make = λ v g. S.make v;
+      eta = λ d. S.one (S.make (S.values d)) d (ap (intos (parts Ps)) (S.made (S.values d)));
+      beta = λ v g. S.made v;
+    };
+    propositions = λ v p q. refl;
+  };
   laws = lawss Ps;
   plain = plains Ps;
   copies = copiess Ps;
@@ -145,6 +183,7 @@ plainly X = record {
   makes = λ M 𝓤 𝓛. makes X 𝓛;
   typed = λ M 𝓤 𝓛. typed X 𝓛;
   copies = λ M 𝓤 𝓛. LL.copy X.type X.copies 𝓛;
+  copied = λ M 𝓤 𝓛. LL.copied X.type X.copies 𝓛;
   still = LL.still X.type X.copies;
 }
 

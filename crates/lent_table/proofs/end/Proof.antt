@@ -1,4 +1,5 @@
 -- `lent_table::end` meets its contract: the walk of `walks`, at `step::end`, of which it knows only its contract.
+use mathlib.Core.Path.{refl}
 use denote.Builtin.{u8}
 use Rattle.walks.proofs.Lent.{lent_spec}
 use Rattle.walks.proofs.Report.{slice}
@@ -10,7 +11,6 @@ use Rattle.lent_table.specs.contracts.end.Key.{name}
 use Rattle.lent_table.proofs.end.Statement as stated
 use Rattle.lent_table.proofs.end.Code as code
 
-pub end-spec : {M : Type 1} → stated.statement M
-unfolding code.routine
-end-spec 𝓤 𝓛 𝓜 𝓡 = lent_spec outcome (slice u8) 1 ends 𝓛 𝓜 𝓡 code.env name step-def.name step-def.routine code.calls-step::end
-    (code.unfolded 𝓤 𝓛.H 𝓜 𝓡) (step_thm.met 𝓤 𝓛 𝓜 𝓡)
+pub end_spec : {M : Type 1} → stated.statement M
+end_spec 𝓤 𝓛 𝓜 𝓡 wired = lent_spec outcome (slice u8) 1 ends 𝓛 𝓜 𝓡 𝓡.env name step-def.name (𝓡.env step-def.name) refl
+    (code.unfolded 𝓤 𝓛.H 𝓜 𝓡 wired) (step_thm.met 𝓤 𝓛 𝓜 𝓡 (code.calls-step::end 𝓡.env wired))

@@ -1,4 +1,5 @@
 -- `lent_table::snap` meets its contract: the walk of `walks`, at `step::snap`, of which it knows only its contract.
+use mathlib.Core.Path.{refl}
 use Rattle.walks.proofs.Lent.{lent_spec}
 use Rattle.walks.proofs.Report.{none}
 use Rattle.step.proofs.snap.Symbol as step-def
@@ -9,7 +10,6 @@ use Rattle.lent_table.specs.contracts.snap.Key.{name}
 use Rattle.lent_table.proofs.snap.Statement as stated
 use Rattle.lent_table.proofs.snap.Code as code
 
-pub snap-spec : {M : Type 1} → stated.statement M
-unfolding code.routine
-snap-spec 𝓤 𝓛 𝓜 𝓡 = lent_spec outcome none 1 (by_name 3) 𝓛 𝓜 𝓡 code.env name step-def.name step-def.routine code.calls-step::snap
-    (code.unfolded 𝓤 𝓛.H 𝓜 𝓡) (step_thm.met 𝓤 𝓛 𝓜 𝓡)
+pub snap_spec : {M : Type 1} → stated.statement M
+snap_spec 𝓤 𝓛 𝓜 𝓡 wired = lent_spec outcome none 1 (by_name 3) 𝓛 𝓜 𝓡 𝓡.env name step-def.name (𝓡.env step-def.name) refl
+    (code.unfolded 𝓤 𝓛.H 𝓜 𝓡 wired) (step_thm.met 𝓤 𝓛 𝓜 𝓡 (code.calls-step::snap 𝓡.env wired))

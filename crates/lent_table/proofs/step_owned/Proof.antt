@@ -1,4 +1,5 @@
 -- `lent_table::step_owned` meets its contract: the owner's walk of `walks`, at `step`, of which it knows only its contract.
+use mathlib.Core.Path.{refl}
 use denote.Builtin.{u8}
 use Rattle.walks.proofs.Linked.{Fulfils}
 use Rattle.walks.proofs.Lent.{Step}
@@ -13,10 +14,9 @@ use Rattle.lent_table.proofs.step_owned.Statement as stated
 use Rattle.lent_table.proofs.step_owned.Code as code
 
 -- its contract is that of the step by value
-states : (M : Type 1) → Fulfils M code.routine (Step outcome (slice u8) 3 by_code) → stated.statement M
+states : (M : Type 1) → Fulfils M code.code name (λ 𝓤 𝓛. Step outcome (slice u8) 3 by_code 𝓛) → stated.statement M
 states M met = met
 
-pub step-owned-spec : {M : Type 1} → stated.statement M
-unfolding code.routine
-step-owned-spec {M} = states M (λ 𝓤 𝓛 𝓜 𝓡. own_spec outcome (slice u8) 3 by_code 𝓛 𝓜 𝓡 code.env name step-def.name step-def.routine
-    code.calls-lent-table::step (code.unfolded 𝓤 𝓛.H 𝓜 𝓡) (step_thm.met 𝓤 𝓛 𝓜 𝓡))
+pub step_owned_spec : {M : Type 1} → stated.statement M
+step_owned_spec {M} = states M (λ 𝓤 𝓛 𝓜 𝓡 wired. own_spec outcome (slice u8) 3 by_code 𝓛 𝓜 𝓡 𝓡.env name step-def.name (𝓡.env step-def.name) refl
+    (code.unfolded 𝓤 𝓛.H 𝓜 𝓡 wired) (step_thm.met 𝓤 𝓛 𝓜 𝓡 (code.calls-lent_table::step 𝓡.env wired)))

@@ -1,4 +1,5 @@
 -- `lent_table::update` meets its contract: the walk of `walks`, at `step::update`, of which it knows only its contract.
+use mathlib.Core.Path.{refl}
 use Rattle.walks.proofs.Lent.{lent_spec}
 use Rattle.walks.proofs.Report.{none}
 use Rattle.step.proofs.update.Symbol as step-def
@@ -9,7 +10,6 @@ use Rattle.lent_table.specs.contracts.update.Key.{name}
 use Rattle.lent_table.proofs.update.Statement as stated
 use Rattle.lent_table.proofs.update.Code as code
 
-pub update-spec : {M : Type 1} → stated.statement M
-unfolding code.routine
-update-spec 𝓤 𝓛 𝓜 𝓡 = lent_spec outcome none 1 (by_name 4) 𝓛 𝓜 𝓡 code.env name step-def.name step-def.routine code.calls-step::update
-    (code.unfolded 𝓤 𝓛.H 𝓜 𝓡) (step_thm.met 𝓤 𝓛 𝓜 𝓡)
+pub update_spec : {M : Type 1} → stated.statement M
+update_spec 𝓤 𝓛 𝓜 𝓡 wired = lent_spec outcome none 1 (by_name 4) 𝓛 𝓜 𝓡 𝓡.env name step-def.name (𝓡.env step-def.name) refl
+    (code.unfolded 𝓤 𝓛.H 𝓜 𝓡 wired) (step_thm.met 𝓤 𝓛 𝓜 𝓡 (code.calls-step::update 𝓡.env wired))

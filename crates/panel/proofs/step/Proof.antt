@@ -1,4 +1,5 @@
 -- `panel::step` meets its contract: the walk of `walks`, at `with_panel` and `fill`, of which it knows only that each meets its contract.
+use mathlib.Core.Path.{refl}
 use Rattle.walks.proofs.PanelStep as walk
 use Rattle.step.proofs.with_panel.Symbol as with-panel-def
 use Rattle.step.proofs.with_panel.Met as with-panel-thm
@@ -12,6 +13,7 @@ use Rattle.panel.proofs.step.Statement as stated
 use Rattle.panel.proofs.step.Code as code
 
 pub step_spec : {M : Type 1} → stated.statement M
-unfolding code.routine
-step_spec 𝓤 𝓛 𝓜 𝓡 = walk.step_spec board record_at hands Shows filling with-panel-def.name fill-def.name 𝓛 𝓜 𝓡 code.env name with-panel-def.routine
-    fill-def.routine code.calls-step::with-panel code.calls-panel::fill (code.unfolded 𝓤 𝓛.H 𝓜 𝓡) (with-panel-thm.met 𝓤 𝓛 𝓜 𝓡) (fill-thm.met 𝓤 𝓛 𝓜 𝓡)
+step_spec 𝓤 𝓛 𝓜 𝓡 wired = walk.step_spec board record_at hands Shows filling with-panel-def.name fill-def.name 𝓛 𝓜 𝓡 𝓡.env name (𝓡.env with-panel-def.name)
+    (𝓡.env fill-def.name) refl refl
+    (code.unfolded 𝓤 𝓛.H 𝓜 𝓡 wired) (with-panel-thm.met 𝓤 𝓛 𝓜 𝓡 (code.calls-step::with_panel 𝓡.env wired))
+    (fill-thm.met 𝓤 𝓛 𝓜 𝓡 (code.calls-panel::fill 𝓡.env wired))

@@ -1,4 +1,5 @@
 -- `panel::step_lent` meets its contract: the walk of `walks`, with a slice of records, at `panel::step`, of which it knows only that it meets its contract.
+use mathlib.Core.Path.{refl}
 use Rattle.walks.proofs.Lent.{lent_spec}
 use Rattle.walks.proofs.Report.{slice}
 use Rattle.walks.proofs.Structs.{row}
@@ -12,7 +13,6 @@ use Rattle.panel.specs.contracts.step_lent.Key.{name}
 use Rattle.panel.proofs.step_lent.Statement as stated
 use Rattle.panel.proofs.step_lent.Code as code
 
-pub step-lent-spec : {M : Type 1} → stated.statement M
-unfolding code.routine
-step-lent-spec 𝓤 𝓛 𝓜 𝓡 = lent_spec (both board) (slice (row board.recorded)) 3 (said board Shows) 𝓛 𝓜 𝓡 code.env name step-def.name step-def.routine
-    code.calls-panel::step (code.unfolded 𝓤 𝓛.H 𝓜 𝓡) (step_thm.met 𝓤 𝓛 𝓜 𝓡)
+pub step_lent_spec : {M : Type 1} → stated.statement M
+step_lent_spec 𝓤 𝓛 𝓜 𝓡 wired = lent_spec (both board) (slice (row board.recorded)) 3 (said board Shows) 𝓛 𝓜 𝓡 𝓡.env name step-def.name (𝓡.env step-def.name) refl
+    (code.unfolded 𝓤 𝓛.H 𝓜 𝓡 wired) (step_thm.met 𝓤 𝓛 𝓜 𝓡 (code.calls-panel::step 𝓡.env wired))

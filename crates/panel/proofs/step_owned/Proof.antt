@@ -1,4 +1,5 @@
 -- `panel::step_owned` meets its contract: the walk of `walks`, at `at_most_32` and `step_lent`, of which it knows only that each meets its contract.
+use mathlib.Core.Path.{refl}
 use lib.Dec.{lit<}
 use seplogic.Ra.Ura.{Ura}
 use base.Logic.{SProp, emp}
@@ -23,8 +24,8 @@ exits : {M : Type 1} {𝓤 : Ura M} (𝓛 : Logic 𝓤) (mem : Memory → SProp 
     → Follows board Shows 𝓤 (own.clauses 𝓛 mem run)
 exits {𝓤 = 𝓤} 𝓛 mem run a g r e said = fact_i 𝓤 _ (emp 𝓤) said
 
-pub step-owned-spec : {M : Type 1} → stated.statement M
-unfolding code.routine
-step-owned-spec 𝓤 𝓛 𝓜 𝓡 = own_spec board Shows most-def.name lent-def.name (lit< tt, lit< tt) 𝓛 𝓜 𝓡 (own.clauses 𝓛 𝓜.mem 𝓡.run)
-    (exits 𝓛 𝓜.mem 𝓡.run) code.env name most-def.routine lent-def.routine code.calls-panel::at-most-32 code.calls-panel::step-lent
-    (code.unfolded 𝓤 𝓛.H 𝓜 𝓡) (most-thm.met 𝓤 𝓛 𝓜 𝓡) (lent-thm.met 𝓤 𝓛 𝓜 𝓡)
+pub step_owned_spec : {M : Type 1} → stated.statement M
+step_owned_spec 𝓤 𝓛 𝓜 𝓡 wired = own_spec board Shows most-def.name lent-def.name (lit< tt, lit< tt) 𝓛 𝓜 𝓡 (own.clauses 𝓛 𝓜.mem 𝓡.returns)
+    (exits 𝓛 𝓜.mem 𝓡.returns) 𝓡.env name (𝓡.env most-def.name) (𝓡.env lent-def.name) refl refl
+    (code.unfolded 𝓤 𝓛.H 𝓜 𝓡 wired) (most-thm.met 𝓤 𝓛 𝓜 𝓡 (code.calls-panel::at_most_32 𝓡.env wired))
+    (lent-thm.met 𝓤 𝓛 𝓜 𝓡 (code.calls-panel::step_lent 𝓡.env wired))
