@@ -12,7 +12,7 @@ use std::io::{Read, Write};
 use streams::Input;
 
 // After a part of the file: the run, the bytes that were served, or of which the first are kept for the next part, and whether to read on.
-#[derive(Drop)]
+#[derive(Clone, Copy)]
 struct Stage {
     run: Run,
     count: usize,
