@@ -113,8 +113,8 @@ pub fn tickets_top_holders(
 ) -> Holders
     ensures tells { Tells lent (arrays count labels.now jobs.now control.now results.now)
         result.refusal result.stations }
-    ensures results_value { arrays count labels.now jobs.now control.now results.now
-        ≡ arrays count labels.now jobs.now control.now results.now }
+    ensures results_value { arrays count labels.exit.now jobs.exit.now control.exit.now results.exit.now
+        ≡ arrays count labels.entry.now jobs.entry.now control.entry.now results.entry.now }
 {
     let told = engine::top_holders(count, labels, jobs, control, results);
     let refusal = told.refusal;
