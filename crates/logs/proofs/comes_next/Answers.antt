@@ -1,16 +1,12 @@
-use Prim.Native.Nat.{◌+◌, ◌-◌, ◌≤◌}
+use Prim.Native.Nat.{◌+◌}
 use native.Mathlib.Nat.{add-zero}
 use native.Mathlib.Omega.{arith}
-use mathlib.Core.Path.{◌≡◌, refl, sym, ap, ◌∙◌}
-use mathlib.Core.Bool.{◌&&◌}
+use mathlib.Core.Path.{refl, sym, ap, ◌∙◌}
 use lib.ListN.{drop, length-drop}
 use Rattle.transition.specs.Logs.{at_front}
 use Rattle.transition.proofs.Logs.{front_short}
 use Rattle.logs.proofs.Checks.{bytes_more, bytes_end}
 use Rattle.logs.proofs.comes_next.Goals as goal
-
-pub overflow_sub-part : goal.overflow_sub-part
-overflow_sub-part c = c.requires
 
 pub returns-then-part-at : goal.returns-then-part-at
 returns-then-part-at c = sym (front_short _ _ (omega (arith, c.if-part-at.true, length-drop c.args.at c.args.part.now)))
@@ -19,21 +15,6 @@ pub loop-i-init : goal.loop-i-init
 loop-i-init c =
     let s = c.args in
     (omega arith, refl, omega (arith, c.if-part-at.false, c.requires), ap (λ k. at_front s.bytes.now (drop k s.part.now)) (sym (add-zero s.at)))
-
-pub bounds-bytes-i : goal.bounds-bytes-i
-bounds-bytes-i c = c.loop-i-test.true
-
-pub overflow_add-same : goal.overflow_add-same
-overflow_add-same c = omega (arith, c.loop-i.invariant.2, c.loop-i-test.true, c.well_formed)
-
-pub bounds-part-at : goal.bounds-part-at
-bounds-part-at c = omega (arith, c.loop-i.invariant.2, c.loop-i-test.true)
-
-pub overflow_add-i : goal.overflow_add-i
-overflow_add-i c = omega (arith, c.loop-i.invariant.2, c.loop-i-test.true, c.well_formed)
-
-pub loop-i-smaller : goal.loop-i-smaller
-loop-i-smaller c = let h = c.loop-i-test.true in omega (arith, h)
 
 pub loop-i-preserved : goal.loop-i-preserved
 loop-i-preserved c =

@@ -1,9 +1,7 @@
-use native.Mathlib.Omega.{arith}
 use mathlib.Core.Path.{◌≡◌, refl, sym, ap, ◌∙◌}
 use mathlib.Core.List.{[]}
-use lib.ListN.{length, length-set}
+use lib.ListN.{length}
 use borrow.Author.Tests.{eq-eqb, ne_eqb, eqb-true, eqb-false, not-true, not-false}
-use Rattle.basics.proofs.Loops.{was_true, was_false}
 use Rattle.transition.specs.Forms.{over}
 use Rattle.moves.specs.Moves.{refusal_number}
 use Rattle.schedule.specs.Files.{printed}

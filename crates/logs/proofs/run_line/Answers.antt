@@ -50,6 +50,3 @@ counted h c =
 
 pub returns-clause-runs_call : goal.returns-clause-runs_call
 returns-clause-runs_call c = counted written c
-
-pub returns-clause-fact_2 : goal.returns-clause-fact_2
-returns-clause-fact_2 c = c.take_turn-t.ensures.fact_3

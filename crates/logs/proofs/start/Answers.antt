@@ -5,9 +5,7 @@ use mathlib.Core.Bool.{Bool}
 use mathlib.Core.List.{List}
 use lib.ListN.{length, take}
 use borrow.Author.Rules.{rules}
-use Rattle.arrays.specs.Arrays.{Rows, Planes}
 use Rattle.logs.specs.Clauses.{Begins}
-use Rattle.logs.specs.declared.Begun.{Begun}
 use Rattle.logs.proofs.Files.{begins_file}
 use Rattle.logs.proofs.start.Goals as goal
 use Rattle.logs.proofs.start.Goals.{After-begin}
