@@ -1,5 +1,6 @@
 // What a step call amounts to, and its refusal.
 #![tactic(auto)]
+
 ghost use Rattle.std.specs.Prelude.{◌≡◌, true, not, ℕ, ◌-◌, ◌≤◌, eqb};
 ghost use Rattle.simulation.specs.Calls.{refused, unless, job_fits, not_due, needs_service, by_service, holds, original, by_phase, judge_in};
 ghost use Rattle.moves.specs.Moves.{phase_of, room_of, standing_of, refusal_number, move_of, called, directly, place_of};

@@ -1,5 +1,6 @@
 // The lines of a schedule file: the header, and the step lines after it. Nothing here runs a step.
 #![tactic(auto)]
+
 ghost use Rattle.std.specs.Prelude.{◌≡◌, cond, ◌+◌, ◌≤◌, length, take, drop, eqb};
 ghost use Rattle.moves.specs.declared.Refusal.TheVariants.{Accepted};
 ghost use Rattle.simulation.specs.Calls.{original};

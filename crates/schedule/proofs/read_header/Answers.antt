@@ -1,5 +1,5 @@
 use native.Mathlib.Nat.{mod-one}
-use mathlib.Core.Path.{sym, ◌∙◌}
+use mathlib.Core.Path.{sym}
 use borrow.Author.Tests.{eq-eqb, ne_eqb, le-leb, lt-leb}
 use Rattle.schedule.specs.Lines.{header_read}
 use Rattle.schedule.proofs.read_header.Goals as goal
