@@ -2,8 +2,8 @@
 // functions of its bytes; only the reads stand outside them.
 #![tactic(auto)]
 
-ghost use Rattle.std.specs.Prelude.{◌≡◌, [], length};
-ghost use Rattle.intake.specs.Clauses.{ahead_read, Within, ReadsPart, is_settled, Taken};
+ghost use Rattle.std.specs.Prelude.{◌≡◌, [], ◌++◌, length, IfSome};
+ghost use Rattle.intake.specs.Clauses.{ahead_read, Within, ReadsPart, is_settled, Taken, Tells};
 ghost use Rattle.intake.specs.declared.Reading.TheVariants.{Start, Lines};
 
 use moves::Refusal;
@@ -105,7 +105,8 @@ fn read_on<R: Read, E: Write>(
     complaint: &[u8],
 ) -> Intake
     requires { length part.old ≡ 73764 }
-    ensures { Taken part.new result }
+    ensures taken { Taken part.new result }
+    ensures told { IfSome (R.remaining input.old) (λ bs. Tells (part.old ++ bs) part.new result) }
 {
     let mut reading = read_part(Reading::Start, part);
     while !settled(reading) {
@@ -129,7 +130,8 @@ pub fn read_schedule<R: Read, E: Write>(
     errors: &mut E,
     complaint: &[u8],
 ) -> Intake
-    ensures { Taken part.new result }
+    ensures taken { Taken part.new result }
+    ensures told { IfSome (R.remaining input.old) (λ bs. Tells bs part.new result) }
 {
     let r = streams::read_input(input, part, errors, complaint);
     if r.failed {
