@@ -33,6 +33,7 @@ pub enum Header {
 }
 
 // Reads a line: its columns from left to right, and the first malformed one ends the reading.
+#[tactic(auto, using(columns::proofs::Scans::three_from), unfolding(crate::specs::Lines::line_read))]
 pub fn read_line(s: &[u8]) -> Line
     ensures { result ≡ line_read s.now }
 {
@@ -65,6 +66,7 @@ pub fn next_line(lines: u32, line: &[u8]) -> Line
 }
 
 // Reads the header: the number of stations, code 0 and job 0.
+#[tactic(auto, unfolding(crate::specs::Lines::header_read))]
 pub fn read_header(line: &[u8]) -> Header
     ensures { result ≡ header_read original line.now }
 {
