@@ -9,10 +9,10 @@ use Rattle.engine.proofs.relabel.Goals as goal
 pub pending_by-requires : goal.pending_by-requires
 pending_by-requires c =
     let s = c.requires in record {
-  orderly = s.orderly;
-  z_value = s.is_newest c.in-SnapLabel.is;
-  k_lt_n = s.inside;
-}
+      orderly = s.orderly;
+      z_value = s.is_newest c.in-SnapLabel.is;
+      k_lt_n = s.inside;
+    }
 
 pub returns-in-SnapLabel : goal.returns-in-SnapLabel
 returns-in-SnapLabel c job =

@@ -32,11 +32,19 @@ pub loop-p-preserved : goal.loop-p-preserved
 loop-p-preserved c =
     let a = c.args in
     let f = c.loop-p.invariant.2 in
-    elim c.if-job-service.branch [ 
-      then-job-service x ↦ (search rules, omega arith, shown_next _ _ _ _ f (omega arith) (omega arith)
-          (found_shows a.jobs.now a.service.now (get_or a.order.now c.loop-p.p 0) x.if-job-service.true) x.rows-is x.k-is)
-    | else-job-service x ↦ (search rules, omega arith, struck_next _ _ _ _ f (omega arith)
-          (found_shows a.jobs.now a.service.now (get_or a.order.now c.loop-p.p 0) x.if-job-service.false) x.rows-is x.k-is)
+    elim c.if-job-service.branch [
+      | then-job-service x ↦ (
+        search rules,
+        omega arith,
+        shown_next _ _ _ _ f (omega arith) (omega arith)
+            (found_shows a.jobs.now a.service.now (get_or a.order.now c.loop-p.p 0) x.if-job-service.true) x.rows-is x.k-is,
+      )
+      | else-job-service x ↦ (
+        search rules,
+        omega arith,
+        struck_next _ _ _ _ f (omega arith)
+            (found_shows a.jobs.now a.service.now (get_or a.order.now c.loop-p.p 0) x.if-job-service.false) x.rows-is x.k-is,
+      )
     ]
 
 pub returns : goal.returns

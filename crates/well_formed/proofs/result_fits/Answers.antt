@@ -21,9 +21,9 @@ pub tally-requires : goal.tally-requires
 tally-requires c =
     let fit = (sym c.entries_fit.ensures ∙ c.if-not-entries_fit.false) in
     record {
-  k_bound = few (goal.at.tally-requires c).After-shown_in-k;
-  by_index = station_small c.args.n c.args.rows.now _ c.shown_in-k.ensures fit c.requires;
-}
+      k_bound = few (goal.at.tally-requires c).After-shown_in-k;
+      by_index = station_small c.args.n c.args.rows.now _ c.shown_in-k.ensures fit c.requires;
+    }
 
 pub none_from-requires-2 : goal.none_from-requires-2
 none_from-requires-2 c = omega (arith, few (goal.at.none_from-requires-2 c).After-shown_in-k)
