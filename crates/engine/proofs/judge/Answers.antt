@@ -1,11 +1,11 @@
 use native.Mathlib.Omega.{arith}
-use Prim.Native.Nat.{ℕ, ◌≤◌, ◌<◌}
-use mathlib.Core.Path.{◌≡◌, refl, sym, ap, subst, ◌∙◌}
+use Prim.Native.Nat.{◌≤◌, ◌<◌}
+use mathlib.Core.Path.{refl, sym, ap, subst, ◌∙◌}
 use mathlib.Core.List.{[]}
 use Rattle.simulation.specs.Calls.{original, judge_in}
 use Rattle.moves.specs.Moves.{room_of, move_of, call_of, standing_for}
 use Rattle.moves.proofs.MoveLaws.{place_below}
-use Rattle.arrays.specs.Arrays.{cell, out_for, phase_for}
+use Rattle.arrays.specs.Arrays.{cell}
 use Rattle.engine.proofs.Served.{due_few}
 use Rattle.engine.proofs.judge.Goals as goal
 use Rattle.engine.proofs.judge.Goals.{After-place_of-place}

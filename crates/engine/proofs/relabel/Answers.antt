@@ -1,7 +1,4 @@
-use Prim.Native.Nat.{ℕ}
-use mathlib.Core.List.{List, [], ◌∷◌}
-use Rattle.moves.specs.declared.Move.TheVariants.{SnapLabel, Update}
-use Rattle.moves.proofs.MoveLaws.{not_among, step_stays}
+use Rattle.moves.proofs.MoveLaws.{step_stays}
 use Rattle.engine.proofs.Carried.{labels_stay, labels_snap, labels_update}
 use Rattle.engine.proofs.relabel.Goals as goal
 

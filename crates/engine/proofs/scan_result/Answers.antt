@@ -1,9 +1,6 @@
 use mathlib.Core.Path.{◌≡◌, ap, ◌∙◌}
-use mathlib.Core.Bool.{Bool, true, false}
-use Prim.Native.Nat.{◌-◌, ◌≤◌}
 use native.Mathlib.Omega.{arith}
 use lib.ListN.{get_or}
-use Rattle.simulation.specs.Machine.{shows}
 use Rattle.engine.specs.Scans.{found, scan_rows}
 use Rattle.engine.proofs.Scanned.{found_shows, none_yet, shown_next, struck_next}
 use borrow.Author.Rules.{rules}

@@ -1,7 +1,7 @@
 use mathlib.Core.Path.{◌≡◌, refl, sym, ap, ◌∙◌}
 use Rattle.moves.specs.Moves.{refusal_number}
 use Rattle.moves.proofs.MoveLaws.{refuses_yes, refuses_no}
-use Rattle.arrays.specs.Arrays.{Arrays, arrays}
+use Rattle.arrays.specs.Arrays.{arrays}
 use Rattle.schedule.specs.Lines.{header_read}
 use Rattle.schedule.proofs.SessionLaws.{original_stations}
 use Rattle.schedule.specs.declared.Header.TheVariants.{Stations}
