@@ -1,4 +1,3 @@
-use Prim.Native.Nat.{◌-◌}
 use native.Mathlib.Omega.{arith}
 use mathlib.Core.Path.{refl}
 use Rattle.schedule.proofs.Places.{StepAt, at_end, at_refused, at_call, calls_none, calls_refused}

@@ -1,4 +1,3 @@
-use Prim.Native.Nat.{◌-◌, ◌≤◌}
 use native.Mathlib.Omega.{arith}
 use mathlib.Core.Path.{◌∙◌}
 use Rattle.numbering.proofs.Slots.{searched_first, searched_own, apart_inside, searched_other, slot_shared, slot_after}
