@@ -153,7 +153,7 @@ module _ {run : Run} {a : Arrays} {last : Bool} {part : Lists.List ℕ} {r : Fed
   pub feeds_rest : (more : Lists.List ℕ) → (last ≡ true → more ≡ []) → ahead s (part ++ more) ≡ behind f.bytes (ahead s' (drop r.read part ++ more))
   unfolding cut
   feeds_rest more over = by_cases (ℕ_discrete f.served 0)
-      (λ z. let n = none_served z in rw (n.0, n.1, n.2) refl)
+      (λ z. let n = none_served z in sym (λ i. behind (n.1 i) (ahead (n.0 i) (drop (n.2 i) part ++ more))))
       (λ d. on d (⊎_elim (whole d) (λ h. by_cases (dec_lt (length part) (18 * f.served)) (all d h) (λ n. whole d (omega arith))) served_whole))
     where
       rest : Lists.List ℕ

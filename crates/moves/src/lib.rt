@@ -1,5 +1,6 @@
 // What a step call amounts to, and its refusal.
 #![tactic(auto)]
+
 ghost use Rattle.std.specs.Prelude.{◌≡◌, true, not, ℕ, ◌-◌, ◌≤◌, eqb};
 ghost use Rattle.simulation.specs.Calls.{refused, unless, job_fits, not_due, needs_service, by_service, holds, original, by_phase, judge_in};
 ghost use Rattle.moves.specs.Moves.{phase_of, room_of, standing_of, refusal_number, move_of, called, directly, place_of};
@@ -238,6 +239,7 @@ fn by_service(own: Standing, code: u64, room: Room) -> Move
 }
 
 // What a known step of one of n stations amounts to: its job is judged first.
+#[tactic(auto, unfolding(simulation::specs::Calls::unless))]
 fn by_code(own: Standing, code: u64, job: u64, room: Room) -> Move
     requires { own.shown ≤ 32 }
     ensures { (line station : ℕ) → move_of (station - 1) job result ≡ unless (job_fits code job) 11 (by_service own.out code
@@ -259,6 +261,7 @@ fn by_code(own: Standing, code: u64, job: u64, room: Room) -> Move
 }
 
 // What a call amounts to for a station of n with this standing.
+#[tactic(auto, unfolding(simulation::specs::Calls::unless, simulation::specs::Calls::judge_in))]
 pub fn judge(n: usize, own: Standing, code: u64, station: u64, job: u64, room: Room) -> Move
     requires { own.shown ≤ 32 }
     ensures { (line : ℕ) → move_of (place_of n station) job result

@@ -37,6 +37,10 @@ unfolding number_lines
 numbers_append [] m = refl
 numbers_append (v ∷ l) m = ap (λ t. number_line v ++ t) (numbers_append l m) ∙ sym (append_assoc (number_line v) (number_lines l) (number_lines m))
 
+-- the lines of ns at the front of what was lent
+abbrev pub printed : List ℕ → List ℕ → List ℕ
+printed ns lent = number_lines ns ++ drop (length (number_lines ns)) lent
+
 -- the line of the next number goes behind those of the first i
 pub numbers_more : (ns out₀ : List ℕ) (i k : ℕ) {out x : List ℕ} → i < length ns → k ≡ 12
     → out ≡ number_lines (take i ns) ++ drop (length (number_lines (take i ns))) out₀ → x ≡ number_line (get_or ns i 0)

@@ -23,7 +23,7 @@ pub record NumberLines (bs ns : List ℕ) : Type 0 where
   pub fit : (i : ℕ) → get_or ns i 0 < 10 ^ 11
 
 -- READING THEM BACK: the number on the line at the front of some bytes; `Bad` where they do not begin with the line of a number
--- (proofs/Reading.antt: `line-iff`)
+-- (proofs/Reading.antt: `line_iff`)
 unfoldable pub number_read : List ℕ → Column
 number_read bs = cond (eqb (get_or bs 11 0) 10) (column_read (take 11 bs)) Bad
 

@@ -1,5 +1,6 @@
 // Numbers on lines of 12 bytes each (document 02, Cards 6 and 7): printed, and read back.
 #![tactic(auto)]
+
 ghost use Rattle.std.specs.Prelude.{◌≡◌, ◌++◌, ◌*◌, ◌≤◌, length, drop};
 ghost use Rattle.number_lines.specs.Lines.{number_line, number_lines, number_read, NumbersRead};
 

@@ -11,8 +11,7 @@ use borrow.Author.Tests.{le-leb}
 use Rattle.basics.specs.Tests.{All}
 use Rattle.basics.proofs.Facts.{tf}
 use Rattle.simulation.specs.Calls.{Board, Call, Buffer, holds, Report, bytes_of}
-use Rattle.simulation.specs.Machine as Machine
-use Rattle.simulation.specs.Machine.{Seen, fresh}
+use Rattle.simulation.specs.Machine.{Seen}
 use Rattle.simulation.proofs.Simulation.{proper_some}
 use Rattle.transition.specs.Forms.{Form, TableAnswer, fresh_table, step_of}
 use Rattle.transition.specs.Demand.{run_table, seen_in, Demand3}

@@ -2,7 +2,6 @@
 -- a snap of their own. Stated over the bytes of a file and of its two reports.
 use Rattle.std.specs.Prelude.{ℕ, ◌≡◌, true, [], ◌∷◌}
 use mathlib.Core.List as Lists
-use Rattle.label.specs.Labels as Labels
 use Rattle.simulation.specs.Calls.{Board, apart}
 use Rattle.transition.specs.Forms.{Form}
 use Rattle.transition.specs.WellFormed.{Stated, stated}

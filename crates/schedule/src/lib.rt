@@ -1,5 +1,6 @@
 // The lines of a schedule file: the header, and the step lines after it. Nothing here runs a step.
 #![tactic(auto)]
+
 ghost use Rattle.std.specs.Prelude.{◌≡◌, cond, ◌+◌, ◌≤◌, length, take, drop, eqb};
 ghost use Rattle.moves.specs.declared.Refusal.TheVariants.{Accepted};
 ghost use Rattle.simulation.specs.Calls.{original};
@@ -32,6 +33,7 @@ pub enum Header {
 }
 
 // Reads a line: its columns from left to right, and the first malformed one ends the reading.
+#[tactic(auto, using(columns::proofs::Scans::three_from), unfolding(crate::specs::Lines::line_read))]
 pub fn read_line(s: &[u8]) -> Line
     ensures { result ≡ line_read s.now }
 {
@@ -64,6 +66,7 @@ pub fn next_line(lines: u32, line: &[u8]) -> Line
 }
 
 // Reads the header: the number of stations, code 0 and job 0.
+#[tactic(auto, unfolding(crate::specs::Lines::header_read))]
 pub fn read_header(line: &[u8]) -> Header
     ensures { result ≡ header_read original line.now }
 {

@@ -1,6 +1,6 @@
 -- WHAT LABELS OWE so that numbers can follow them: a relation to the numbers beside them that each step keeps, and a slot for each new number. From it, one
 -- step: whatever happens to the numbers later, the unbounded machine takes the same step. Nothing here knows what a label is.
-use Prim.Native.Nat.{ℕ, zero, ◌≤◌}
+use Prim.Native.Nat.{ℕ, ◌≤◌}
 use native.Mathlib.Omega.{arith}
 use mathlib.Core.Path.{◌≡◌, refl, sym, ap, subst, ◌∙◌, fun_ext}
 use mathlib.Core.Logic.{◌≢◌}

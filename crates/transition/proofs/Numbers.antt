@@ -7,7 +7,6 @@ use mathlib.Core.List.{[], ◌∷◌, ◌++◌}
 use Rattle.label.specs.Labels as Labels
 use Rattle.simulation.specs.Calls.{Call, judge}
 use Rattle.simulation.specs.Machine.{digits, label_step, State, fresh, step, fresh_label}
-use Rattle.simulation.specs.Machine as Machine
 use Rattle.simulation.specs.Numbered as Numbered
 use Rattle.simulation.specs.Numbered.{Fits, newest_snap}
 use Rattle.simulation.specs.Numbering.{numbers_of}

@@ -1,5 +1,5 @@
 use mathlib.Core.Path.{◌≡◌, refl, sym, ap, ◌∙◌}
-use Prim.Native.Nat.{ℕ, ◌-◌, ◌≤◌}
+use Prim.Native.Nat.{ℕ}
 use native.Mathlib.Omega.{arith}
 use lib.ListN.{take, length-set}
 use lib.Seq.{take_all}
@@ -23,15 +23,3 @@ returns c =
     let s = c.args.s.now in
     let e : l.i ≡ 11 = omega arith in
     sym (take_all l.i l.head (omega arith)) ∙ l.invariant.2 ∙ ap (λ (i : ℕ). take i s) e
-
-pub bounds-s-i : goal.bounds-s-i
-bounds-s-i c = omega arith
-
-pub bounds-head-i : goal.bounds-head-i
-bounds-head-i c = omega arith
-
-pub overflow_add-i : goal.overflow_add-i
-overflow_add-i c = omega arith
-
-pub loop-i-smaller : goal.loop-i-smaller
-loop-i-smaller c = omega arith

@@ -1,4 +1,3 @@
-use mathlib.Core.Path.{◌∙◌}
 use lib.ListN.{length}
 use Rattle.columns.proofs.Stores.{Filled}
 use Rattle.columns.proofs.write_column.Given as goal

@@ -11,49 +11,43 @@ use Rattle.file.proofs.open_part.Goals as goal
 use Rattle.file.proofs.open_part.Goals.{Else-refuses, In-Stations}
 
 -- Openings tells how a part starts. `x` is what is known when the run is found to go on, and `u` when the header has been read.
-abbrev table : goal.Start → Arrays
-table s = arrays s.args.run.count s.args.labels.now s.args.jobs.now s.args.control.now s.args.results.now
-
-abbrev start : goal.Else-refuses → goal.Start
-start x = x
-
-going : (x : goal.Else-refuses) → refusal_number (start x).args.run.refusal-1 ≡ 0
-going x = refuses_no (start x).args.run.refusal-1 x.refuses.ensures x.if-refuses.false
+going : (x : goal.Else-refuses) → refusal_number x.args.run.refusal ≡ 0
+going x = refuses_no x.args.run.refusal x.refuses.ensures x.if-refuses.false
 
 -- an accepted header
-said : (w : goal.In-Stations) → header_read original w.line_at_lem.result.now ≡ Stations w.in-Stations.n
+said : (w : goal.In-Stations) → header_read original w.line_at.result.now ≡ Stations w.in-Stations.n
 said w = sym w.in-Stations.ensures
 
 pub returns-then-refuses : goal.returns-then-refuses
 returns-then-refuses c =
-    (refl, c.requires, ended_none c.args.run (table c) c.args.last c.args.part.now (refuses_yes c.args.run.refusal-1 c.refuses.ensures c.if-refuses.true))
+    (refl, c.requires, ended_none c.args.run (arrays c.args.run.count c.args.labels.now c.args.jobs.now c.args.control.now c.args.results.now) c.args.last c.args.part.now (refuses_yes c.args.run.refusal c.refuses.ensures c.if-refuses.true))
 
 pub returns-then-run-ne0 : goal.returns-then-run-ne0
 returns-then-run-ne0 c =
-    let s = start c in
-    (opened_steps s.args.run _ s.args.part.now (going (goal.at.returns-then-run-ne0 c).Else-refuses) c.if-run-ne0.true (s.pre.few (going (goal.at.returns-then-run-ne0 c).Else-refuses)), s.pre.runnable)
+    
+    (opened_steps c.args.run _ c.args.part.now (going (goal.at.returns-then-run-ne0 c).Else-refuses) c.if-run-ne0.true (c.requires.few (going (goal.at.returns-then-run-ne0 c).Else-refuses)), c.requires.runnable)
 
 pub returns-then-part-last : goal.returns-then-part-last
-returns-then-part-last c = let s = start c in (refl, s.pre, waits_none s.args.run (table s) s.args.last s.args.part.now c.if-part-last.true)
+returns-then-part-last c =  (refl, c.requires, waits_none c.args.run (arrays c.args.run.count c.args.labels.now c.args.jobs.now c.args.control.now c.args.results.now) c.args.last c.args.part.now c.if-part-last.true)
 
 pub refresh-requires : goal.refresh-requires
 refresh-requires c = original_stations _ _ (said (goal.at.refresh-requires c).In-Stations)
 
 pub returns-in-Refused : goal.returns-in-Refused
 returns-in-Refused c =
-    let s = start c in
+    
     let first = c.if-run-ne0.false in (
       refl,
-      s.pre,
-      waiting s.args.run (table s) s.args.last s.args.part.now (going (goal.at.returns-in-Refused c).Else-refuses) first,
-      some_ready s.args.run (table s) s.args.last s.args.part.now (going (goal.at.returns-in-Refused c).Else-refuses) first c.if-part-last.false,
-      ap (header_read original) (sym c.line_at_lem.ensures) ∙ sym c.read_header.ensures ∙ c.in-Refused.is,
+      c.requires,
+      waiting c.args.run (arrays c.args.run.count c.args.labels.now c.args.jobs.now c.args.control.now c.args.results.now) c.args.last c.args.part.now (going (goal.at.returns-in-Refused c).Else-refuses) first,
+      some_ready c.args.run (arrays c.args.run.count c.args.labels.now c.args.jobs.now c.args.control.now c.args.results.now) c.args.last c.args.part.now (going (goal.at.returns-in-Refused c).Else-refuses) first c.if-part-last.false,
+      ap (header_read original) (sym c.line_at.ensures) ∙ sym c.read_header.ensures ∙ c.in-Refused.is,
     )
 
 pub returns-in-Stations : goal.returns-in-Stations
 returns-in-Stations c =
-    let s = start c in
+    
     let fresh = c.refresh.ensures in
     let first = c.if-run-ne0.false in
-    let part = s.args.part.now in
-    (opened_header s.args.run _ s.args.last part (going (goal.at.returns-in-Stations c).Else-refuses) first c.line_at_lem.ensures (said (goal.at.returns-in-Stations c).In-Stations) fresh.0, fresh.1)
+    let part = c.args.part.now in
+    (opened_header c.args.run _ c.args.last part (going (goal.at.returns-in-Stations c).Else-refuses) first c.line_at.ensures (said (goal.at.returns-in-Stations c).In-Stations) fresh.results_after, fresh.runnable)

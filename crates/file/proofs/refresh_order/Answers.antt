@@ -4,4 +4,4 @@ use Rattle.moves.specs.declared.Move.TheVariants.{Update}
 use Rattle.file.proofs.refresh_order.Goals as goal
 
 pub returns-in_default : goal.returns-in_default
-returns-in_default c = c.requires.order_value (not_among (0 ∷ 1 ∷ 2 ∷ 3 ∷ 5 ∷ 6 ∷ 7 ∷ 8 ∷ []) Update tt c.args.m c.in-Update.keys2)
+returns-in_default c = c.requires.order_value c.in_default.not-Update

@@ -10,18 +10,18 @@ use Rattle.schedule.proofs.Runs.{printed_refusal}
 use Rattle.file.proofs.LineLaws.{run_passes}
 use Rattle.file.proofs.ChunkLaws.{line_within, sofar_start, sofar_end, sofar_more, sofar_stop, as_long, place_within, room_here, prints_short}
 use Rattle.file.proofs.report_lines.Goals as goal
-use Rattle.file.proofs.report_lines.Goals.{After-line_at-line, In-Call, In-Refused}
+use Rattle.file.proofs.report_lines.Goals.{After-line_at-line, In-Call}
 
 -- a refusal
-refused : (x : goal.In-Refused) → let l = x.loop-out in
+refused : (x : goal.After-line_at-line) → let l = x.loop-out in
     RefusedAt l.count x.args.chunk.now l.at x.in-Refused.refusal
 refused x =
     let k = x in
     at_refused _ _ _ (place_within k.loop-out.invariant.0) _ k.next_call.ensures _ x.in-Refused.is
 
 -- there is room in the output buffer, and its line lies within the part
-stops : (x : goal.After-line_at-line) → let l = x.loop-out in let end = l.at + length x.line_at_lem.result.now in
-    (l.written + 928 ≤ length l.out-1) × (l.written + 928 ≤ 18446744073709551615) × (end ≤ 18446744073709551615)
+stops : (x : goal.After-line_at-line) → let l = x.loop-out in let end = l.at + length x.line_at-line.result.now in
+    (l.written + 928 ≤ length l.out) × (l.written + 928 ≤ 18446744073709551615) × (end ≤ 18446744073709551615)
 stops x =
     let r = x in
     let l = r.loop-out in
@@ -29,7 +29,7 @@ stops x =
     let s = r in
     let room = room_here f (refused r).some r.if-out-written-lt-ROOM.false in
     let fits = s.well_formed.1.1.1.1.1.1.1 in
-    let next = line_within s.args.chunk.now (refused r).some x.line_at_lem.ensures in
+    let next = line_within s.args.chunk.now (refused r).some x.line_at-line.ensures in
     (room, omega (arith, room, as_long f, fits.1.0.0), omega (arith, next, fits.0.0))
 
 -- a step call
@@ -44,7 +44,7 @@ starts : (x : goal.In-Call) → let l = x.loop-out in
 starts x = let f = here x in omega (arith, f.within)
 
 fits : (x : goal.In-Call) → let l = x.loop-out in
-    (l.written + 928 ≤ length l.out-1) × (l.written + 928 ≤ 18446744073709551615) × (l.at + 18 ≤ 18446744073709551615)
+    (l.written + 928 ≤ length l.out) × (l.written + 928 ≤ 18446744073709551615) × (l.at + 18 ≤ 18446744073709551615)
 fits x =
     let f = x.loop-out.invariant.0 in
     let s = x in
@@ -52,10 +52,6 @@ fits x =
     let long = s.well_formed.1.1.1.1.1.1.1 in
     let z = here x in
     (room, omega (arith, room, as_long f, long.1.0.0), omega (arith, z.within, long.0.0))
-
--- a line that has been served
-abbrev read : goal.After-serve_line-k → goal.In-Call
-read c = c
 
 pub loop-out-init : goal.loop-out-init
 loop-out-init c = (sofar_start _ _ _ _, c.requires)
@@ -93,15 +89,15 @@ pub shape_of-out-in-Refused : goal.shape_of-out-in-Refused
 shape_of-out-in-Refused c =
     let l = c.loop-out in
     let told = c.print_refusal-k in
-    same_len_mid l.written (l.written + 928 - l.written) l.out-1 told.new.1.1.0 told.auto.1.1.0 ∙ as_long l.invariant.0
+    same_len_mid l.written (l.written + 928 - l.written) l.out told.new.out told.auto.out ∙ as_long l.invariant.0
 
 pub returns-in-Refused : goal.returns-in-Refused
 returns-in-Refused c =
     let l = c.loop-out in
     let told = c.print_refusal-k.ensures in record {
-  reports = sofar_stop l.invariant.0 (refused (goal.at.returns-in-Refused c).In-Refused).some c.if-out-written-lt-ROOM.false (run_passes l.invariant.1) _ c.line_at_lem.ensures
-          (l.written + 928 - l.written) (omega arith) _ (refused (goal.at.returns-in-Refused c).In-Refused) told.0 told.1;
-  runnable = (l.invariant.1, );
+  reports = sofar_stop l.invariant.0 (refused (goal.at.returns-in-Refused c).After-line_at-line).some c.if-out-written-lt-ROOM.false (run_passes l.invariant.1) _ c.line_at-line.ensures
+          (l.written + 928 - l.written) (omega arith) _ (refused (goal.at.returns-in-Refused c).After-line_at-line) told.value told.out_after;
+  runnable = l.invariant.1;
 }
 
 pub serve_line-k-requires : goal.serve_line-k-requires
@@ -113,20 +109,18 @@ serve_line-k-requires c =
 
 pub overflow_add-written-in-Call-2 : goal.overflow_add-written-in-Call-2
 overflow_add-written-in-Call-2 c =
-    let x = read c in
-    let l = x.loop-out in
+    let l = c.loop-out in
     let served = c.serve_line-k in
-    let few = prints_short served.ensures.0 served.auto.1.1.1.1.1.1.1.0 in
-    omega (arith, fits (goal.at.overflow_add-written-in-Call-2 c).In-Call, few, length-take (l.written + 928 - l.written) (drop l.written l.out-1))
+    let few = prints_short served.ensures.prints served.auto.out in
+    omega (arith, fits (goal.at.overflow_add-written-in-Call-2 c).In-Call, few, length-take (l.written + 928 - l.written) (drop l.written l.out))
 
 pub loop-out-preserved : goal.loop-out-preserved
 loop-out-preserved c =
-    let x = read c in
-    let l = x.loop-out in
+    let l = c.loop-out in
     let served = c.serve_line-k in (
-      sofar_more l.inv.0 (starts (goal.at.loop-out-preserved c).In-Call) x.if-out-written-lt-ROOM.left (run_passes l.inv.1) _ refl (l.written + 928 - l.written) (omega arith)
-          (here (goal.at.loop-out-preserved c).In-Call) served.ensures.0 served.auto.1.1.1.1.1.1.1.0,
-      served.ensures.1,
+      sofar_more l.invariant.0 (starts (goal.at.loop-out-preserved c).In-Call) c.if-out-written-lt-ROOM.false (run_passes l.invariant.1) _ refl (l.written + 928 - l.written) (omega arith)
+          (here (goal.at.loop-out-preserved c).In-Call) served.ensures.prints served.auto.out,
+      served.ensures.runnable_2,
     )
 
 pub next_call-requires : goal.next_call-requires
@@ -135,17 +129,8 @@ next_call-requires c = place_within c.loop-out.invariant.0
 pub line_at-line-requires : goal.line_at-line-requires
 line_at-line-requires c = place_within c.loop-out.invariant.0
 
-pub overflow_add-number : goal.overflow_add-number
-overflow_add-number c = omega arith
-
 pub overflow_add-written : goal.overflow_add-written
 overflow_add-written c = omega (arith, stops (goal.at.overflow_add-written c).After-line_at-line)
-
-pub slice_bounds-print_refusal-count : goal.slice_bounds-print_refusal-count
-slice_bounds-print_refusal-count c = omega arith
-
-pub slice_bounds-print_refusal-start : goal.slice_bounds-print_refusal-start
-slice_bounds-print_refusal-start c = omega arith
 
 pub slice_bounds-print_refusal-end : goal.slice_bounds-print_refusal-end
 slice_bounds-print_refusal-end c = omega (arith, stops (goal.at.slice_bounds-print_refusal-end c).After-line_at-line)
@@ -159,20 +144,14 @@ overflow_add-result c = omega (arith, stops (goal.at.overflow_add-result c).Afte
 pub overflow_add-written-in-Call : goal.overflow_add-written-in-Call
 overflow_add-written-in-Call c = omega (arith, fits (goal.at.overflow_add-written-in-Call c).In-Call)
 
-pub slice_bounds-serve_line-count : goal.slice_bounds-serve_line-count
-slice_bounds-serve_line-count c = omega arith
-
-pub slice_bounds-serve_line-start : goal.slice_bounds-serve_line-start
-slice_bounds-serve_line-start c = omega arith
-
 pub slice_bounds-serve_line-end : goal.slice_bounds-serve_line-end
 slice_bounds-serve_line-end c = omega (arith, fits (goal.at.slice_bounds-serve_line-end c).In-Call)
 
 pub overflow_add-count : goal.overflow_add-count
-overflow_add-count c = let f = here (read c) in omega (arith, f.few)
+overflow_add-count c = let f = here (goal.at.overflow_add-count c).In-Call in omega (arith, f.few)
 
 pub overflow_add-at : goal.overflow_add-at
-overflow_add-at c = omega (arith, fits (read c))
+overflow_add-at c = omega (arith, fits (goal.at.overflow_add-at c).In-Call)
 
 pub loop-out-smaller : goal.loop-out-smaller
-loop-out-smaller c = let f = here (read c) in omega (arith, f.within)
+loop-out-smaller c = let f = here (goal.at.loop-out-smaller c).In-Call in omega (arith, f.within)

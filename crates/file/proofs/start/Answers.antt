@@ -7,6 +7,6 @@ returns c =
     let fresh = c.refresh.ensures in
     record {
   value = refl;
-  results_after = fresh.0;
-  underway = record { runnable = fresh.1; few = λ _. omega arith; fresh = λ _. fresh.0 };
+  results_after = fresh.results_after;
+  underway = record { runnable = fresh.runnable; few = λ _. omega arith; fresh = λ _. fresh.results_after };
 }

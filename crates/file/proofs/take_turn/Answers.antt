@@ -2,16 +2,13 @@ use Rattle.file.proofs.LineLaws.{line_place, line_ready, line_orderly, line_befo
 use Rattle.file.proofs.take_turn.Goals as goal
 
 -- The call is judged and carried out by the engine; LineLaws tells what that asks for and what it comes to. `x` is what is known when it is judged.
-abbrev start : goal.After-judge-task → goal.Start
-start x = x
-
 pub carry_out-h-requires : goal.carry_out-h-requires
 carry_out-h-requires c =
-    line_ready (start c).requires c.judge-task.ensures
+    line_ready c.requires c.judge-task.ensures
 
 pub refresh_order-requires : goal.refresh_order-requires
 refresh_order-requires c =
-    let f = (start c).requires in
+    let f = c.requires in
     let j = c.judge-task.ensures in
     let g = c.carry_out-h.ensures in
     record {
@@ -23,7 +20,7 @@ refresh_order-requires c =
 
 pub returns : goal.returns
 returns c =
-    let f = (start c).requires in
+    let f = c.requires in
     let j = c.judge-task.ensures in
     let g = c.carry_out-h.ensures in
     record {

@@ -1,5 +1,4 @@
 use Prim.Native.Nat.{◌-◌, ◌≤◌}
-use mathlib.Core.Path.{◌∙◌}
 use Rattle.label.specs.Rows.{digit}
 use Rattle.label.proofs.Order.{Agree}
 use Rattle.label.proofs.agree.Given as goal

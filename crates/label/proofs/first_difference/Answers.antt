@@ -1,7 +1,5 @@
 use native.Mathlib.Omega.{arith}
-use Prim.Native.Nat.{◌-◌, ◌<◌}
-use mathlib.Core.Path.{◌≡◌, sym, ap₂}
-use mathlib.Core.Logic.{⊎_elim}
+use mathlib.Core.Path.{sym, ap₂}
 use lib.Bits.{bit_xor}
 use lib.Count.{trailing_le}
 use Rattle.label.specs.Rows.{digit}

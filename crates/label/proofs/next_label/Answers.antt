@@ -2,7 +2,6 @@ use Rattle.label.specs.Labels.{next}
 use Rattle.label.proofs.Searches.{digit_read, digit_known, next_stored}
 use Rattle.basics.proofs.Filled.{filled, filled_none, filled_more}
 use borrow.Author.Rules.{rules}
-use Prim.Native.Nat.{◌-◌, ◌≤◌}
 use mathlib.Core.Path.{◌≡◌, ◌∙◌, ap}
 use native.Mathlib.Omega.{arith}
 use Rattle.label.specs.Rows.{digit}

@@ -1,6 +1,6 @@
 use Rattle.basics.proofs.Filled.{filled}
 use Prim.Native.Nat.{◌-◌, ◌≤◌}
-use mathlib.Core.Path.{◌≡◌, ◌∙◌}
+use mathlib.Core.Path.{◌≡◌}
 use Rattle.label.specs.Rows.{digit}
 use Rattle.label.proofs.next_label.Given as goal
 

@@ -39,12 +39,12 @@ returns-then-code-ne5 c = λ line station job. c.not_due-then-code-ne5.ensures (
 pub returns-else-code-eq7 : goal.returns-else-code-eq7
 unfolding unless
 returns-else-code-eq7 c = λ line station job. c.not_due.ensures (station - 1) job ∙ rw (
-      c.in-Idle.is,
-      ne_eqb _ 1 c.if-code-eq1.false,
-      ne_eqb _ 2 c.if-code-eq2.false,
-      ne_eqb _ 6 c.if-code-eq6.false,
-      ne_eqb _ 7 c.if-code-eq7.false,
-    ) refl
+  c.in-Idle.is,
+  ne_eqb _ 1 c.if-code-eq1.false,
+  ne_eqb _ 2 c.if-code-eq2.false,
+  ne_eqb _ 6 c.if-code-eq6.false,
+  ne_eqb _ 7 c.if-code-eq7.false,
+) refl
 
 pub returns-else-code-eq3 : goal.returns-else-code-eq3
 unfolding unless

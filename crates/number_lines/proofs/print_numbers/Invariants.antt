@@ -1,7 +1,8 @@
-use Prim.Native.Nat.{◌+◌, ◌-◌, ◌*◌, ◌≤◌}
-use mathlib.Core.Path.{◌≡◌, ◌∙◌}
-use mathlib.Core.List.{◌++◌}
+-- After i turns the lines of i numbers are written, and the rest of the buffer is the old one.
+use Prim.Native.Nat.{◌-◌, ◌≤◌}
+use mathlib.Core.Path.{◌≡◌}
 use lib.ListN.{length, take}
+use Rattle.number_lines.proofs.Printing.{printed}
 use Rattle.number_lines.proofs.print_numbers.Given as goal
 
 abbrev pub invariant-loop-i : goal.invariant-loop-i

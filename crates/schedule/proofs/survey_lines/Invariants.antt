@@ -1,4 +1,4 @@
-use Prim.Native.Nat.{◌+◌, ◌-◌}
+use Prim.Native.Nat.{◌-◌}
 use lib.ListN.{length}
 use Rattle.schedule.proofs.Surveys.{Surveyed}
 use Rattle.schedule.proofs.survey_lines.Given as goal
