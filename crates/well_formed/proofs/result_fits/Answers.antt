@@ -1,6 +1,5 @@
 use mathlib.Core.Path.{sym}
 use Rattle.std.proofs.Common.{◌≤◌, ◌&&◌, ◌∙◌, ap₂, arith}
-use Rattle.basics.proofs.Loops.{was_false, was_true}
 use Rattle.well_formed.proofs.WellFormedLaws.{shown_most, result_wrong, station_small, result_rows}
 use Rattle.well_formed.proofs.result_fits.Goals as goal
 use Rattle.well_formed.proofs.result_fits.Goals.{After-shown_in-k}
