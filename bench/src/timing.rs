@@ -60,14 +60,14 @@ pub fn report(program: &Path, input: &Path, output: &Path) -> Vec<u8> {
 }
 
 /// What `NAME [--runs K] [PROGRAM]` is asked for: so many runs, 100 if it is not said, of the plain program, which is built with this one, and of the program
-/// in target/bin or at the path that is given.
+/// in its crate's out/ or at the path that is given.
 pub fn asked(name: &str, plain: &str, program: &str) -> (usize, [PathBuf; 2]) {
     let usage = || -> ! {
         eprintln!("{name} [--runs K] [{}]", program.to_uppercase());
         std::process::exit(2);
     };
     let mut runs = 100;
-    let mut ours = Path::new(env!("CARGO_MANIFEST_DIR")).join("../target/bin").join(program);
+    let mut ours = Path::new(env!("CARGO_MANIFEST_DIR")).join(format!("../crates/{program}/out/{program}"));
     let mut arguments = std::env::args().skip(1);
     while let Some(argument) = arguments.next() {
         match argument.as_str() {

@@ -4,7 +4,7 @@
    newest's label, and after them station 1 alone. Then that one is out of service for a while: a scan does not show it. Next come the numbers of another
    file: station 2 snaps after station 1, for a label below that one's, and gets the lower number. Last are logs of that file: with these numbers and its
    report, with others that are in another order, with these and the scan in that order, and one that is cut short. From the root:
-   rt staticlib exports && cc -Wall -Wextra -O2 bindings/c/example.c target/staticlib/libexports.a -o /tmp/example && /tmp/example */
+   bindings/build && cc -Wall -Wextra -O2 bindings/c/example.c target/staticlib/libexports.a -o /tmp/example && /tmp/example */
 #include <inttypes.h>
 #include <stdio.h>
 #include "tickets.h"

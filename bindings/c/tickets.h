@@ -1,5 +1,5 @@
-/* The ticket table and the schedule program for C programs: the functions of the proved library libexports.a (`rt staticlib exports` at the root writes
-   it to target/staticlib). A board holds a table of 2 to 32 stations as plain numbers; its owner lends it to each call.
+/* The ticket table and the schedule program for C programs: the functions of the proved library libexports.a (`bindings/build` at the root makes it in
+   target/staticlib). A board holds a table of 2 to 32 stations as plain numbers; its owner lends it to each call.
 
    What is proved holds for every content of the board, every report buffer, every panel, every list and all numbers; there is nothing to check before a
    call. A caller owes:

@@ -30,7 +30,7 @@ fn times([plain, expert, tickets]: [f64; 3]) -> String {
 fn main() {
     let mut runs = 7;
     let mut lines = 1_000_000;
-    let mut tickets = Path::new(env!("CARGO_MANIFEST_DIR")).join("../target/bin/tickets");
+    let mut tickets = Path::new(env!("CARGO_MANIFEST_DIR")).join("../crates/tickets/out/tickets");
     let mut arguments = std::env::args().skip(1);
     while let Some(argument) = arguments.next() {
         let mut number = || arguments.next().and_then(|a| a.parse().ok()).filter(|&k| k > 0).unwrap_or_else(|| usage());

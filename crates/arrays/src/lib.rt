@@ -1,5 +1,6 @@
 // A table in four arrays, which are lent: their types, the fresh table, and how far a scan result goes.
 #![tactic(auto)]
+
 ghost use Rattle.std.specs.Prelude.{◌≡◌, ℕ, ◌≤◌};
 ghost use Rattle.moves.specs.Moves.{phase_of};
 ghost use Rattle.simulation.specs.Machine.{fresh_rest};

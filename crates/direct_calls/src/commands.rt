@@ -4,7 +4,7 @@ ghost use Rattle.std.specs.Prelude.{◌+◌, ◌≤◌, length};
 use columns::Column;
 
 // A command: its letter, and its numbers. The letter of a bad line is 0, and that of a title #.
-#[derive(Drop)]
+#[derive(Clone, Copy)]
 pub struct Command {
     pub letter: u8,
     pub a: u64,
@@ -62,9 +62,9 @@ fn plain(letter: u8) -> Command {
 }
 
 // Shows a title.
-fn title(line: &[u8]) -> Command {
-    crate::text(line);
-    crate::text(b"\n");
+fn title(rt: &HostRuntime, line: &[u8]) -> Command {
+    crate::text(rt, line);
+    crate::text(rt, b"\n");
     plain(b'#')
 }
 
@@ -102,9 +102,9 @@ fn read_room(letter: u8, line: &[u8]) -> Command {
 }
 
 // Reads a line that starts with this byte, 10 if it is empty.
-pub fn read(letter: u8, line: &[u8]) -> Command {
+pub fn read(rt: &HostRuntime, letter: u8, line: &[u8]) -> Command {
     match letter {
-        b'#' | 10 => title(line),
+        b'#' | 10 => title(rt, line),
         b'o' => plain(letter),
         b'v' => read_room(letter, line),
         _ => read_columns(letter, line),

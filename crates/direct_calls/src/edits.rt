@@ -9,13 +9,21 @@ fn wide(x: u8) -> u64 {
 }
 
 // Shows the first two digits of a label.
-fn show(s: Station) {
-    crate::number(b' ', wide(s.label[0]));
-    crate::number(b'.', wide(s.label[1]));
+fn show(rt: &HostRuntime, s: Station) {
+    crate::number(rt, b' ', wide(s.label[0]));
+    crate::number(rt, b'.', wide(s.label[1]));
 }
 
 // A record with one thing changed, or shown.
-fn changed(s: Station, other: Station, letter: u8, p: usize, v: u8, job: u32) -> Station
+fn changed(
+    rt: &HostRuntime,
+    s: Station,
+    other: Station,
+    letter: u8,
+    p: usize,
+    v: u8,
+    job: u32,
+) -> Station
     requires { p < 32 }
 {
     let mut next = s;
@@ -44,16 +52,17 @@ fn changed(s: Station, other: Station, letter: u8, p: usize, v: u8, job: u32) ->
         b'c' => {
             next = other;
         }
-        _ => show(s),
+        _ => show(rt, s),
     }
     next
 }
 
 // A table with one record changed, or shown.
-pub fn edited(mut t: Table, c: Command) -> Table {
+pub fn edited(rt: &HostRuntime, mut t: Table, c: Command) -> Table {
     let k = (c.a % 32) as usize;
     let p = (c.b % 32) as usize;
     t.stations[k] = changed(
+        rt,
         t.stations[k],
         t.stations[p],
         c.letter,

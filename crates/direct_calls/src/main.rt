@@ -23,6 +23,8 @@
 //     v bytes, a line            serves the line, and shows so many bytes of its buffer, which were dots
 //     t                          puts the table into the session
 //     x lines                    makes it so many lines that the session has counted, the header among them
+#![tactic(auto)]
+
 mod commands;
 mod edits;
 mod owners;
@@ -33,18 +35,20 @@ ghost use Rattle.std.specs.Prelude.{◌≤◌, length};
 
 use commands::Command;
 use engine::{Holders, Reply};
-use libc::{STDIN_FILENO, STDOUT_FILENO};
+use memchr::memchr;
+use std::io::{Print, Read};
 use step::Outcome;
 use table::Table;
 
-pub fn text(bytes: &[u8]) {
-    io::write_all(STDOUT_FILENO, bytes);
+// What cannot be written is lost.
+pub fn text(rt: &HostRuntime, bytes: &[u8]) {
+    let _ = rt.write_all(bytes);
 }
 
 // A number, and a byte before it.
-pub fn number(before: u8, v: u64) {
-    text(&[before]);
-    io::print_decimal(STDOUT_FILENO, v);
+pub fn number(rt: &HostRuntime, before: u8, v: u64) {
+    text(rt, &[before]);
+    let _ = rt.print(v);
 }
 
 // A form of the calls: on a lent table. Any other is the one on a table by value.
@@ -87,26 +91,26 @@ fn stepped(t: Table, form: u64, name: u64, c: Command, report: &mut [u8]) -> Out
 }
 
 // Shows the buffer that a call has lent, and its reply.
-pub fn show(report: &[u8], r: Reply) {
+pub fn show(rt: &HostRuntime, report: &[u8], r: Reply) {
     let refusal = r.refusal;
-    text(report);
-    number(b' ', refusal.number());
-    number(b'/', r.written as u64);
+    text(rt, report);
+    number(rt, b' ', refusal.number());
+    number(rt, b'/', r.written as u64);
 }
 
 // Makes a step call, and shows its buffer and its reply.
-fn shown(t: Table, form: u64, name: u64, c: Command, report: &mut [u8]) -> Table {
+fn shown(rt: &HostRuntime, t: Table, form: u64, name: u64, c: Command, report: &mut [u8]) -> Table {
     let o = stepped(t, form, name, c, report);
     let r = o.reply;
-    show(report, r);
+    show(rt, report, r);
     o.table
 }
 
 // Lends a buffer for a step call. A command has room for 929 bytes at most (`fits`).
-fn call(t: Table, form: u64, name: u64, c: Command) -> Table {
+fn call(rt: &HostRuntime, t: Table, form: u64, name: u64, c: Command) -> Table {
     let mut buffer = [b'.'; 929];
     let n = (c.d % 930) as usize;
-    shown(t, form, name, c, &mut buffer[..n])
+    shown(rt, t, form, name, c, &mut buffer[..n])
 }
 
 // Puts the question to a table in one of its forms.
@@ -118,57 +122,74 @@ fn told(t: Table, form: u64) -> Holders {
 }
 
 // Asks how many stations have the newest's label, and shows the answer.
-fn ask(t: Table, form: u64) -> Table {
+fn ask(rt: &HostRuntime, t: Table, form: u64) -> Table {
     let h = told(t, form);
     let refusal = h.refusal;
-    number(b' ', refusal.number());
-    number(b':', h.stations as u64);
+    number(rt, b' ', refusal.number());
+    number(rt, b':', h.stations as u64);
     t
 }
 
 // Obeys a command on the table.
-fn obey(t: Table, form: u64, c: Command) -> Table {
+fn obey(rt: &HostRuntime, t: Table, form: u64, c: Command) -> Table {
     let letter = c.letter;
     match letter {
         b'#' | b'o' | b'v' | b't' | b'x' => t,
         b'f' => Table::fresh(c.a as usize),
-        b's' => call(t, form, 0, c),
-        b'n' => call(t, form, c.a, c),
-        b'r' => panels::call(t, c),
-        b'a' => ask(t, form),
-        _ => edits::edited(t, c),
+        b's' => call(rt, t, form, 0, c),
+        b'n' => call(rt, t, form, c.a, c),
+        b'r' => panels::call(rt, t, c),
+        b'a' => ask(rt, t, form),
+        _ => edits::edited(rt, t, c),
     }
 }
 
-fn bad() {
-    text(b"\nbad command\n");
+fn bad(rt: &HostRuntime) {
+    text(rt, b"\nbad command\n");
 }
 
 // Obeys the lines of a file, up to a bad one.
-fn run(form: u64, file: &[u8])
+fn run(rt: &HostRuntime, form: u64, file: &[u8])
     requires { length file.now ≤ 262144 }
 {
     let mut t = Table::fresh(2);
     let mut s = session::open(&file[..0]);
     let mut at = 0;
     while at < file.len() {
-        let end = bytes::scan::find(file, at, file.len(), 10);
-        if end == file.len() {
-            return bad();
-        }
-        let c = commands::read(file[at], &file[at..end]);
+        let Some(length) = memchr(b'\n', &file[at..]) else {
+            return bad(rt);
+        };
+        let end = at + length;
+        let c = commands::read(rt, file[at], &file[at..end]);
         if c.letter == 0 {
-            return bad();
+            return bad(rt);
         }
-        s = sessions::obey(s, t, c, &file[at..end + 1]);
-        t = obey(t, form, c);
+        s = sessions::obey(rt, s, t, c, &file[at..end + 1]);
+        t = obey(rt, t, form, c);
         at = end + 1;
     }
 }
 
-fn main() {
+// Reads until `buf` is full, the input ends or a read fails.
+fn read_full<R: Read>(input: &mut R, buf: &mut [u8]) -> usize
+    ensures { result ≤ length buf.new }
+{
+    let mut done = 0;
+    while done < buf.len() {
+        let Ok(n) = input.read(&mut buf[done..]) else {
+            break;
+        };
+        if n == 0 {
+            break;
+        }
+        done += n;
+    }
+    done
+}
+
+fn main(rt: HostRuntime) {
     let mut buffer = [0; 262144];
-    let n = io::read_full(STDIN_FILENO, &mut buffer);
-    run(0, &buffer[..n]);
-    run(LENT, &buffer[..n]);
+    let n = read_full(&mut rt.stdin(), &mut buffer);
+    run(&rt, 0, &buffer[..n]);
+    run(&rt, LENT, &buffer[..n]);
 }

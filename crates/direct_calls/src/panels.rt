@@ -11,25 +11,25 @@ fn wide(x: u32) -> u64 {
 }
 
 // Shows a record: a dot if it is as before the call.
-fn show(r: Record) {
+fn show(rt: &HostRuntime, r: Record) {
     if (r.place == OLD) & (r.station == OLD) & (r.job == OLD) {
-        crate::text(b".");
+        crate::text(rt, b".");
     } else {
-        crate::number(b' ', wide(r.place));
-        crate::number(b':', wide(r.station));
-        crate::number(b':', wide(r.job));
+        crate::number(rt, b' ', wide(r.place));
+        crate::number(rt, b':', wide(r.station));
+        crate::number(rt, b':', wide(r.job));
     }
 }
 
 // Shows all records, those that were not lent too.
-fn show_all(records: [Record; Table::MAX_STATIONS]) {
+fn show_all(rt: &HostRuntime, records: [Record; Table::MAX_STATIONS]) {
     for i in 0..Table::MAX_STATIONS {
-        show(records[i]);
+        show(rt, records[i]);
     }
 }
 
 // Makes a step call that lends so many records, and shows the panel and the reply.
-pub fn call(t: Table, c: Command) -> Table {
+pub fn call(rt: &HostRuntime, t: Table, c: Command) -> Table {
     let old = Record {
         place: OLD,
         station: OLD,
@@ -38,7 +38,7 @@ pub fn call(t: Table, c: Command) -> Table {
     let o = panel::step_owned(t, c.a, c.b, c.c, [old; Table::MAX_STATIONS], c.d as usize);
     let r = o.reply;
     let records = o.panel;
-    show_all(records);
-    crate::show(b"", r);
+    show_all(rt, records);
+    crate::show(rt, b"", r);
     o.table
 }

@@ -18,25 +18,25 @@ fn behind(line: &[u8], front: usize) -> usize
 }
 
 // Opens a session, and shows the number of its refusal.
-fn opened(header: &[u8]) -> Session {
+fn opened(rt: &HostRuntime, header: &[u8]) -> Session {
     let s = session::open(header);
     let refusal = s.refusal;
-    crate::number(b' ', refusal.number());
+    crate::number(rt, b' ', refusal.number());
     s
 }
 
 // Shows the first bytes of a buffer, so many as the command asks for, and a reply.
-fn show_front(buffer: [u8; 928], bytes: u64, r: Reply) {
+fn show_front(rt: &HostRuntime, buffer: [u8; 928], bytes: u64, r: Reply) {
     let n = (bytes % 929) as usize;
-    crate::show(&buffer[..n], r);
+    crate::show(rt, &buffer[..n], r);
 }
 
 // Serves a line, and shows its buffer and its reply.
-fn served(s: Session, line: &[u8], bytes: u64) -> Session {
+fn served(rt: &HostRuntime, s: Session, line: &[u8], bytes: u64) -> Session {
     let mut buffer = [b'.'; 928];
     let o = session::serve(s, line, &mut buffer);
     let r = o.reply;
-    show_front(buffer, bytes, r);
+    show_front(rt, buffer, bytes, r);
     o.session
 }
 
@@ -51,16 +51,16 @@ fn with(s: Session, t: Table, lines: u32) -> Session {
 }
 
 // Obeys a command on the session.
-pub fn obey(s: Session, t: Table, c: Command, line: &[u8]) -> Session {
+pub fn obey(rt: &HostRuntime, s: Session, t: Table, c: Command, line: &[u8]) -> Session {
     let letter = c.letter;
     match letter {
         b'o' => {
             let from = behind(line, 1);
-            opened(&line[from..])
+            opened(rt, &line[from..])
         }
         b'v' => {
             let from = behind(line, 13);
-            served(s, &line[from..], c.d)
+            served(rt, s, &line[from..], c.d)
         }
         b't' => with(s, t, s.lines),
         b'x' => {

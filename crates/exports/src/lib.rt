@@ -1,5 +1,7 @@
-// The functions exported to programs in C and Rust: step calls on a table in four arrays, which its owner lends, a question to it, and whole schedule files,
-// their reports, their numbers and their logs.
+// The functions that programs in C and Rust get: step calls on a table in four arrays, which its owner lends, a question to it, and whole schedule files,
+// their reports, their numbers and their logs. `exports_c` exports them.
+#![tactic(auto)]
+
 ghost use Rattle.std.specs.Prelude.{◌≡◌, cond, map, length};
 ghost use Rattle.simulation.specs.Calls.{Buffer, Panel, Bytes, Records};
 ghost use Rattle.transition.specs.Questions.{Tells};
@@ -23,8 +25,7 @@ pub struct Answer {
 }
 
 // Writes the fresh table of n stations over what is lent. 1 is returned for a number of stations that is not 2 to 32, and nothing changes.
-#[unsafe(no_mangle)]
-pub extern "C" fn tickets_fresh(
+pub fn tickets_fresh(
     n: u64,
     labels: &mut Labels,
     jobs: &mut Jobs,
@@ -45,8 +46,7 @@ pub extern "C" fn tickets_fresh(
 }
 
 // A step call. 13 is judged first, on all that is lent; a refused call changes nothing.
-#[unsafe(no_mangle)]
-pub extern "C" fn tickets_step(
+pub fn tickets_step(
     count: u64,
     labels: &mut Labels,
     jobs: &mut Jobs,
@@ -72,8 +72,7 @@ pub extern "C" fn tickets_step(
 }
 
 // A step call with a panel in place of the report buffer; a record is place, station and job. `written` counts records.
-#[unsafe(no_mangle)]
-pub extern "C" fn tickets_step_panel(
+pub fn tickets_step_panel(
     count: u64,
     labels: &mut Labels,
     jobs: &mut Jobs,
@@ -107,8 +106,7 @@ pub struct Holders {
 }
 
 // How many stations have the newest's label: a question, which changes nothing. 13 is judged on all that is lent, and counts none.
-#[unsafe(no_mangle)]
-pub extern "C" fn tickets_top_holders(
+pub fn tickets_top_holders(
     count: u64,
     labels: &Labels,
     jobs: &Jobs,
@@ -117,8 +115,8 @@ pub extern "C" fn tickets_top_holders(
 ) -> Holders
     ensures tells { Tells lent (arrays count labels.now jobs.now control.now results.now)
         result.refusal result.stations }
-    ensures results_value { arrays count labels.now jobs.now control.now results.now
-        ≡ arrays count labels.now jobs.now control.now results.now }
+    ensures results_value { arrays count labels.exit.now jobs.exit.now control.exit.now results.exit.now
+        ≡ arrays count labels.entry.now jobs.entry.now control.entry.now results.entry.now }
 {
     let told = engine::top_holders(count, labels, jobs, control, results);
     let refusal = told.refusal;
@@ -140,8 +138,7 @@ pub struct Reported {
 }
 
 // Writes the report of a whole schedule file; 7, and nothing is written, if it does not fit.
-#[unsafe(no_mangle)]
-pub extern "C" fn tickets_report(schedule: &[u8], report: &mut [u8]) -> Reported
+pub fn tickets_report(schedule: &[u8], report: &mut [u8]) -> Reported
     ensures { ReportsFile schedule.now report.old result.refusal result.ended result.written result.length report.new }
 {
     let whole = file::report(schedule, report);
@@ -157,8 +154,7 @@ pub extern "C" fn tickets_report(schedule: &[u8], report: &mut [u8]) -> Reported
 
 // Writes the numbers of a whole schedule file to the front of a list, one for each accepted snap for a label; `written` counts them. A refusal is answered
 // before any step is run, and the list is whole then.
-#[unsafe(no_mangle)]
-pub extern "C" fn tickets_numbers(schedule: &[u8], numbers: &mut [u32]) -> Answer
+pub fn tickets_numbers(schedule: &[u8], numbers: &mut [u32]) -> Answer
     ensures { NumbersFile schedule.now numbers.old result.refusal result.written numbers.new }
 {
     let found = numbering::numbers(schedule, numbers);
@@ -188,8 +184,7 @@ fn flag(yes: bool) -> u64
 }
 
 // Checks the log of a whole schedule file, its numbers and its report, against the unbounded table. A refusal is answered before any step is run.
-#[unsafe(no_mangle)]
-pub extern "C" fn tickets_check_log(schedule: &[u8], numbers: &[u64], report: &[u8]) -> Verdict
+pub fn tickets_check_log(schedule: &[u8], numbers: &[u64], report: &[u8]) -> Verdict
     ensures { TellsOfLog schedule.now numbers.now report.now result.refusal result.right }
 {
     let verdict = logs::check(schedule, numbers, report);

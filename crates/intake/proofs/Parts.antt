@@ -24,6 +24,10 @@ use Rattle.schedule.proofs.Surveys.{all_lines, survey_parts_lem, first_of, surve
 use Rattle.schedule.specs.declared.Header.TheVariants as Headers
 use Rattle.schedule.specs.declared.Header.TheVariants.{Stations}
 use Rattle.schedule.specs.declared.Survey.{Survey}
+use Rattle.std.specs.Prelude.{Some, None, IfSome}
+use Rattle.std.specs.declared.option.Option.{Option}
+use Rattle.std.specs.Io.KnownBytes.{Consumes, IsAtEnd}
+use Rattle.std.proofs.KnownBytes.{Consumes-nil, Consumes-trans}
 use Rattle.intake.specs.Clauses.{ahead_read, is_settled, Within, lines_left, Cut, ReadsPart, TooLong, Taken}
 use Rattle.intake.specs.declared.Intake.{Intake}
 use Rattle.intake.specs.declared.Intake.TheVariants as Intakes
@@ -268,3 +272,59 @@ pub whole_inside : (part : Lists.List ℕ) (i : Intake) (k : ℕ) → Taken part
 whole_inside part i k f e =
     let room : k < length part = subst (Taken part) e f in
     (omega arith, sym (length-take-le k part (omega arith)))
+
+-- A READER that gave all of this; `first` was read from it before, and what it had left then is known, or claims nothing
+pub record Passed (known left : Option (Lists.List ℕ)) (first part : Lists.List ℕ) (reading : Reading) : Type 0 where
+  pub sofar : Sofar part reading
+  pub read : Lists.List ℕ
+  pub all : sofar.before ++ part ≡ first ++ read
+  pub taken : Consumes known left read
+
+pub passed_first : {part : Lists.List ℕ} {reading : Reading} → length part ≡ 73764 → ReadsPart Start part reading
+    → (known : Option (Lists.List ℕ)) → Passed known known part part reading
+unfolding sofar_first
+passed_first {part} e f known = record { sofar = sofar_first e f; read = []; all = sym (append-nil part); taken = Consumes-nil known }
+
+module _ {known left : Option (Lists.List ℕ)} {first part : Lists.List ℕ} {reading : Reading} (p : Passed known left first part reading) where
+  -- the file, by what is left of it
+  file_by : (bs more : Lists.List ℕ) → bs ≡ p.read ++ more → first ++ bs ≡ (p.sofar.before ++ part) ++ more
+  file_by bs more e = ap (λ l. first ++ l) e ∙ sym (append_assoc first p.read more) ∙ ap (λ l. l ++ more) (sym p.all)
+
+  pub passed_settled : is_settled reading ≡ true → {r : Refusal} → r ≡ ahead_read reading [] → IfSome known (λ bs. r ≡ reading_refusal (first ++ bs))
+  passed_settled s {r} e = go known left p.taken
+    where
+      stays : (w : Reading) → is_settled w ≡ true → (more : Lists.List ℕ) → ahead_read w more ≡ ahead_read w []
+      stays Start s more = absurd (true≢false (sym s))
+      stays (Lines lines) s more = absurd (true≢false (sym s))
+      stays (Refused r) s more = refl
+
+      go : (a b : Option (Lists.List ℕ)) → Consumes a b p.read → IfSome a (λ bs. r ≡ reading_refusal (first ++ bs))
+      go None b t = tt
+      go (Some bs) None t = absurd t
+      go (Some bs) (Some more) t = e ∙ sym (stays reading s more) ∙ sym (p.sofar.same more) ∙ ap reading_refusal (sym (file_by bs more t))
+
+  module _ (part' : Lists.List ℕ) (k : ℕ) (h : k ≤ length part') {reading' : Reading} (g : ReadsPart reading (take k part') reading')
+      (left' : Option (Lists.List ℕ)) (t : Consumes left left' (take k part')) where
+    -- the next part is the last
+    pub passed_ends : IsAtEnd left' → {r : Refusal} → r ≡ ahead_read reading' [] → IfSome known (λ bs. r ≡ reading_refusal (first ++ bs))
+    passed_ends end {r} e = go known left' (Consumes-trans known left left' p.read (take k part') p.taken t) end
+      where
+        go : (a b : Option (Lists.List ℕ)) → Consumes a b (p.read ++ take k part') → IsAtEnd b → IfSome a (λ bs. r ≡ reading_refusal (first ++ bs))
+        go None b u nil = tt
+        go (Some bs) None u nil = absurd u
+        go (Some bs) (Some more) u nil =
+            let same : bs ≡ p.read ++ take k part' = u ∙ ap (λ l. (p.read ++ take k part') ++ l) nil ∙ append-nil (p.read ++ take k part') in
+            e ∙ sym (next p.sofar part' k h g [] (inr refl))
+            ∙ ap reading_refusal (append-nil ((p.sofar.before ++ part) ++ take k part') ∙ sym (file_by bs (take k part') same))
+
+    -- it is full
+    pub passed_more : length part' ≡ 73764 → length part' ≤ k → Passed known left' first part' reading'
+    unfolding sofar_more
+    passed_more e l =
+        let all : take k part' ≡ part' = take_all k part' (omega arith) in
+        record {
+          sofar = sofar_more p.sofar part' k h g e l;
+          read = p.read ++ take k part';
+          all = ap (λ b. (p.sofar.before ++ part) ++ b) (sym all) ∙ ap (λ l. l ++ take k part') p.all ∙ append_assoc first p.read (take k part');
+          taken = Consumes-trans known left left' p.read (take k part') p.taken t;
+        }

@@ -1,4 +1,4 @@
--- A schedule that is only read, part by part, and what is known of one that was read from a descriptor (02, Cards 6 and 7).
+-- A schedule that is only read, part by part, and what is known of one that was read (02, Cards 6 and 7).
 use Rattle.std.specs.Prelude.{ℕ, ◌+◌, ◌-◌, ◌*◌, ◌≤◌, ◌<◌, ◌≡◌, ◌≢◌, ◌⊎◌, Bool, true, false, [], ◌++◌, length, take}
 use mathlib.Core.List as Lists
 use Rattle.moves.specs.Moves.{refusal_number}
@@ -49,7 +49,7 @@ pub record ReadsPart (reading : Reading) (part : Lists.List ℕ) (reading' : Rea
   pub within : Within reading'
   pub fewer : lines_left reading' ≤ lines_left reading - pieces part
 
--- A SCHEDULE FROM A DESCRIPTOR. No contract can say which bytes a read puts into the buffer, so it is told by those that stand in it then.
+-- A SCHEDULE FROM A READER, told by the bytes that stand in the buffer then, and by those that the reader gave.
 
 -- r is what is told of a file of a header and 4,097 lines or more, the last bytes of which stand at the front of the buffer; unless these end the file, nothing
 -- that follows them changes it
@@ -67,3 +67,9 @@ abbrev pub Taken : Lists.List ℕ → Intake → Type 0
 Taken part Failed = Unit {0}
 Taken part (Refused r) = TooLong part r
 Taken part (Whole count) = count < length part
+
+-- what is told of a file of these bytes; all of one that leaves room in the buffer stands at its front
+abbrev pub Tells : Lists.List ℕ → Lists.List ℕ → Intake → Type 0
+Tells bs part Failed = Unit {0}
+Tells bs part (Refused r) = r ≡ reading_refusal bs
+Tells bs part (Whole count) = bs ≡ take count part

@@ -1,18 +1,21 @@
-// Reading a schedule from a descriptor, for programs that serve at most 4,096 step lines and refuse a longer file before any step is run. What is told of a
-// file is decided by functions of its bytes; only the reads stand outside them.
-ghost use Rattle.std.specs.Prelude.{◌≡◌, [], length};
-ghost use Rattle.intake.specs.Clauses.{ahead_read, Within, ReadsPart, is_settled, Taken};
+// Reading a schedule, for programs that serve at most 4,096 step lines and refuse a longer file before any step is run. What is told of a file is decided by
+// functions of its bytes; only the reads stand outside them.
+#![tactic(auto)]
+
+ghost use Rattle.std.specs.Prelude.{◌≡◌, [], ◌++◌, length, IfSome};
+ghost use Rattle.intake.specs.Clauses.{ahead_read, Within, ReadsPart, is_settled, Taken, Tells};
 ghost use Rattle.intake.specs.declared.Reading.TheVariants.{Start, Lines};
 
 use moves::Refusal;
 use schedule::Header;
+use std::io::{Read, Write};
 
 // The bytes of a header and 4,097 step lines, one more than are served: a file that leaves some of them is whole there, and any other is too long.
 pub const ROOM: usize = 73764;
 
 // How far a file is read, of which no line is run: its header is still to come; so many lines are read, the header among them, and none is refused; or it is
 // refused, whatever follows.
-#[derive(Drop)]
+#[derive(Clone, Copy)]
 pub enum Reading {
     Start,
     Lines(u32),
@@ -87,7 +90,7 @@ pub fn told(reading: Reading) -> Refusal
 }
 
 // A schedule that was read: it could not be, it is refused, or so many bytes are all of it.
-#[derive(Drop)]
+#[derive(Clone, Copy)]
 pub enum Intake {
     Failed,
     Refused(Refusal),
@@ -95,13 +98,19 @@ pub enum Intake {
 }
 
 // Reads on behind a full buffer, part after part, until the input ends or nothing that follows can change what is told.
-fn read_on(fd: i32, part: &mut [u8], complaint: &[u8]) -> Intake
+fn read_on<R: Read, E: Write>(
+    input: &mut R,
+    part: &mut [u8],
+    errors: &mut E,
+    complaint: &[u8],
+) -> Intake
     requires { length part.old ≡ 73764 }
-    ensures { Taken part.new result }
+    ensures taken { Taken part.new result }
+    ensures told { IfSome (R.remaining input.old) (λ bs. Tells (part.old ++ bs) part.new result) }
 {
     let mut reading = read_part(Reading::Start, part);
     while !settled(reading) {
-        let r = streams::read_input(fd, part, complaint);
+        let r = streams::read_input(input, part, errors, complaint);
         if r.failed {
             return Intake::Failed;
         }
@@ -115,10 +124,16 @@ fn read_on(fd: i32, part: &mut [u8], complaint: &[u8]) -> Intake
 }
 
 // Reads a schedule, and no further than the part by which its refusal is known, if it is longer than the buffer; complains if it cannot be read.
-pub fn read_schedule(fd: i32, part: &mut [u8; ROOM], complaint: &[u8]) -> Intake
-    ensures { Taken part.new result }
+pub fn read_schedule<R: Read, E: Write>(
+    input: &mut R,
+    part: &mut [u8; ROOM],
+    errors: &mut E,
+    complaint: &[u8],
+) -> Intake
+    ensures taken { Taken part.new result }
+    ensures told { IfSome (R.remaining input.old) (λ bs. Tells bs part.new result) }
 {
-    let r = streams::read_input(fd, part, complaint);
+    let r = streams::read_input(input, part, errors, complaint);
     if r.failed {
         return Intake::Failed;
     }
@@ -126,5 +141,5 @@ pub fn read_schedule(fd: i32, part: &mut [u8; ROOM], complaint: &[u8]) -> Intake
     if count < part.len() {
         return Intake::Whole(count);
     }
-    read_on(fd, part, complaint)
+    read_on(input, part, errors, complaint)
 }

@@ -1,4 +1,6 @@
 // The step calls on a table that its owner lends, and a question to it. Each calls the function on a table by value that has its name; two owners come last.
+#![tactic(auto)]
+
 ghost use Rattle.std.specs.Prelude.{◌≡◌, [], length};
 ghost use Rattle.simulation.specs.Calls.{Buffer, Bytes};
 ghost use Rattle.transition.specs.Questions.{Tells};
@@ -92,7 +94,7 @@ pub fn return_to_service(t: &mut Table, station: u64) -> Reply
 
 // How many stations have the newest's label: a question, for which the table is lent and not changed.
 pub fn top_holders(t: &Table) -> Holders
-    ensures { Tells declared t.now (refusal_number result.refusal) result.stations × (t.now ≡ t.now) }
+    ensures { Tells declared t.now (refusal_number result.refusal) result.stations × (t.exit.now ≡ t.entry.now) }
 {
     step::top_holders(*t)
 }

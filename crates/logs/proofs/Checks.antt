@@ -20,11 +20,11 @@ use Rattle.transition.specs.Logs.{fits_next, at_front, right}
 use Rattle.transition.proofs.Logs.{front_from, front_end, front_short}
 use Rattle.moves.specs.Moves.{call_of}
 use Rattle.moves.specs.declared.Request.{Request}
-use Rattle.arrays.specs.Arrays.{Rows, Planes, entries_in}
+use Rattle.arrays.specs.Arrays.{Planes, Rows, entries_in}
 use Rattle.arrays.specs.Planes.{beside}
 use Rattle.engine.proofs.Reports.{result_length}
 use Rattle.schedule.proofs.Places.{calls_from, StepAt, calls_step}
-use Rattle.unbounded.specs.Tables.{Table, table, restᵘ, stateᵘ, answeredᵘ, Turnsᵘ, Runnableᵘ}
+use Rattle.unbounded.specs.Tables.{table, Table, restᵘ, stateᵘ, answeredᵘ, Turnsᵘ, Runnableᵘ}
 use Rattle.unbounded.specs.declared.NumberedTurn.{NumberedTurn}
 use Rattle.logs.specs.Files.{answer_bytes}
 use Rattle.logs.specs.Clauses.{writes, RunsCall, numbers_left, pending, calls_left, ahead_log, placed_at, Checking, work_left, Drained, FeedsReport, Finishes}

@@ -107,13 +107,13 @@ module _ (bs : Lists.List ℕ) {numbers list list' : Lists.List ℕ} {whole : Bo
         (back.0, subst (λ ns. RightLog bs ns report) (sym back.2) R.log)),
   )
 
-  pub begins_file : {given : ℕ} → given ≡ count → (v j k : Rows) (s : Planes) (order buffer : Lists.List ℕ) (b : Begun)
-      → Begins bs (take given list') whole v j k s order list' buffer b → BeginsFile bs numbers v j k s order list' buffer b
+  pub begins_file : {given : Lists.List ℕ} → given ≡ take count list' → (v j k : Rows) (s : Planes) (order buffer : Lists.List ℕ) (b : Begun)
+      → Begins bs given whole v j k s order list' buffer b → BeginsFile bs numbers v j k s order list' buffer b
   begins_file e v j k s order buffer (Refused r) h = h
   begins_file e v j k s order buffer (Running c) h = record {
     accepted = h.accepted;
     exactly = λ report.
-        let a = subst (λ i. (ahead_log c (table c.stations v j k s) bs list' buffer report ≡ true) ↔ ((whole ≡ true) × RightLog bs (take i list') report)) e
+        let a = subst (λ ns. (ahead_log c (table c.stations v j k s) bs list' buffer report ≡ true) ↔ ((whole ≡ true) × RightLog bs ns report)) e
         (h.exactly report) in
         let b = right_file h.accepted report in
         ((λ y. b.0 (a.0 y)), λ R. a.1 (b.1 R));

@@ -1,5 +1,7 @@
 // Logs of schedule files (document 02, Card 7: the old books): the numbers and the report of a log held against the unbounded table, which is fed with them.
 // The report comes part by part.
+#![tactic(auto)]
+
 ghost use Rattle.std.specs.Prelude.{◌≡◌, ◌≤◌, min, length, take, drop};
 ghost use Rattle.simulation.specs.Calls.{Buffer};
 ghost use Rattle.transition.specs.Forms.{over};

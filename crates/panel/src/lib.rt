@@ -1,4 +1,6 @@
 // The step calls whose report goes to a panel: a slice of records that is lent, one for each place of a scan result.
+#![tactic(auto)]
+
 ghost use Rattle.std.specs.Prelude.{◌≡◌, ◌≤◌, ◌<◌, min, length, take, drop};
 ghost use Rattle.panel.specs.Panels.{record_at, filled, Shows};
 

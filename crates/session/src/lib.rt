@@ -1,4 +1,6 @@
 // A reading session on a table that is passed and returned whole: its header opens it, and each later line is served by it.
+#![tactic(auto)]
+
 ghost use Rattle.std.specs.Prelude.{◌≡◌, cond, ℕ, ◌+◌, ◌≤◌, length, ltb};
 ghost use mathlib.Core.List as Lists;
 ghost use Rattle.moves.specs.Moves.{refusal_number};

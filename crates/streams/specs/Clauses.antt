@@ -1,10 +1,15 @@
--- What is known of files that were opened, and of bytes that were read; no contract can say which bytes are read or written.
-use Rattle.std.specs.Prelude.{T}
+-- What is known of files that were opened, and of bytes that were read.
+use Rattle.std.specs.Prelude.{◌≡◌, ℕ, ◌≤◌, List, length, take, T}
 use Rattle.std.specs.Int.Signed.{non_neg}
+use Rattle.std.specs.Fd.{file_raw_fd}
 use Rattle.streams.specs.declared.Opened.{Opened}
 use Rattle.streams.specs.declared.Opened.TheVariants.{Missing, File}
 
 -- a descriptor is not negative
 abbrev pub Descriptor : Opened → Type 0
 Descriptor Missing = Unit {0}
-Descriptor (File fd) = T (non_neg fd)
+Descriptor (File file) = T (non_neg (file_raw_fd file))
+
+-- so many bytes at the front of a buffer
+abbrev pub IsPrefixLen : ℕ → List ℕ → Type 0
+IsPrefixLen n xs = (n ≤ length xs) × (n ≡ length (take n xs))

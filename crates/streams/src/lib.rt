@@ -1,9 +1,15 @@
 // Input and output for programs that end with a line on standard error where one of them fails.
-ghost use Rattle.std.specs.Prelude.{◌≡◌, true};
-ghost use Rattle.io.specs.Counts.{IsPrefixLen};
-ghost use Rattle.streams.specs.Clauses.{Descriptor};
+#![tactic(auto)]
 
-use libc::{STDERR_FILENO, STDOUT_FILENO};
+ghost use Rattle.std.specs.Prelude.{◌≡◌, true, false, ◌<◌, take, length};
+ghost use Rattle.std.specs.Io.KnownBytes.{Appends, Consumes, IsAtEnd};
+ghost use Rattle.streams.specs.Clauses.{Descriptor, IsPrefixLen};
+
+use std::env::Env;
+use std::fs::File;
+use std::io::{Read, Write};
+use std::os::fd::AsRawFd;
+use std::str;
 
 // How many bytes were read, and whether that failed; then there are none.
 #[derive(Drop)]
@@ -12,52 +18,89 @@ pub struct Input {
     pub failed: bool,
 }
 
-// A file that was to be opened: there is none that can be, or its descriptor.
+// A file that was to be opened: there is none that can be, or it is open.
 #[derive(Drop)]
 pub enum Opened {
     Missing,
-    File(i32),
+    File(File),
+}
+
+// What was opened; a file has a descriptor that is not negative.
+fn with_descriptor(file: File) -> Opened
+    ensures { Descriptor result }
+{
+    let fd = file.as_raw_fd();
+    if fd < 0 {
+        return Opened::Missing;
+    }
+    Opened::File(file)
+}
+
+// Opens the file of this name for reading; a name that is not UTF-8 names none.
+fn open_named(rt: &HostRuntime, name: &[u8]) -> Opened
+    ensures { Descriptor result }
+{
+    match str::from_utf8(name) {
+        Ok(path) => match File::open(rt, path) {
+            Ok(file) => with_descriptor(file),
+            Err(_) => Opened::Missing,
+        },
+        Err(_) => Opened::Missing,
+    }
+}
+
+// Says what failed; where that cannot be written either, nothing is left to do.
+fn complain<E: Write>(errors: &mut E, complaint: &[u8]) {
+    let _ = errors.write_all(complaint);
 }
 
 // Opens the file that argument i names for reading; complains if there is no such argument, or it names no file that can be opened.
-pub fn open_argument(i: usize, complaint: &[u8]) -> Opened
+pub fn open_argument(rt: &HostRuntime, i: usize, complaint: &[u8]) -> Opened
     ensures { Descriptor result }
 {
-    let mut path = io::buffer();
-    let k = os::arg(i, &mut path);
-    if os::errno() == 0 {
-        let fd = os::open_read(&path[..k]);
-        if fd >= 0 {
-            return Opened::File(fd);
+    let mut path = [0u8; 4096];
+    if let Ok(k) = rt.arg(i, &mut path) {
+        let file = open_named(rt, &path[..k]);
+        if let Opened::File(_) = file {
+            return file;
         }
     }
-    io::write_all(STDERR_FILENO, complaint);
+    complain(&mut rt.stderr(), complaint);
     Opened::Missing
 }
 
-// Reads from a descriptor until `buf` is full or the input ends; complains if it cannot be read.
-pub fn read_input(fd: i32, buf: &mut [u8], complaint: &[u8]) -> Input
+// Reads until `buf` is full or the input ends; complains if it cannot be read.
+pub fn read_input<R: Read, E: Write>(
+    input: &mut R,
+    buf: &mut [u8],
+    errors: &mut E,
+    complaint: &[u8],
+) -> Input
     ensures count_value { result.failed ≡ true → result.count ≡ 0 }
     ensures prefix_len { IsPrefixLen result.count buf.new }
+    ensures bytes { result.failed ≡ false → Consumes (R.remaining input.old) (R.remaining input.new) (take result.count buf.new) }
+    ensures end { result.failed ≡ false → result.count < length buf.new → IsAtEnd (R.remaining input.new) }
 {
     let mut count = 0;
     while count < buf.len() {
-        let got = libc::read(fd, &mut buf[count..]);
-        if got < 0 {
-            io::write_all(STDERR_FILENO, complaint);
-            return Input {
-                count: 0,
-                failed: true,
-            };
+        match input.read(&mut buf[count..]) {
+            Err(_) => {
+                complain(errors, complaint);
+                return Input {
+                    count: 0,
+                    failed: true,
+                };
+            }
+            Ok(k) => {
+                if k == 0 {
+                    return Input {
+                        count,
+                        failed: false,
+                    };
+                }
+                count += k;
+            }
         }
-        let k = io::count(got, &buf[count..]);
-        if k == 0 {
-            return Input {
-                count,
-                failed: false,
-            };
-        }
-        count += k;
     }
     Input {
         count,
@@ -66,10 +109,17 @@ pub fn read_input(fd: i32, buf: &mut [u8], complaint: &[u8]) -> Input
 }
 
 // Writes all bytes; complains if they cannot be written, and answers whether they were.
-pub fn write_output(bytes: &[u8], complaint: &[u8]) -> bool {
-    if io::write_all(STDOUT_FILENO, bytes) {
+pub fn write_output<W: Write, E: Write>(
+    output: &mut W,
+    bytes: &[u8],
+    errors: &mut E,
+    complaint: &[u8],
+) -> bool
+    ensures { result ≡ true → Appends (W.contents output.old) (W.contents output.new) bytes.now }
+{
+    if output.write_all(bytes).is_ok() {
         return true;
     }
-    io::write_all(STDERR_FILENO, complaint);
+    complain(errors, complaint);
     false
 }

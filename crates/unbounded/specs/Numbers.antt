@@ -19,7 +19,7 @@ pub record NumberedBefore (n : ℕ) (numbers : Lists.List ℕ) (k : ℕ) (order 
   pub listed : order ≡ order_by n old
 
 -- what a step makes of current and pending numbers, where a snap for a label by station z leaves them, and one by another makes v its pending number. If z is
--- the newest, that is the step of the machine (proofs/NumberLaws.antt: `newest-step`).
+-- the newest, that is the step of the machine (proofs/NumberLaws.antt: `newest_step`).
 abbrev pub stepped_by : ℕ → ℕ → Labelling ℕ → LabelStep → Labelling ℕ
 stepped_by z v N stay = N
 stepped_by z v N (snap k) = cond (eqb k z) N (put N k v)

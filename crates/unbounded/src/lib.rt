@@ -1,5 +1,6 @@
 // The unbounded table, with whole numbers in place of labels (document 02, Card 7: the growing-number table), fed with the numbers of a log.
 #![tactic(auto)]
+
 pub mod numbers;
 
 ghost use Rattle.std.specs.Prelude.{◌≡◌, ◌≢◌, ◌≤◌, ◌<◌, length};

@@ -1,6 +1,7 @@
 // The test of refusal 13 on a table in four arrays. A row is read to its end, fault or no fault: such loops compile to vector instructions. Tests that
 // are joined by `&` are all made: there is one way through them.
 #![tactic(auto)]
+
 ghost use Rattle.std.specs.Prelude.{◌≡◌, ℕ, ◌+◌, ◌-◌, ◌<◌, ◌≤◌, [], length, nat_eq, nat_le, slice_index, slice_index_or};
 ghost use Rattle.basics.specs.Tests.{within, every, count};
 ghost use Rattle.arrays.specs.Arrays.{arrays, cell};

@@ -1,5 +1,5 @@
 use Prim.Native.Nat.{◌≤◌}
-use mathlib.Core.Path.{◌≡◌, ◌∙◌}
+use mathlib.Core.Path.{◌≡◌}
 use Rattle.arrays.specs.Arrays.{shown_in}
 use Rattle.arrays.proofs.shown_in.Given as goal
 

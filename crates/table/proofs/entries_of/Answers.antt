@@ -1,6 +1,5 @@
-use Prim.Native.Nat.{◌-◌, ◌≤◌}
 use native.Mathlib.Omega.{arith}
-use mathlib.Core.Path.{◌≡◌, refl, ◌∙◌}
+use mathlib.Core.Path.{refl, ◌∙◌}
 use Rattle.basics.proofs.Filled.{filled_none, filled_more}
 use Rattle.table.specs.Tables.{blank}
 use Rattle.table.proofs.Apart.{filled_end}

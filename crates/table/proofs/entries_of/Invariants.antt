@@ -1,5 +1,5 @@
 use Prim.Native.Nat.{◌-◌, ◌≤◌}
-use mathlib.Core.Path.{◌≡◌, ◌∙◌}
+use mathlib.Core.Path.{◌≡◌}
 use Rattle.arrays.specs.Arrays.{cell}
 use Rattle.basics.proofs.Filled.{filled}
 use Rattle.table.specs.Tables.{declared_entry, blank}

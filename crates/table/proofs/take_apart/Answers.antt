@@ -1,10 +1,9 @@
-use Prim.Native.Nat.{◌-◌, ◌≤◌}
 use native.Mathlib.Omega.{arith}
 use mathlib.Core.Path.{◌≡◌, refl, ◌∙◌}
 use mathlib.Core.List.{[], ◌∷◌}
 use lib.ListN.{replicate}
 use Rattle.basics.proofs.Filled.{filled_none, filled_more}
-use Rattle.arrays.specs.Arrays.{arrays, phase_number}
+use Rattle.arrays.specs.Arrays.{arrays}
 use Rattle.table.specs.Tables.{taken_apart}
 use Rattle.table.proofs.Apart.{filled_end}
 use borrow.Author.Rules.{rules}

@@ -8,18 +8,11 @@ use Rattle.unbounded.proofs.TurnLaws.{fresh_state, fresh_runnable}
 use Rattle.unbounded.proofs.refresh.Goals as goal
 use Rattle.unbounded.proofs.refresh.Goals.{After-first_order}
 
-abbrev Lined : goal.After-first_order → Type 0
-Lined c = let n = c.args.n in
-    c.first_order.result ≡ ordered n (λ i j. number_before 0 i 0 j) ++ replicate (32 - n) 0
-
-lined : (c : goal.After-first_order) → Lined c
+lined : (c : goal.After-first_order) → c.first_order.result ≡ ordered c.args.n (λ i j. number_before 0 i 0 j) ++ replicate (32 - c.args.n) 0
 lined c = c.first_order.ensures
 
-zeros : ((c : goal.After-first_order) → Lined c) → goal.returns
-zeros o c =
-    let h = c.refresh_rest.ensures in
-    let s = c in
-    (fresh_state s.args.n s.requires.0 s.requires.1 h, fresh_runnable s.args.n s.requires.0 s.requires.1 h (o c))
+pub returns-clause-results_after : goal.returns-clause-results_after
+returns-clause-results_after c = fresh_state c.args.n c.requires.0 c.requires.1 c.refresh_rest.ensures
 
-pub returns : goal.returns
-returns c = (zeros lined) c
+pub returns-clause-fact : goal.returns-clause-fact
+returns-clause-fact c = fresh_runnable c.args.n c.requires.0 c.requires.1 c.refresh_rest.ensures (lined c)

@@ -1,81 +1,55 @@
 use native.Mathlib.Omega.{arith}
-use mathlib.Core.Path.{◌≡◌, refl}
+use mathlib.Core.Path.{◌≡◌}
 use mathlib.Core.Bool.{true}
-use Rattle.basics.proofs.Loops.{was_true, was_false}
+use borrow.Author.Tests.{not-true, not-false}
 use Rattle.unbounded.proofs.TurnLaws.{turn_low, turn_place, turn_prepared, turn_unfit, turn_before, turn_kept, turn_served, turn_runnable}
 use Rattle.unbounded.proofs.take_turn.Goals as goal
 use Rattle.unbounded.proofs.take_turn.Goals.{Else-not-given}
 
 -- The call is judged; its number is tried; then the rest, the numbers and the order are brought up to date. TurnLaws tells what that asks for and what it
--- comes to. `x` is what is known when the call is judged, `g` when its number is.
-abbrev start : goal.After-judge-task → goal.Start
-start x = x
-
-abbrev judged : goal.After-given_to-given → goal.After-judge-task
-judged g = g
-
--- what goes on has a number that fits
-abbrev Fits : goal.Else-not-given → Type 0
-Fits i = i.given_to-given.result.fits ≡ true
-
-fits : (i : goal.Else-not-given) → Fits i
-fits i = was_true refl i.if-not-given.false
-
-served : ((i : goal.Else-not-given) → Fits i) → goal.returns
-served e c =
-    let k = c in
-    let i = k in
-    let g = i in
-    let x = judged g in
-    let f = (start x).pre.0 in
-    let j = x.judge-task.ensures in
-    let numbers = c.renumber.new.1.1.1.1.0 in
-    let l = c.renumber.ensures in (
-      turn_served f j g.given_to-given.ensures (e i) k.carry_rest-handed.ensures numbers l,
-      turn_runnable f j g.given_to-given.ensures (e i) k.carry_rest-handed.ensures numbers l c.refresh_order.ensures,
-    )
-
+-- comes to.
 pub given_to-given-requires : goal.given_to-given-requires
-given_to-given-requires c = let s = start c in (turn_low s.pre.0, s.pre.1)
+given_to-given-requires c = (turn_low c.requires.fact, c.requires.used_in_bounds)
 
 pub returns-then-not-given : goal.returns-then-not-given
-returns-then-not-given c =
-    let x = judged c in
-    let f = (start x).pre.0 in
-    record {
-  fact_2 = turn_unfit f x.judge-task.ensures c.given_to-given.ensures (was_false refl c.if-not-given.true);
-  fact_3 = f;
+returns-then-not-given c = record {
+  fact_2 = turn_unfit c.requires.fact c.judge-task.ensures c.given_to-given.ensures (not-true _ c.if-not-given.true);
+  fact_3 = c.requires.fact;
 }
 
 pub carry_rest-handed-requires : goal.carry_rest-handed-requires
-carry_rest-handed-requires c =
-    let x = judged c in
-    turn_prepared (start x).pre.0 x.judge-task.ensures
+carry_rest-handed-requires c = turn_prepared c.requires.fact c.judge-task.ensures
 
 pub renumber-requires : goal.renumber-requires
 renumber-requires c =
-    let x = judged c in
-    let f = (start x).pre.0 in
-    omega (arith, turn_place f x.judge-task.ensures, f.high)
+    let f = c.requires.fact in
+    omega (arith, turn_place f c.judge-task.ensures, f.high)
+
+-- what goes on has a number that fits
+fits : (c : goal.Else-not-given) → c.given_to-given.result.fits ≡ true
+fits c = not-false _ c.if-not-given.false
 
 pub refresh_order-requires : goal.refresh_order-requires
 refresh_order-requires c =
-    let x = judged c in
-    let f = (start x).pre.0 in
-    let j = x.judge-task.ensures in
-    let numbers = c.renumber.new.1.1.1.1.0 in
-    let l = c.renumber.ensures in record {
-  place_lt_n = (turn_place f j, f.high);
-  numbered_before = (
-        turn_before f j c.given_to-given.ensures (fits (goal.at.refresh_order-requires c).Else-not-given) c.carry_rest-handed.ensures numbers l,
-        turn_kept f j c.given_to-given.ensures (fits (goal.at.refresh_order-requires c).Else-not-given) c.carry_rest-handed.ensures numbers l,
-      );
-  order_value = ;
-}
-
-pub overflow_add-result : goal.overflow_add-result
-overflow_add-result c =
-    omega (arith, c.given_to-given.ensures.inside, (start (judged c)).well_formed)
+    let f = c.requires.fact in
+    let j = c.judge-task.ensures in
+    let g = c.given_to-given.ensures in
+    let e = fits (goal.at.refresh_order-requires c).Else-not-given in
+    let k = c.carry_rest-handed.ensures in
+    record {
+      place_lt_n = (turn_place f j, f.high);
+      numbered_before = turn_before f j g e k c.renumber.new.numbers c.renumber.ensures;
+      order_value = turn_kept f j g e k c.renumber.new.numbers c.renumber.ensures;
+    }
 
 pub returns : goal.returns
-returns c = (served fits) c
+returns c =
+    let f = c.requires.fact in
+    let j = c.judge-task.ensures in
+    let g = c.given_to-given.ensures in
+    let e = fits (goal.at.returns c).Else-not-given in
+    let k = c.carry_rest-handed.ensures in
+    record {
+      fact_2 = turn_served f j g e k c.renumber.new.numbers c.renumber.ensures;
+      fact_3 = turn_runnable f j g e k c.renumber.new.numbers c.renumber.ensures c.refresh_order.ensures;
+    }

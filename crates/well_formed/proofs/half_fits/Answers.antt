@@ -1,4 +1,4 @@
-use Rattle.std.proofs.Common.{◌≡◌, ◌+◌, ◌-◌, ◌≤◌, ◌&&◌, get_or, ap, ◌∙◌, ap₂, arith, rules}
+use Rattle.std.proofs.Common.{◌+◌, ◌&&◌, get_or, ap, ◌∙◌, ap₂, arith, rules}
 use Rattle.basics.specs.Tests.{within}
 use Rattle.basics.proofs.Loops.{flag_up, flag_end, flag_more}
 use Rattle.well_formed.proofs.WellFormedLaws.{top_at}

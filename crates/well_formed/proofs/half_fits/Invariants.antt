@@ -1,4 +1,4 @@
-use Rattle.std.proofs.Common.{◌≡◌, ◌+◌, ◌-◌, ◌≤◌, ◌&&◌, ◌∙◌}
+use Rattle.std.proofs.Common.{◌≡◌, ◌+◌, ◌-◌, ◌≤◌, ◌&&◌}
 use Rattle.basics.specs.Tests.{every}
 use Rattle.well_formed.specs.Loops.{fits_at}
 use Rattle.well_formed.proofs.half_fits.Given as goal

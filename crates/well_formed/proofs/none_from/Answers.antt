@@ -1,4 +1,4 @@
-use Rattle.std.proofs.Common.{◌≡◌, ◌+◌, ◌-◌, ◌≤◌, refl, arith, rules}
+use Rattle.std.proofs.Common.{refl, arith, rules}
 use Rattle.basics.proofs.Loops.{flag_up, flag_end, flag_more}
 use Rattle.well_formed.proofs.none_from.Goals as goal
 

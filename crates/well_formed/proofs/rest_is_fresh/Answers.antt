@@ -1,6 +1,6 @@
-use Rattle.std.proofs.Common.{◌≡◌, ◌+◌, ◌-◌, ◌≤◌, true, ◌&&◌, [], get_or, sym, ◌∙◌, ap₂, arith, rules}
+use Rattle.std.proofs.Common.{◌+◌, ◌&&◌, [], get_or, sym, ◌∙◌, ap₂, arith, rules}
 use Rattle.basics.proofs.Facts.{every_no}
-use Rattle.basics.proofs.Loops.{every_none, every_more, every_done, was_false, was_true}
+use Rattle.basics.proofs.Loops.{every_none, every_more, every_done}
 use Rattle.well_formed.proofs.WellFormedLaws.{fresh_result}
 use Rattle.well_formed.proofs.rest_is_fresh.Goals as goal
 

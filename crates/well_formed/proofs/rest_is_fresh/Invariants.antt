@@ -1,4 +1,4 @@
-use Rattle.std.proofs.Common.{◌≡◌, ◌+◌, ◌-◌, ◌≤◌, true, ◌&&◌, [], get_or, ◌∙◌}
+use Rattle.std.proofs.Common.{◌≡◌, ◌+◌, ◌-◌, ◌≤◌, true, [], get_or}
 use Rattle.basics.specs.Tests.{every}
 use Rattle.arrays.specs.WellFormed.{result_fresh}
 use Rattle.well_formed.proofs.rest_is_fresh.Given as goal

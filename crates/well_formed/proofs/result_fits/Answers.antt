@@ -1,6 +1,5 @@
 use mathlib.Core.Path.{sym}
 use Rattle.std.proofs.Common.{◌≤◌, ◌&&◌, ◌∙◌, ap₂, arith}
-use Rattle.basics.proofs.Loops.{was_false, was_true}
 use Rattle.well_formed.proofs.WellFormedLaws.{shown_most, result_wrong, station_small, result_rows}
 use Rattle.well_formed.proofs.result_fits.Goals as goal
 use Rattle.well_formed.proofs.result_fits.Goals.{After-shown_in-k}
@@ -21,9 +20,9 @@ pub tally-requires : goal.tally-requires
 tally-requires c =
     let fit = (sym c.entries_fit.ensures ∙ c.if-not-entries_fit.false) in
     record {
-  k_bound = few (goal.at.tally-requires c).After-shown_in-k;
-  by_index = station_small c.args.n c.args.rows.now _ c.shown_in-k.ensures fit c.requires;
-}
+      k_bound = few (goal.at.tally-requires c).After-shown_in-k;
+      by_index = station_small c.args.n c.args.rows.now _ c.shown_in-k.ensures fit c.requires;
+    }
 
 pub none_from-requires-2 : goal.none_from-requires-2
 none_from-requires-2 c = omega (arith, few (goal.at.none_from-requires-2 c).After-shown_in-k)

@@ -1,8 +1,7 @@
 use mathlib.Core.Path.{◌∙◌}
-use Rattle.std.proofs.Common.{◌≡◌, ◌-◌, ◌≤◌, true, sym, arith, rules}
+use Rattle.std.proofs.Common.{sym, arith, rules}
 use Rattle.basics.proofs.Facts.{every_no}
-use Rattle.basics.proofs.Loops.{every_none, every_more, every_done, was_false, was_true}
-use Rattle.arrays.specs.WellFormed.{result_fits}
+use Rattle.basics.proofs.Loops.{every_none, every_more, every_done}
 use Rattle.well_formed.proofs.results_fit.Goals as goal
 
 pub loop-i-init : goal.loop-i-init

@@ -1,4 +1,4 @@
-use Rattle.std.proofs.Common.{◌≡◌, ℕ, ◌-◌, ◌<◌, ◌≤◌, true, eqb, get_or, refl, ap, ◌∙◌, arith, length-set, rules}
+use Rattle.std.proofs.Common.{ℕ, ◌<◌, true, eqb, get_or, refl, ap, ◌∙◌, arith, length-set, rules}
 use lib.ListN.{get_or-replicate}
 use Rattle.basics.specs.Tests.{count}
 use Rattle.basics.proofs.Facts.{count_bound}

@@ -1,4 +1,4 @@
-use Rattle.std.proofs.Common.{◌≡◌, ◌-◌, ◌≤◌, refl, ap, ◌∙◌, arith, rules}
+use Rattle.std.proofs.Common.{refl, ap, ◌∙◌, arith, rules}
 use Rattle.basics.proofs.Filled.{filled, filled_none, filled_more}
 use Rattle.well_formed.proofs.tops.Goals as goal
 

@@ -1,5 +1,5 @@
 use Prim.Native.Nat.{◌-◌, ◌≤◌}
-use mathlib.Core.Path.{◌≡◌, ◌∙◌}
+use mathlib.Core.Path.{◌≡◌}
 use Rattle.rows.proofs.OrderLaws.{order_in}
 use Rattle.unbounded.proofs.NumberLaws.{level}
 use Rattle.unbounded.proofs.numbers.first_order.Given as goal

@@ -6,18 +6,6 @@ use borrow.Author.Tests.{eq-eqb, ne_eqb, lt-ltb, le-ltb}
 use Rattle.unbounded.proofs.numbers.fits.Goals as goal
 use Rattle.unbounded.proofs.numbers.fits.Goals.{Else-v-wide}
 
-abbrev Above : goal.Else-v-wide → Type 0
-Above c = let start = c in get_or start.args.numbers.now start.args.z 0 < start.args.v
-
-above : (c : goal.Else-v-wide) → Above c
-above c = omega (arith, c.if-v-wide.false, c.wide.ensures)
-
-at_most : ((c : goal.Else-v-wide) → Above c) → goal.returns
-at_most h c =
-    let start = c in
-    let top = get_or start.args.numbers.now start.args.z 0 in
-    rw (ne_eqb _ _ c.if-k-z.false, lt-ltb top start.args.v (h c)) refl
-
 pub returns-then-k-z : goal.returns-then-k-z
 returns-then-k-z c = rw (eq-eqb _ _ c.if-k-z.true) refl
 
@@ -27,5 +15,17 @@ returns-then-v-wide c =
     let h : c.args.v ≤ top = omega (arith, c.if-v-wide.true, c.wide.ensures) in
     rw (ne_eqb _ _ c.if-k-z.false, le-ltb top c.args.v h) refl
 
+-- The two parts of the last test: the number is above the top one, and below 2^32.
+abbrev Above : goal.Else-v-wide → Type 0
+Above c = get_or c.args.numbers.now c.args.z 0 < c.args.v
+
+above : (c : goal.Else-v-wide) → Above c
+above c = omega (arith, c.if-v-wide.false, c.wide.ensures)
+
+at_most : ((c : goal.Else-v-wide) → Above c) → goal.returns
+at_most h c =
+    let top = get_or c.args.numbers.now c.args.z 0 in
+    rw (ne_eqb _ _ c.if-k-z.false, lt-ltb top c.args.v (h c)) refl
+
 pub returns : goal.returns
-returns c = (at_most above) c
+returns c = at_most above c

@@ -1,6 +1,4 @@
-use Prim.Native.Nat.{◌-◌, ◌≤◌, ◌<◌}
-use mathlib.Core.Path.{◌≡◌}
-use mathlib.Core.Bool.{true}
+use Prim.Native.Nat.{◌-◌, ◌<◌}
 use native.Mathlib.Omega.{arith}
 use lib.ListN.{get_or}
 use Rattle.rows.proofs.OrderLaws.{before_front, before_back}
@@ -25,19 +23,15 @@ pub returns-then-before : goal.returns-then-before
 returns-then-before c =
     let at = c.loop-q in
     record {
-  upper_bound = at.invariant.0;
-  by_index_3 = (
-        λ p h. before_front (row_total 32 c.args.numbers.now) _ c.requires.k_bound.0 _ c.args.order.now c.requires.by_index c.requires.by_index_2 (at.q - 1)
-            (omega arith) c.before-in-loop-q.ensures c.if-before.true p (omega arith),
-        at.invariant.1,
-      );
-  by_index_4 = ;
-}
+      upper_bound = at.invariant.0;
+      by_index_3 = λ p h. before_front (row_total 32 c.args.numbers.now) _ c.requires.k_bound.0 _ c.args.order.now c.requires.by_index c.requires.by_index_2
+          (at.q - 1) (omega arith) c.before-in-loop-q.ensures c.if-before.true p (omega arith);
+      by_index_4 = at.invariant.1;
+    }
 
 pub loop-q-preserved : goal.loop-q-preserved
 loop-q-preserved c =
-    let at = c.loop-q in
-    (
+    let at = c.loop-q in (
       omega arith,
       before_back (row_total 32 c.args.numbers.now) _ c.requires.k_bound.0 _ c.args.order.now c.requires.by_index c.requires.by_index_2 (at.q - 1)
           (omega arith) c.before-in-loop-q.ensures c.if-before.false,

@@ -1,0 +1,74 @@
+use native.Mathlib.Omega.{arith}
+use mathlib.Core.Path.{refl}
+use Rattle.schedule.proofs.Places.{StepAt, at_end, at_refused, at_call, calls_none, calls_refused}
+use Rattle.file.proofs.LineLaws.{fresh_orderly, fresh_runnable, next_state}
+use Rattle.arrays.proofs.Planes.{none_beside}
+use Rattle.numbering.proofs.Lines.{sofar_start, sofar_end, sofar_more, step_room}
+use Rattle.numbering.proofs.number_lines.Goals as goal
+use Rattle.numbering.proofs.number_lines.Goals.{In-Call}
+
+-- the call that stands at a place
+here : (x : goal.In-Call) → let l = x.loop-request in
+    StepAt l.lines x.args.rest.now l.at
+    x.in-Call.request
+here x =
+    let k = x in
+    at_call _ _ _ k.loop-request.invariant.0.within _ k.next_call.ensures _ x.in-Call.is
+
+pub order-order-requires : goal.order-order-requires
+order-order-requires c =
+    fresh_orderly c.args.n c.requires.le_n.0 c.requires.le_n.1 c.refresh.ensures
+
+pub loop-request-init : goal.loop-request-init
+loop-request-init c =
+    let low = c.requires.le_n.0 in
+    let high = c.requires.le_n.1 in
+    let fresh = c.refresh.ensures in
+    (sofar_start c.args.n low high _ _ c.requires.rest_in_bounds fresh none_beside, fresh_runnable c.args.n low high fresh c.order-order.ensures)
+
+pub returns-in-End : goal.returns-in-End
+returns-in-End c =
+    let f = c.loop-request.invariant.0 in
+    let e = sofar_end f (calls_none _ _ _ f.within (at_end _ _ _ f.within _ c.next_call.ensures c.in-End.is)).0 in
+    record { value = e.0; list_after = e.1 }
+
+pub returns-in-Refused : goal.returns-in-Refused
+returns-in-Refused c =
+    let f = c.loop-request.invariant.0 in
+    let e = sofar_end f (calls_refused _ _ _ f.within (at_refused _ _ _ f.within _ c.next_call.ensures _ c.in-Refused.is)).0 in
+    record { value = e.0; list_after = e.1 }
+
+pub number_line-count-requires : goal.number_line-count-requires
+number_line-count-requires c =
+    let l = c.loop-request in
+    let room = step_room l.invariant.0 (here (goal.at.number_line-count-requires c).In-Call) in
+    record {
+      runnable = l.invariant.1;
+      count_in_bounds = room.1;
+      count_in_bounds_2 = (room.0, room.2);
+      counted = l.invariant.0.counted;
+    }
+
+pub loop-request-preserved : goal.loop-request-preserved
+loop-request-preserved c =
+    let l = c.loop-request in
+    let g = c.number_line-count.ensures in
+    (sofar_more l.invariant.0 (here (goal.at.loop-request-preserved c).In-Call) refl g.numbers_call (next_state l.invariant.1 _), g.runnable_2)
+
+pub next_call-requires : goal.next_call-requires
+next_call-requires c = c.loop-request.invariant.0.within
+
+pub overflow_add-lines : goal.overflow_add-lines
+overflow_add-lines c = let f = here (goal.at.overflow_add-lines c).In-Call in omega (arith, f.few)
+
+pub overflow_add-at : goal.overflow_add-at
+overflow_add-at c = let f = here (goal.at.overflow_add-at c).In-Call in omega (arith, f.within, c.well_formed.1.0.0)
+
+pub loop-request-smaller : goal.loop-request-smaller
+loop-request-smaller c = let f = here (goal.at.loop-request-smaller c).In-Call in omega (arith, f.within)
+
+pub shape_of-list-in-End : goal.shape_of-list-in-End
+shape_of-list-in-End c = c.loop-request.invariant.0.same
+
+pub shape_of-list-in-Refused : goal.shape_of-list-in-Refused
+shape_of-list-in-Refused c = c.loop-request.invariant.0.same

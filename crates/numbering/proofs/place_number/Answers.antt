@@ -1,0 +1,46 @@
+use Prim.Native.Nat.{◌+◌}
+use native.Mathlib.Omega.{arith}
+use mathlib.Core.Path.{◌≡◌, ap}
+use lib.ListN.{set}
+use Rattle.simulation.specs.Numbering.{number, bump}
+use Rattle.numbering.specs.Clauses.{slot_for}
+use Rattle.numbering.proofs.Kept.{mapped, shared_given, after_given}
+use Rattle.numbering.proofs.place_number.Goals as goal
+use Rattle.numbering.proofs.place_number.Goals.{After-bump, After-put_number-in-After}
+
+-- what was given earlier makes room
+moved : (x : goal.After-bump) → x.bump.new.list ≡ mapped (bump x.in-After.c) x.args.count x.args.given.now
+moved x = x.bump.ensures
+
+-- the number comes right after c
+next : (y : goal.After-put_number-in-After) → let x = y in
+    y.put_number-in-After.new.given ≡ set x.bump.new.list x.args.count (x.in-After.c + 1)
+next y = y.put_number-in-After.ensures.given_after
+
+pub overflow_add-v : goal.overflow_add-v
+overflow_add-v c = omega (
+  arith,
+  c.requires.k_bound.2,
+  c.requires.s_bound,
+  ap (λ s. number (slot_for s)) c.in-After.is,
+)
+
+pub bump_planes-requires : goal.bump_planes-requires
+bump_planes-requires c = λ x i. let pre = c.requires in omega (arith, pre.k_bound.2, pre.counted.beside x i)
+
+pub bump-requires : goal.bump-requires
+bump-requires c =
+    let pre = c.requires in
+    record {
+      n_in_bounds = omega (arith, pre.k_bound.1);
+      by_index = λ i h. omega (arith, pre.k_bound.2, pre.counted.given i h);
+    }
+
+pub returns-in-Shared : goal.returns-in-Shared
+returns-in-Shared c =
+    shared_given c.requires.k_bound.1 _ _ c.in-Shared.is c.put_number.ensures.numbers_after c.put_number.ensures.given_after
+
+pub returns-in-After : goal.returns-in-After
+returns-in-After c =
+    after_given c.requires.k_bound.1 _ _ c.in-After.is c.bump_planes.ensures c.put_number-in-After.ensures.numbers_after
+    (moved (goal.at.returns-in-After c).After-bump) (next (goal.at.returns-in-After c).After-put_number-in-After)
