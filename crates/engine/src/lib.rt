@@ -1,5 +1,6 @@
 // The one engine: step calls on a table in four arrays, which are lent and changed in place, and a question to it, which changes nothing.
 #![tactic(auto)]
+
 ghost use Rattle.std.specs.Prelude.{◌≡◌, ◌≢◌, true, map, ℕ, ◌*◌, ◌≤◌, ◌<◌, length, get_or, replicate};
 ghost use Rattle.basics.specs.Tests.{newest};
 ghost use Rattle.rows.specs.Held.{stands_in, Orderly};

@@ -1,6 +1,7 @@
 // The functions that programs in C and Rust get: step calls on a table in four arrays, which its owner lends, a question to it, and whole schedule files,
 // their reports, their numbers and their logs. `exports_c` exports them.
 #![tactic(auto)]
+
 ghost use Rattle.std.specs.Prelude.{◌≡◌, cond, map, length};
 ghost use Rattle.simulation.specs.Calls.{Buffer, Panel, Bytes, Records};
 ghost use Rattle.transition.specs.Questions.{Tells};

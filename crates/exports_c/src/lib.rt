@@ -49,7 +49,9 @@ pub extern "C" fn tickets_step(
         (arrays count labels.new jobs.new control.new results.new)
         result.refusal result.written (Bytes report.new) }
 {
-    exports::tickets_step(count, labels, jobs, control, results, code, station, job, report)
+    exports::tickets_step(
+        count, labels, jobs, control, results, code, station, job, report,
+    )
 }
 
 // A step call with a panel in place of the report buffer; a record is place, station and job. `written` counts records.
@@ -70,7 +72,9 @@ pub extern "C" fn tickets_step_panel(
         (arrays count labels.new jobs.new control.new results.new)
         result.refusal result.written (Records (map record_of panel.new)) }
 {
-    exports::tickets_step_panel(count, labels, jobs, control, results, code, station, job, panel)
+    exports::tickets_step_panel(
+        count, labels, jobs, control, results, code, station, job, panel,
+    )
 }
 
 // How many stations have the newest's label: a question, which changes nothing. 13 is judged on all that is lent, and counts none.

@@ -20,11 +20,11 @@ use Rattle.transition.specs.Logs.{fits_next, at_front, right}
 use Rattle.transition.proofs.Logs.{front_from, front_end, front_short}
 use Rattle.moves.specs.Moves.{call_of}
 use Rattle.moves.specs.declared.Request.{Request}
-use Rattle.arrays.specs.Arrays.{entries_in}
+use Rattle.arrays.specs.Arrays.{Planes, Rows, entries_in}
 use Rattle.arrays.specs.Planes.{beside}
 use Rattle.engine.proofs.Reports.{result_length}
 use Rattle.schedule.proofs.Places.{calls_from, StepAt, calls_step}
-use Rattle.unbounded.specs.Tables.{Table, restᵘ, stateᵘ, answeredᵘ, Turnsᵘ, Runnableᵘ}
+use Rattle.unbounded.specs.Tables.{table, Table, restᵘ, stateᵘ, answeredᵘ, Turnsᵘ, Runnableᵘ}
 use Rattle.unbounded.specs.declared.NumberedTurn.{NumberedTurn}
 use Rattle.logs.specs.Files.{answer_bytes}
 use Rattle.logs.specs.Clauses.{writes, RunsCall, numbers_left, pending, calls_left, ahead_log, placed_at, Checking, work_left, Drained, FeedsReport, Finishes}
@@ -135,6 +135,12 @@ sofar_start {c} {t} {file} {list} {buffer} {part} e = record {
 pub checking_here : {c : Progress} (b : Bool) {t : Table} {order file list buffer : Lists.List ℕ} → Checking c t order file list buffer
     → Checking (here c b) t order file list buffer
 checking_here b g = record { runnable = g.runnable; numbers = g.numbers; place = g.place; bytes = g.bytes; room = g.room }
+
+-- the check that is handed back, by another name
+abbrev pub FedTo : Progress → Table → Lists.List ℕ → Lists.List ℕ → Lists.List ℕ → Lists.List ℕ → Rows → Rows → Rows → Planes → Lists.List ℕ → Lists.List ℕ
+    → Progress → Type 0
+FedTo c₀ t₀ file list buffer₀ part v j k s order buffer c = FeedsReport c₀ t₀ file list buffer₀ part c (table c.stations v j k s) buffer
+    × Checking c (table c.stations v j k s) order file list buffer
 
 module _ {c₀ : Progress} {t₀ : Table} {file list buffer₀ part : Lists.List ℕ} {c : Progress} {t : Table} {order buffer : Lists.List ℕ} {read : ℕ}
     (f : Sofar c₀ t₀ file list buffer₀ part c t buffer read) (g : Checking c t order file list buffer) where

@@ -9,7 +9,6 @@ use lib.ListN.{length, get_or, take, drop, replicate, length-append, length-map,
 use lib.Seq.{take_at, drop_at, drop-drop, length-take-le}
 use lib.Dec.{eqb}
 use borrow.Author.Tests.{eqb-true, eq-eqb}
-use Rattle.basics.specs.Tests.{newest}
 use Rattle.label.specs.Labels as Labels
 use Rattle.label.specs.Valid.{Valid}
 use Rattle.rows.specs.Held.{held}

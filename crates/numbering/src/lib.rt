@@ -1,6 +1,7 @@
 // Numbers for the unbounded table, kept beside a table of labels (document 02, Card 6): what a step of the labels does to them, and the numbers of a whole
 // schedule file.
 #![tactic(auto)]
+
 ghost use Rattle.std.specs.Prelude.{◌≡◌, Bool, cond, ◌++◌, map, ℕ, ◌+◌, ◌-◌, ◌≤◌, ◌<◌, max, length, get_or, take, drop, set};
 ghost use Rattle.label.specs.Labels.{below};
 ghost use Rattle.label.specs.Rows.{digit};

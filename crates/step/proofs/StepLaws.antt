@@ -4,14 +4,17 @@ use Prim.Native.Nat.{ℕ, ◌*◌, ◌≤◌, ◌<◌}
 use native.Mathlib.Omega.{arith}
 use mathlib.Core.Path.{◌≡◌, refl, sym, ap, ap₂, subst, ◌∙◌}
 use mathlib.Core.Logic.{◌≢◌}
-use mathlib.Core.Bool.{Bool, true, false}
+use mathlib.Core.Bool.{Bool, true, false, cond}
 use mathlib.Core.List as List
 use mathlib.Core.List.{[], ◌∷◌}
 use lib.ListN.{length, get_or}
+use lib.Dec.{eqb}
+use borrow.Author.Tests.{leb-true}
 use Rattle.basics.proofs.Facts.{tabulate_same}
 use Rattle.simulation.specs.Calls as Calls
 use Rattle.simulation.specs.Calls.{Call, Buffer, report_lines, Report, Bytes, size, written}
 use Rattle.transition.specs.Forms.{TableAnswer, over, onto, step_of}
+use Rattle.transition.specs.Questions.{Tells}
 use Rattle.transition.specs.Sequences.{Steps}
 use Rattle.transition.proofs.Theorem.{step_written, step_ill_formed, step_kept}
 use Rattle.transition.proofs.Sequences.{steps_of}
@@ -73,6 +76,26 @@ module _ (t : Table) (w : Whole t) (c : Call) where
     accepted_table : refusal_number h.refusal ≡ 0 → {t' : Table} → t' ≡ put_together a' → t' ≡ (step_of declared t c).table
     accepted_table z q = q ∙ accepted_by (well_formed (taken_apart t)) refl z
 
+-- an empty buffer stays empty
+pub empty_buffer : {t t' : Table} {c : Call} {number written : ℕ} (buffer : List.List ℕ) → Steps declared t c (Bytes []) t' number written (Bytes buffer)
+    → length buffer ≡ 0 → Steps declared t c (Bytes []) t' number written (Bytes [])
+empty_buffer [] s e = s
+empty_buffer (x ∷ l) s e = absurd (omega arith)
+
+-- what is told of the arrays of a table is told of the table (02, Card 5)
+pub tells_declared : (t : Table) {a : Arrays} {number stations : ℕ} → a ≡ taken_apart t → Tells lent a number stations → Tells declared t number stations
+unfolding taken_apart
+tells_declared t {a} {number} {stations} e s =
+    let r = subst (λ (u : Arrays). Tells lent u number stations) e s in record { number = r.number; count = r.count }
+
+-- whether it is refused tells whether it is well-formed
+pub told_formed : (t : Table) {number stations : ℕ} → Tells declared t number stations → eqb number 0 ≡ declared.well_formed t
+told_formed t s = ap (λ k. eqb k 0) s.number ∙ go (declared.well_formed t)
+  where
+    go : (b : Bool) → eqb (cond b 0 13) 0 ≡ b
+    go true = refl
+    go false = refl
+
 -- A CALL BEFORE IT IS WRITTEN
 
 -- the rows of a result, from its rows to its entries and back
@@ -120,11 +143,14 @@ module _ (t : Table) (w : Whole t) (c : Call) {a a' : Arrays} {h : Handed} (e : 
   pub hands_accepted : refusal_number h.refusal ≡ 0 → {t' : Table} → t' ≡ put_together a' → HandsEntries t c (unfilled t')
   hands_accepted z q = hands_with (accepted_table t w c e made z q)
 
--- with its report lines at the front of the buffer it is the step
+-- its report lines: there is room for them, and with them at the front of the buffer it is the step
 module _ {t : Table} {q : Request} (r : Unfilled) (b : List.List ℕ) (s : HandsEntries t (call_of q (Buffer (length b))) r) {rows : Rows}
     (f : rows ≡ rows_of r.entries) where
   abbrev k : ℕ
   k = r.outcome.reply.written
+
+  pub lines_ready : (k ≤ 32) × (Named k rows × (k * 29 ≤ length b))
+  lines_ready = (s.short, (subst (Named k) (sym f) s.named, leb-true (k * 29) (length b) s.room))
 
   pub lines_written : {n : ℕ} {b' : List.List ℕ} → n ≡ k * 29 → b' ≡ over (report_lines q.line 1 (entries_in k rows)) b
       → Steps declared t (call_of q (Buffer (length b))) (Bytes b) r.outcome.table (refusal_number r.outcome.reply.refusal) n (Bytes b')

@@ -11,9 +11,9 @@ pub scan_result-requires : goal.scan_result-requires
 scan_result-requires c =
     let s = c.requires in
     let order = s.listed c.in-SnapScan.is in record {
-  n_bound = (s.high, order.0);
-  by_index = order.1;
-}
+      n_bound = (s.high, order.0);
+      by_index = order.1;
+    }
 
 pub returns-in-Refused : goal.returns-in-Refused
 returns-in-Refused c = refused c.requires c.in-Refused.is refl

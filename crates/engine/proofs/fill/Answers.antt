@@ -1,5 +1,4 @@
 use mathlib.Core.Path.{◌≡◌, refl}
-use Prim.Native.Nat.{◌-◌, ◌≤◌}
 use native.Mathlib.Omega.{arith}
 use Rattle.basics.specs.Tests.{tabulate}
 use Rattle.simulation.specs.Calls.{panel_records}

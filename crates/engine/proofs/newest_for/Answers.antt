@@ -1,7 +1,4 @@
 use mathlib.Core.Path.{refl}
-use mathlib.Core.List.{[], ◌∷◌}
-use Rattle.moves.proofs.MoveLaws.{not_among}
-use Rattle.moves.specs.declared.Move.TheVariants.{SnapLabel}
 use Rattle.engine.proofs.newest_for.Goals as goal
 
 pub returns-in-SnapLabel : goal.returns-in-SnapLabel

@@ -1,7 +1,4 @@
 use mathlib.Core.Path.{refl}
-use mathlib.Core.List.{[], ◌∷◌}
-use Rattle.moves.proofs.MoveLaws.{not_among}
-use Rattle.moves.specs.declared.Move.TheVariants.{SnapScan}
 use Rattle.engine.proofs.order_for.Goals as goal
 
 pub returns-in-SnapScan : goal.returns-in-SnapScan

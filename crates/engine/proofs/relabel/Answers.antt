@@ -1,7 +1,4 @@
-use Prim.Native.Nat.{ℕ}
-use mathlib.Core.List.{List, [], ◌∷◌}
-use Rattle.moves.specs.declared.Move.TheVariants.{SnapLabel, Update}
-use Rattle.moves.proofs.MoveLaws.{not_among, step_stays}
+use Rattle.moves.proofs.MoveLaws.{step_stays}
 use Rattle.engine.proofs.Carried.{labels_stay, labels_snap, labels_update}
 use Rattle.engine.proofs.relabel.Goals as goal
 
@@ -9,10 +6,10 @@ use Rattle.engine.proofs.relabel.Goals as goal
 pub pending_by-requires : goal.pending_by-requires
 pending_by-requires c =
     let s = c.requires in record {
-  orderly = s.orderly;
-  z_value = s.is_newest c.in-SnapLabel.is;
-  k_lt_n = s.inside;
-}
+      orderly = s.orderly;
+      z_value = s.is_newest c.in-SnapLabel.is;
+      k_lt_n = s.inside;
+    }
 
 pub returns-in-SnapLabel : goal.returns-in-SnapLabel
 returns-in-SnapLabel c job =

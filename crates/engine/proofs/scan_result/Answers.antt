@@ -1,9 +1,6 @@
 use mathlib.Core.Path.{◌≡◌, ap, ◌∙◌}
-use mathlib.Core.Bool.{Bool, true, false}
-use Prim.Native.Nat.{◌-◌, ◌≤◌}
 use native.Mathlib.Omega.{arith}
 use lib.ListN.{get_or}
-use Rattle.simulation.specs.Machine.{shows}
 use Rattle.engine.specs.Scans.{found, scan_rows}
 use Rattle.engine.proofs.Scanned.{found_shows, none_yet, shown_next, struck_next}
 use borrow.Author.Rules.{rules}
@@ -32,11 +29,19 @@ pub loop-p-preserved : goal.loop-p-preserved
 loop-p-preserved c =
     let a = c.args in
     let f = c.loop-p.invariant.2 in
-    elim c.if-job-service.branch [ 
-      then-job-service x ↦ (search rules, omega arith, shown_next _ _ _ _ f (omega arith) (omega arith)
-          (found_shows a.jobs.now a.service.now (get_or a.order.now c.loop-p.p 0) x.if-job-service.true) x.rows-is x.k-is)
-    | else-job-service x ↦ (search rules, omega arith, struck_next _ _ _ _ f (omega arith)
-          (found_shows a.jobs.now a.service.now (get_or a.order.now c.loop-p.p 0) x.if-job-service.false) x.rows-is x.k-is)
+    elim c.if-job-service.branch [
+      | then-job-service x ↦ (
+        search rules,
+        omega arith,
+        shown_next _ _ _ _ f (omega arith) (omega arith)
+            (found_shows a.jobs.now a.service.now (get_or a.order.now c.loop-p.p 0) x.if-job-service.true) x.rows-is x.k-is,
+      )
+      | else-job-service x ↦ (
+        search rules,
+        omega arith,
+        struck_next _ _ _ _ f (omega arith)
+            (found_shows a.jobs.now a.service.now (get_or a.order.now c.loop-p.p 0) x.if-job-service.false) x.rows-is x.k-is,
+      )
     ]
 
 pub returns : goal.returns

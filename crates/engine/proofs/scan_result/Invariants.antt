@@ -1,4 +1,3 @@
-use mathlib.Core.Path.{◌≡◌, ◌∙◌}
 use Prim.Native.Nat.{◌-◌, ◌≤◌}
 use Rattle.engine.specs.Scans.{found}
 use Rattle.engine.proofs.Scanned.{Filled}

@@ -1,6 +1,6 @@
 use borrow.Rule.Slice.PartMut.{same_len_mid}
 use mathlib.Core.Path.{◌≡◌, refl, ap, ◌∙◌}
-use Prim.Native.Nat.{◌+◌, ◌*◌, ◌≤◌, ◌-◌}
+use Prim.Native.Nat.{◌+◌, ◌*◌, ◌-◌}
 use native.Mathlib.Omega.{arith}
 use lib.ListN.{length, take, length-take, length-drop}
 use Rattle.basics.specs.Tests.{tabulate}
@@ -18,10 +18,10 @@ loop-p-init c =
 pub write_scan_line-requires : goal.write_scan_line-requires
 write_scan_line-requires c =
     record {
-  out_len = simp (length-take, length-drop) (omega arith);
-  place_bound = omega arith;
-  station_bound = omega (arith, c.requires.named c.loop-p.p (omega arith));
-}
+      out_len = simp (length-take, length-drop) (omega arith);
+      place_bound = omega arith;
+      station_bound = omega (arith, c.requires.named c.loop-p.p (omega arith));
+    }
 
 pub loop-p-preserved : goal.loop-p-preserved
 loop-p-preserved c =
@@ -51,7 +51,6 @@ returns c =
     let written = c.write_head in
     let covered = head_covered lines written.new.out start.out.now (ap length written.ensures ∙ length_head _ _) (omega arith) in
     record {
-  value = refl;
-  out_after = rw e at l.invariant.3 ∙ covered;
-}
-
+      value = refl;
+      out_after = rw e at l.invariant.3 ∙ covered;
+    }

@@ -1,6 +1,6 @@
-use mathlib.Core.Path.{◌≡◌, refl, ap, ◌∙◌}
+use mathlib.Core.Path.{refl, ap, ◌∙◌}
 use mathlib.Core.List.{◌++◌}
-use Prim.Native.Nat.{◌+◌, ◌-◌, ◌≤◌}
+use Prim.Native.Nat.{◌+◌}
 use native.Mathlib.Omega.{arith}
 use lib.ListN.{get_or, take, set, length-set}
 use lib.Seq.{take_all}
@@ -33,9 +33,9 @@ returns c =
     let l = c.loop-i in
     let a = c.args in
     record {
-  value = refl;
-  out_after = λ _. l.invariant.3 ∙ ap (λ x. over (take a.at a.out.now ++ x) a.out.now) (take_all l.i a.bytes.now (omega arith));
-}
+      value = refl;
+      out_after = λ _. l.invariant.3 ∙ ap (λ x. over (take a.at a.out.now ++ x) a.out.now) (take_all l.i a.bytes.now (omega arith));
+    }
 
 pub overflow_add-end : goal.overflow_add-end
 overflow_add-end c = omega arith

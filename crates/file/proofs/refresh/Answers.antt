@@ -9,6 +9,6 @@ pub returns : goal.returns
 returns c =
     let fresh = c.refresh.ensures in
     record {
-  results_after = fresh;
-  runnable = fresh_runnable c.args.n c.requires.0 c.requires.1 fresh c.order.ensures;
-}
+      results_after = fresh;
+      runnable = fresh_runnable c.args.n c.requires.0 c.requires.1 fresh c.order.ensures;
+    }

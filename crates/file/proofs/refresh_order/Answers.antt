@@ -1,6 +1,3 @@
-use mathlib.Core.List.{[], ◌∷◌}
-use Rattle.moves.proofs.MoveLaws.{not_among}
-use Rattle.moves.specs.declared.Move.TheVariants.{Update}
 use Rattle.file.proofs.refresh_order.Goals as goal
 
 pub returns-in_default : goal.returns-in_default

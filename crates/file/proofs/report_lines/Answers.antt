@@ -76,9 +76,9 @@ pub returns-in-End : goal.returns-in-End
 returns-in-End c =
     let l = c.loop-out in
     record {
-  reports = sofar_end l.invariant.0 (inl (at_end _ _ _ (place_within l.invariant.0) _ c.next_call.ensures c.in-End.is));
-  runnable = l.invariant.1;
-}
+      reports = sofar_end l.invariant.0 (inl (at_end _ _ _ (place_within l.invariant.0) _ c.next_call.ensures c.in-End.is));
+      runnable = l.invariant.1;
+    }
 
 pub overflow_add-result-in-Refused : goal.overflow_add-result-in-Refused
 overflow_add-result-in-Refused c =
@@ -95,17 +95,17 @@ pub returns-in-Refused : goal.returns-in-Refused
 returns-in-Refused c =
     let l = c.loop-out in
     let told = c.print_refusal-k.ensures in record {
-  reports = sofar_stop l.invariant.0 (refused (goal.at.returns-in-Refused c).After-line_at-line).some c.if-out-written-lt-ROOM.false (run_passes l.invariant.1) _ c.line_at-line.ensures
+      reports = sofar_stop l.invariant.0 (refused (goal.at.returns-in-Refused c).After-line_at-line).some c.if-out-written-lt-ROOM.false (run_passes l.invariant.1) _ c.line_at-line.ensures
           (l.written + 928 - l.written) (omega arith) _ (refused (goal.at.returns-in-Refused c).After-line_at-line) told.value told.out_after;
-  runnable = l.invariant.1;
-}
+      runnable = l.invariant.1;
+    }
 
 pub serve_line-k-requires : goal.serve_line-k-requires
 serve_line-k-requires c =
     record {
-  runnable = c.loop-out.invariant.1;
-  out_len = simp (length-take, length-drop) (omega (arith, fits (goal.at.serve_line-k-requires c).In-Call));
-}
+      runnable = c.loop-out.invariant.1;
+      out_len = simp (length-take, length-drop) (omega (arith, fits (goal.at.serve_line-k-requires c).In-Call));
+    }
 
 pub overflow_add-written-in-Call-2 : goal.overflow_add-written-in-Call-2
 overflow_add-written-in-Call-2 c =

@@ -14,10 +14,10 @@ fits x = turn_fits x.requires.runnable x.take_turn-t.ensures.turns refl
 pub write_result-written-requires : goal.write_result-written-requires
 write_result-written-requires c =
     record {
-  k_bound = (fits (goal.at.write_result-written-requires c).After-take_turn-t).0;
-  named = c.take_turn-t.ensures.turns.hands.named;
-  k_in_bounds = omega (arith, (fits (goal.at.write_result-written-requires c).After-take_turn-t).1, c.requires.out_len);
-}
+      k_bound = (fits (goal.at.write_result-written-requires c).After-take_turn-t).0;
+      named = c.take_turn-t.ensures.turns.hands.named;
+      k_in_bounds = omega (arith, (fits (goal.at.write_result-written-requires c).After-take_turn-t).1, c.requires.out_len);
+    }
 
 pub overflow_add-result : goal.overflow_add-result
 overflow_add-result c =
@@ -30,6 +30,6 @@ returns c =
     let wrote = c.write_result-written.ensures in
     let told = c.print_refusal.ensures in
     record {
-  prints = turn_prints c.requires.runnable c.take_turn-t.ensures.turns refl wrote.value wrote.out_after told.value told.out_after;
-  runnable_2 = c.take_turn-t.ensures.runnable;
-}
+      prints = turn_prints c.requires.runnable c.take_turn-t.ensures.turns refl wrote.value wrote.out_after told.value told.out_after;
+      runnable_2 = c.take_turn-t.ensures.runnable;
+    }

@@ -6,7 +6,7 @@ pub returns : goal.returns
 returns c =
     let fresh = c.refresh.ensures in
     record {
-  value = refl;
-  results_after = fresh.results_after;
-  underway = record { runnable = fresh.runnable; few = λ _. omega arith; fresh = λ _. fresh.results_after };
-}
+      value = refl;
+      results_after = fresh.results_after;
+      underway = record { runnable = fresh.runnable; few = λ _. omega arith; fresh = λ _. fresh.results_after };
+    }

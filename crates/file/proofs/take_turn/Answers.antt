@@ -12,11 +12,11 @@ refresh_order-requires c =
     let j = c.judge-task.ensures in
     let g = c.carry_out-h.ensures in
     record {
-  orderly = line_orderly f j g;
-  place_lt_n = line_place f j;
-  ordered_before = line_before f j g;
-  order_value = line_kept f j g;
-}
+      orderly = line_orderly f j g;
+      place_lt_n = line_place f j;
+      ordered_before = line_before f j g;
+      order_value = line_kept f j g;
+    }
 
 pub returns : goal.returns
 returns c =
@@ -24,6 +24,6 @@ returns c =
     let j = c.judge-task.ensures in
     let g = c.carry_out-h.ensures in
     record {
-  turns = line_turned f j g;
-  runnable = line_runnable f j g c.refresh_order.ensures;
-}
+      turns = line_turned f j g;
+      runnable = line_runnable f j g c.refresh_order.ensures;
+    }

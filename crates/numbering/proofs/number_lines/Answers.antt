@@ -1,4 +1,3 @@
-use Prim.Native.Nat.{◌-◌}
 use native.Mathlib.Omega.{arith}
 use mathlib.Core.Path.{refl}
 use Rattle.schedule.proofs.Places.{StepAt, at_end, at_refused, at_call, calls_none, calls_refused}
@@ -44,11 +43,11 @@ number_line-count-requires c =
     let l = c.loop-request in
     let room = step_room l.invariant.0 (here (goal.at.number_line-count-requires c).In-Call) in
     record {
-  runnable = l.invariant.1;
-  count_in_bounds = room.1;
-  count_in_bounds_2 = (room.0, room.2);
-  counted = l.invariant.0.counted;
-}
+      runnable = l.invariant.1;
+      count_in_bounds = room.1;
+      count_in_bounds_2 = (room.0, room.2);
+      counted = l.invariant.0.counted;
+    }
 
 pub loop-request-preserved : goal.loop-request-preserved
 loop-request-preserved c =

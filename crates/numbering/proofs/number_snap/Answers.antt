@@ -13,10 +13,10 @@ pub place_number-requires : goal.place_number-requires
 place_number-requires c =
     let a = c.args in
     record {
-  k_bound = search rules;
-  counted = c.requires.counted;
-  s_bound = omega (arith, slot_low c.requires.counted.beside a.n a.rows.now a.z a.k c.slot_of-s.ensures);
-}
+      k_bound = search rules;
+      counted = c.requires.counted;
+      s_bound = omega (arith, slot_low c.requires.counted.beside a.n a.rows.now a.z a.k c.slot_of-s.ensures);
+    }
 
 pub returns : goal.returns
 returns c =

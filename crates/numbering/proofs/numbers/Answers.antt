@@ -1,4 +1,4 @@
-use mathlib.Core.Path.{◌≡◌, sym, ◌∙◌}
+use mathlib.Core.Path.{◌≡◌, sym}
 use mathlib.Core.Logic.{◌≢◌}
 use lib.ListN.{length}
 use Rattle.moves.specs.Moves.{refusal_number}
@@ -45,10 +45,10 @@ pub number_lines-written-requires : goal.number_lines-written-requires
 number_lines-written-requires c =
     let z = going (goal.at.number_lines-written-requires c).Else-refuses in
     record {
-  le_n = original_stations _ _ (accepted (goal.at.number_lines-written-requires c).After-from-rest);
-  rest_in_bounds = lines_room c.args.file.now c.args.list.now c.line_at-header.ensures (accepted (goal.at.number_lines-written-requires c).After-from-rest)
+      le_n = original_stations _ _ (accepted (goal.at.number_lines-written-requires c).After-from-rest);
+      rest_in_bounds = lines_room c.args.file.now c.args.list.now c.line_at-header.ensures (accepted (goal.at.number_lines-written-requires c).After-from-rest)
           c.from-rest.ensures (surveyed (goal.at.number_lines-written-requires c).After-refusal_of-refusal) (judged (goal.at.number_lines-written-requires c).After-refusal_of-refusal) z;
-}
+    }
 
 pub returns-in-Refused : goal.returns-in-Refused
 returns-in-Refused c =

@@ -32,9 +32,9 @@ pub bump-requires : goal.bump-requires
 bump-requires c =
     let pre = c.requires in
     record {
-  n_in_bounds = omega (arith, pre.k_bound.1);
-  by_index = λ i h. omega (arith, pre.k_bound.2, pre.counted.given i h);
-}
+      n_in_bounds = omega (arith, pre.k_bound.1);
+      by_index = λ i h. omega (arith, pre.k_bound.2, pre.counted.given i h);
+    }
 
 pub returns-in-Shared : goal.returns-in-Shared
 returns-in-Shared c =

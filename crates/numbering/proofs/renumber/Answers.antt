@@ -1,9 +1,6 @@
-use Prim.Native.Nat.{ℕ}
 use native.Mathlib.Omega.{arith}
 use mathlib.Core.Path.{refl}
-use mathlib.Core.List.{List, [], ◌∷◌}
-use Rattle.moves.specs.declared.Move.TheVariants.{SnapLabel, Update}
-use Rattle.moves.proofs.MoveLaws.{not_among, step_stays}
+use Rattle.moves.proofs.MoveLaws.{step_stays}
 use Rattle.arrays.proofs.Planes.{planes_copied}
 use Rattle.numbering.proofs.Kept.{none_given}
 use Rattle.numbering.proofs.renumber.Goals as goal

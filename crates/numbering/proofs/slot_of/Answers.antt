@@ -1,4 +1,3 @@
-use Prim.Native.Nat.{◌-◌, ◌≤◌}
 use native.Mathlib.Omega.{arith}
 use mathlib.Core.Path.{◌∙◌}
 use Rattle.numbering.proofs.Slots.{searched_first, searched_own, apart_inside, searched_other, slot_shared, slot_after}
@@ -19,16 +18,16 @@ higher-highest-requires c =
     let at = c.loop-i in
     let l = apart_inside _ _ _ _ _ at.invariant.1 c.if-i-k.true c.first_difference-p.ensures c.if-p-m.false in
     record {
-  p_bound = omega arith;
-  digit = (c.requires.by_index _ (omega arith) _ l, c.requires.by_index _ c.requires.k_lt_n.0 _ l);
-}
+      p_bound = omega arith;
+      digit = (c.requires.by_index _ (omega arith) _ l, c.requires.by_index _ c.requires.k_lt_n.0 _ l);
+    }
 
 pub loop-i-preserved : goal.loop-i-preserved
 loop-i-preserved c =
     let s = c.loop-i.invariant.1 in
     elim c.if-i-k.branch [
-      then-i-k+else-p-m w ↦ (search rules, searched_other _ _ _ _ _ s w.if-i-k.true w.first_difference-p.ensures w.if-p-m.false (w.highest-is ∙ w.higher-highest.ensures))
-    | else-i-k w ↦ (search rules, searched_own _ _ _ _ _ s w.if-i-k.false w.highest-is)
+      | then-i-k+else-p-m w ↦ (search rules, searched_other _ _ _ _ _ s w.if-i-k.true w.first_difference-p.ensures w.if-p-m.false (w.highest-is ∙ w.higher-highest.ensures))
+      | else-i-k w ↦ (search rules, searched_own _ _ _ _ _ s w.if-i-k.false w.highest-is)
     ]
 
 pub returns : goal.returns
