@@ -35,6 +35,7 @@ struct Progress {
 }
 
 // Writes the refusal line that bears the number `line` to the front of `out`, and nothing for no refusal; hands back its bytes.
+#[tactic(auto, using(schedule::proofs::Runs::printed_accepted, schedule::proofs::Runs::printed_refused))]
 pub fn print_refusal(line: u64, refusal: Refusal, out: &mut [u8]) -> usize
     requires { 29 ≤ length out.old }
     ensures value { result ≡ length (printed line (refusal_number refusal) []) }
