@@ -16,7 +16,7 @@ use streams::Opened;
 use unbounded::Numbers;
 
 // A right log has at most 4,096 numbers, of 12 bytes each; the buffer holds one byte more, and what fills it is no lines of numbers, whatever was cut off
-// (`numbers-long` in logs/proofs/Files.antt).
+// (`numbers_long` in logs/proofs/Files.antt).
 const NUMBERS: usize = 49153;
 
 // The report is read in parts of so many bytes.

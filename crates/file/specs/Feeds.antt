@@ -55,7 +55,7 @@ pub record Underway (run : Run) (a : Arrays) (order : Lists.List ℕ) : Type 0 w
   pub few : refusal_number run.refusal ≡ 0 → run.lines ≤ 1000001
   pub fresh : awaits (run_session run a) ≡ true → a ≡ fresh_table lent 2
 
--- a part, lent to the run: the whole outcome (proved unique: FeedLaws, `feeds-one`). The lines served leave the run and print the bytes. Before each of them
+-- a part, lent to the run: the whole outcome (proved unique: FeedLaws, `feeds_one`). The lines served leave the run and print the bytes. Before each of them
 -- none was refused for good and there was room for 928 bytes. `more` tells that another could be served, for which there is no room.
 pub record Feeds (run : Run) (a : Arrays) (last : Bool) (part : Lists.List ℕ) (r : Fed) (a' : Arrays) (buffer buffer' : Lists.List ℕ) : Type 0 where
   pub served : ℕ

@@ -1,5 +1,5 @@
 // Reading a schedule, for programs that serve at most 4,096 step lines and refuse a longer file before any step is run. What is told of a file is decided by
-// functions of its bytes; only the reads stand outside them.
+// functions of its bytes, and `read_schedule` tells that of the bytes of its reader, where they are known.
 #![tactic(auto)]
 
 ghost use Rattle.std.specs.Prelude.{◌≡◌, [], ◌++◌, length, IfSome};

@@ -1,7 +1,7 @@
 use borrow.Author.Tests.{eq-eqb, ne_eqb}
 use Rattle.arrays.proofs.phase_of.Goals as goal
 
--- Each test is one of those by which `phaseFor` decides.
+-- Each test is one of those by which `phase_for` decides.
 pub returns-then-b-eq-IDLE : goal.returns-then-b-eq-IDLE
 returns-then-b-eq-IDLE c = simp (eq-eqb _ _ c.if-b-eq-IDLE.true)
 
