@@ -23,6 +23,33 @@ pub type Control = [[u8; 32]; 2];
 // The stations, from 1, and the jobs of each station's scan result.
 pub type Results = [[[u32; 32]; 2]; 32];
 
+// The four arrays of a table in one value, with labels or with numbers. Their types are parameters, since the prover does not follow a literal with arrays of
+// arrays in its fields.
+#[derive(Clone, Copy)]
+pub struct Parts<L, J, C, R> {
+    pub labels: L,
+    pub jobs: J,
+    pub control: C,
+    pub results: R,
+}
+
+impl<L: Copy + Drop, J: Copy + Drop, C: Copy + Drop, R: Copy + Drop> Parts<L, J, C, R> {
+    // These four.
+    pub fn of(labels: L, jobs: J, control: C, results: R) -> Self
+        ensures { result ≡ record { labels = labels; jobs = jobs; control = control; results = results } }
+    {
+        Parts {
+            labels,
+            jobs,
+            control,
+            results,
+        }
+    }
+}
+
+// The four arrays of a table of labels.
+pub type LabelParts = Parts<Labels, Jobs, Control, Results>;
+
 // The planes of what is current and of what is pending.
 pub const CURRENT: usize = 0;
 

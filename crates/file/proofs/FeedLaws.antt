@@ -278,7 +278,7 @@ unfolding file_run cut
 run_started bs = refl
 
 pub fed_file : (bs : Lists.List ℕ) (xs : Lists.List Feeding) (final : Run)
-    → FedBy (record { lines = 0; count = 2; refusal = Accepted }) (fresh_table lent 2) bs xs → Ends xs final
+    → FedBy (record { lines = 0; refusal = Accepted }) (fresh_table lent 2) bs xs → Ends xs final
     → (file_report (tables lent) bs ≡ output xs) × (file_refusal (tables lent) bs ≡ refusal_number final.refusal)
 fed_file bs xs final f e =
     let h = fed_runs xs _ _ bs final f e in

@@ -75,7 +75,7 @@ pub record Gathered (file out₀ : Lists.List ℕ) (run : Run) (a : Arrays) (lon
   pub area : long ≤ length out₀ → out ≡ over bytes out₀
   pub runs : file_run (tables lent) file ≡ behind bytes (ahead (run_session run a) (drop at file))
 
-pub gathered_start : (file out : Lists.List ℕ) {run : Run} {a : Arrays} → run ≡ record { lines = 0; count = 2; refusal = Accepted } → a ≡ fresh_table lent 2
+pub gathered_start : (file out : Lists.List ℕ) {run : Run} {a : Arrays} → run ≡ record { lines = 0; refusal = Accepted } → a ≡ fresh_table lent 2
     → Gathered file out run a 0 0 out
 gathered_start file out {run} {a} e q = record {
   within = omega arith;

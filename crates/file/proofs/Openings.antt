@@ -132,7 +132,7 @@ module _ (run : Run) (a : Arrays) (last : Bool) (part buffer : Lists.List ℕ) w
       (fresh : awaits (run_session run a) ≡ true → a ≡ fresh_table lent 2) where
     pub feeds_refused : {x : Refusal} {l : Lists.List ℕ} {w : ℕ} {buffer' : Lists.List ℕ} → header_read original (take 18 part) ≡ Headers.Refused x → l ≡ take 18 part
         → let told = printed 1 (refusal_number x) [] in w ≡ length told → buffer' ≡ over told buffer
-        → Feeds run a last part (record { run = record { lines = 0; count = run.count; refusal = x }; read = length l; written = w; more = false }) a
+        → Feeds run a last part (record { run = record { lines = 0; refusal = x }; read = length l; written = w; more = false }) a
         buffer buffer'
     unfolding cut run_lines
     feeds_refused {x} h e p q =
@@ -221,9 +221,9 @@ module _ {run : Run} {a : Arrays} {part : Lists.List ℕ} {lines at : ℕ} {a₁
         (λ l. le-ltb (at + p.read) end (omega (arith, l))
         ∙ sym (le-ltb (h + k) (ready (run_session run a) last part) (omega (arith, due, l, lines_within))))
 
-    pub feeds_lines : (n : ℕ) → 928 ≤ length buffer → Feeds run a last part (fed_of n at p end) a' buffer buffer'
+    pub feeds_lines : 928 ≤ length buffer → Feeds run a last part (fed_of at p end) a' buffer buffer'
     unfolding cut
-    feeds_lines n room = record {
+    feeds_lines room = record {
       served = h + k;
       most = omega (arith, due, g.whole, long);
       read = ⊎_elim (λ q. omega (arith, g.whole, long, q, f.place, lines_within)) (λ q. omega (arith, g.whole, long, q.1, f.place, lines_within)) ends;
@@ -256,8 +256,8 @@ module _ {run : Run} {a : Arrays} {part : Lists.List ℕ} {lines at : ℕ} {a₁
             (⊎_elim (λ q. absurd (omega (arith, q, long, ltb-true (at + p.read) end t.1))) (λ l. l)) g.stops
 
     -- and the run that is left
-    pub underway_lines : (n : ℕ) {order : Lists.List ℕ} → Runnable a' order → Underway (record { lines = p.lines; count = n; refusal = p.refusal }) a' order
-    underway_lines n x = record {
+    pub underway_lines : {order : Lists.List ℕ} → Runnable a' order → Underway (record { lines = p.lines; refusal = p.refusal }) a' order
+    underway_lines x = record {
       runnable = x;
       few = λ z. (g.counted z).1 f.few.1;
       fresh = λ w. absurd (true≢false (sym w ∙ opened));
@@ -271,8 +271,8 @@ module _ {run : Run} {a : Arrays} {part : Lists.List ℕ} {lines at : ℕ} {a₁
             (λ z. lines_opened left (λ e. f.few.0 (omega (arith, (g.counted z).0, e))))
             (λ n. refused_opened left n)
 
-pub underway_refused : {run : Run} {a : Arrays} {order : Lists.List ℕ} → Underway run a order → (n : ℕ) (l : Lists.List ℕ) (x : Refusal)
-    → header_read original l ≡ Headers.Refused x → Underway (record { lines = 0; count = n; refusal = x }) a order
-underway_refused {a = a} f n l x h =
+pub underway_refused : {run : Run} {a : Arrays} {order : Lists.List ℕ} → Underway run a order → (l : Lists.List ℕ) (x : Refusal)
+    → header_read original l ≡ Headers.Refused x → Underway (record { lines = 0; refusal = x }) a order
+underway_refused {a = a} f l x h =
     let d = header_refused original l x h in
     record { runnable = f.runnable; few = λ z. absurd (d z); fresh = λ w. absurd (true≢false (sym w ∙ refused_opened (session 0 x a) d)) }

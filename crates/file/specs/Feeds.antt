@@ -106,9 +106,9 @@ output (x ∷ xs) = take x.fed.written x.buffer' ++ output xs
 -- FOR THE CODE OF ONE PART
 
 -- what is told of a part whose lines were served from one place up to another
-abbrev pub fed_of : ℕ → ℕ → Progress → ℕ → Fed
-fed_of n at r end = record {
-  run = record { lines = r.lines; count = n; refusal = r.refusal };
+abbrev pub fed_of : ℕ → Progress → ℕ → Fed
+fed_of at r end = record {
+  run = record { lines = r.lines; refusal = r.refusal };
   read = at + r.read;
   written = r.written;
   more = eqb (refusal_number r.refusal) 0 && ltb (at + r.read) end;
@@ -126,10 +126,10 @@ pub record Opened (run : Run) (a : Arrays) (part : Lists.List ℕ) (lines at : �
   pub runs : (k : ℕ) → run_from (run_session run a) (cut (header + k) part) ≡ run_lines (tables lent) (session lines Accepted a') (cut k (drop at part))
 
 -- how a part starts: with nothing that can be served, with a header that is refused, or with lines
-abbrev pub Opens : Run → Arrays → Bool → Lists.List ℕ → (ℕ → Arrays) → Lists.List ℕ → Opening → Type 0
+abbrev pub Opens : Run → Arrays → Bool → Lists.List ℕ → Arrays → Lists.List ℕ → Opening → Type 0
 Opens run a last part left order Nothing =
-    (left run.count ≡ a) × Underway run a order × ((eqb (refusal_number run.refusal) 0 && ltb 0 (ready (run_session run a) last part)) ≡ false)
+    (left ≡ a) × Underway run a order × ((eqb (refusal_number run.refusal) 0 && ltb 0 (ready (run_session run a) last part)) ≡ false)
 Opens run a last part left order (Refused x) =
-    (left run.count ≡ a) × Underway run a order × (awaits (run_session run a) ≡ true) × (0 < ready (run_session run a) last part)
+    (left ≡ a) × Underway run a order × (awaits (run_session run a) ≡ true) × (0 < ready (run_session run a) last part)
     × (header_read original (take 18 part) ≡ Headers.Refused x)
-Opens run a last part left order (Lines lines n at) = Opened run a part lines at (left n) × Runnable (left n) order
+Opens run a last part left order (Lines lines at) = Opened run a part lines at left × Runnable left order

@@ -8,21 +8,29 @@ ghost use Rattle.transition.specs.Forms.{over, fresh_table};
 ghost use Rattle.moves.specs.Moves.{refusal_number, call_of};
 ghost use Rattle.moves.specs.declared.Refusal.TheVariants.{Accepted};
 ghost use Rattle.moves.specs.declared.Move.TheVariants.{Update};
-ghost use Rattle.arrays.specs.Arrays.{arrays};
 ghost use Rattle.arrays.specs.Form.{lent};
 ghost use Rattle.engine.specs.Scans.{order_of};
 ghost use Rattle.schedule.specs.Sessions.{session};
 ghost use Rattle.schedule.specs.Files.{printed};
+ghost use Rattle.file.specs.Tables.{held};
 ghost use Rattle.file.specs.Clauses.{Runnable, Turns, Prints, Reports, RunsFile, ReportsFile};
 ghost use Rattle.file.specs.Feeds.{Underway, Feeds, fed_of, Opens};
 
-use arrays::{Control, Jobs, Labels, Results};
+use arrays::{CURRENT, LabelParts, Parts};
 use engine::Handed;
 use moves::{Move, Refusal, Request, Room};
 use schedule::{Header, Next};
 
 // The most bytes that a line prints: 32 report lines of 29.
 const ROOM: usize = 928;
+
+// A table that a file's lines are served on: how many stations it has, their scan order, and its arrays.
+#[derive(Clone, Copy)]
+pub struct OrderedTable {
+    pub count: usize,
+    pub order: [usize; 32],
+    pub parts: LabelParts,
+}
 
 // What lines leave beside the table and the output buffer: how many lines are counted, the final refusal if there is one, the
 // bytes of the part that were read, and the bytes that were printed.
@@ -75,25 +83,34 @@ pub struct Turn {
 }
 
 // Serves a step call, up to what is written of it, and brings the scan order up to date.
-pub fn take_turn(
-    n: usize,
-    request: Request,
-    order: &mut [usize; 32],
-    labels: &mut Labels,
-    jobs: &mut Jobs,
-    control: &mut Control,
-    results: &mut Results,
-) -> Turn
-    requires { Runnable (arrays n labels.old jobs.old control.old results.old) order.old }
-    ensures turns { Turns (arrays n labels.old jobs.old control.old results.old) (call_of request (Buffer 928))
-        (arrays n labels.new jobs.new control.new results.new) result }
-    ensures runnable { Runnable (arrays n labels.new jobs.new control.new results.new) order.new }
+pub fn take_turn(request: Request, table: &mut OrderedTable) -> Turn
+    requires { Runnable (held table.old) table.old.order }
+    ensures turns { Turns (held table.old) (call_of request (Buffer 928))
+        (held table.new) result }
+    ensures runnable { Runnable (held table.new) table.new.order }
 {
-    let top = order[n - 1];
-    let task = engine::judge(n, request, control, results, Room::Buffer(ROOM), top);
-    let h = engine::carry_out(n, task, order, labels, jobs, control, results);
+    let n = table.count;
+    let top = table.order[n - 1];
+    let task = engine::judge(
+        n,
+        request,
+        &table.parts.control,
+        &table.parts.results,
+        Room::Buffer(ROOM),
+        top,
+    );
+    let h = engine::carry_out(
+        n,
+        task,
+        &table.order,
+        &mut table.parts.labels,
+        &mut table.parts.jobs,
+        &mut table.parts.control,
+        &mut table.parts.results,
+    );
     let m = task.action;
-    refresh_order(m, task.place, &labels[0], n, order);
+    let parts = &table.parts;
+    refresh_order(m, task.place, &parts.labels[CURRENT], n, &mut table.order);
     Turn {
         action: m,
         newest: top,
@@ -102,49 +119,35 @@ pub fn take_turn(
 }
 
 // Serves a step line: prints its report or its refusal to the front of `out`, and hands back its bytes.
-fn serve_line(
-    n: usize,
-    request: Request,
-    order: &mut [usize; 32],
-    labels: &mut Labels,
-    jobs: &mut Jobs,
-    control: &mut Control,
-    results: &mut Results,
-    out: &mut [u8],
-) -> usize
-    requires runnable { Runnable (arrays n labels.old jobs.old control.old results.old) order.old }
+fn serve_line(request: Request, table: &mut OrderedTable, out: &mut [u8]) -> usize
+    requires runnable { Runnable (held table.old) table.old.order }
     requires out_len { length out.old ≡ 928 }
-    ensures prints { Prints (arrays n labels.old jobs.old control.old results.old)
+    ensures prints { Prints (held table.old)
         (call_of request (Buffer 928)) out.old
-        (arrays n labels.new jobs.new control.new results.new) result out.new }
-    ensures runnable_2 { Runnable (arrays n labels.new jobs.new control.new results.new) order.new }
+        (held table.new) result out.new }
+    ensures runnable_2 { Runnable (held table.new) table.new.order }
 {
-    let t = take_turn(n, request, order, labels, jobs, control, results);
+    let t = take_turn(request, table);
     let handed = t.handed;
     let refusal = handed.refusal;
     let place = handed.place;
-    let written = engine::write_result(&results[place], handed.entries, request.line, out);
+    let written = engine::write_result(
+        &table.parts.results[place],
+        handed.entries,
+        request.line,
+        out,
+    );
     written + print_refusal(request.line, refusal, out)
 }
 
 // Serves the lines of a part of the file after `lines` others, and writes what they print: up to a final refusal, or until there is no room for the report
 // of another line.
-fn report_lines(
-    lines: u32,
-    n: usize,
-    order: &mut [usize; 32],
-    labels: &mut Labels,
-    jobs: &mut Jobs,
-    control: &mut Control,
-    results: &mut Results,
-    chunk: &[u8],
-    out: &mut [u8],
-) -> Progress
-    requires { Runnable (arrays n labels.old jobs.old control.old results.old) order.old }
+fn report_lines(lines: u32, table: &mut OrderedTable, chunk: &[u8], out: &mut [u8]) -> Progress
+    requires { Runnable (held table.old) table.old.order }
     ensures reports { Reports
-        (session lines Accepted (arrays n labels.old jobs.old control.old results.old)) chunk.now
-        (arrays n labels.new jobs.new control.new results.new) result out.old out.new }
-    ensures runnable { Runnable (arrays n labels.new jobs.new control.new results.new) order.new }
+        (session lines Accepted (held table.old)) chunk.now
+        (held table.new) result out.old out.new }
+    ensures runnable { Runnable (held table.new) table.new.order }
 {
     let mut count = lines;
     let mut written = 0;
@@ -179,16 +182,7 @@ fn report_lines(
                 };
             }
             Next::Call(request) => {
-                let k = serve_line(
-                    n,
-                    request,
-                    order,
-                    labels,
-                    jobs,
-                    control,
-                    results,
-                    &mut out[written..written + ROOM],
-                );
+                let k = serve_line(request, table, &mut out[written..written + ROOM]);
                 count += 1;
                 written += k;
                 at += 18;
@@ -197,11 +191,10 @@ fn report_lines(
     }
 }
 
-// A file in its run: how many lines are counted, 0 before the header; how many stations its table has; and its final refusal, if there is one.
+// A file in its run: how many lines are counted, 0 before the header; and its final refusal, if there is one.
 #[derive(Clone, Copy)]
 pub struct Run {
     pub lines: u32,
-    pub count: usize,
     pub refusal: Refusal,
 }
 
@@ -215,42 +208,44 @@ pub struct Fed {
     pub more: bool,
 }
 
-// Writes the fresh table of n stations, and its scan order.
-fn refresh(
-    n: usize,
-    order: &mut [usize; 32],
-    labels: &mut Labels,
-    jobs: &mut Jobs,
-    control: &mut Control,
-    results: &mut Results,
-)
+// The fresh table of n stations, with its scan order.
+fn fresh(n: usize) -> OrderedTable
     requires { (2 ≤ n) × (n ≤ 32) }
-    ensures results_after { arrays n labels.new jobs.new control.new results.new ≡ fresh_table lent n }
-    ensures runnable { Runnable (arrays n labels.new jobs.new control.new results.new) order.new }
+    ensures value { held result ≡ fresh_table lent n }
+    ensures runnable { Runnable (held result) result.order }
 {
-    arrays::refresh(n, labels, jobs, control, results);
-    *order = rows::order::order(&labels[0], n);
+    let mut parts = Parts::of(
+        [[[0; 31]; 32]; 2],
+        [[0; 32]; 2],
+        [[0; 32]; 2],
+        [[[0; 32]; 2]; 32],
+    );
+    arrays::refresh(
+        n,
+        &mut parts.labels,
+        &mut parts.jobs,
+        &mut parts.control,
+        &mut parts.results,
+    );
+    let order = rows::order::order(&parts.labels[CURRENT], n);
+    OrderedTable {
+        count: n,
+        order,
+        parts,
+    }
 }
 
-// A run before its first line.
-pub fn start(
-    order: &mut [usize; 32],
-    labels: &mut Labels,
-    jobs: &mut Jobs,
-    control: &mut Control,
-    results: &mut Results,
-) -> Run
-    ensures value { result ≡ record { lines = 0; count = 2; refusal = Accepted } }
-    ensures results_after { arrays result.count labels.new jobs.new control.new results.new ≡ fresh_table lent 2 }
-    ensures underway { Underway result (arrays result.count labels.new jobs.new control.new results.new)
-        order.new }
+// A run before its first line, and its table.
+pub fn start() -> (Run, OrderedTable)
+    ensures run_value { result.0 ≡ record { lines = 0; refusal = Accepted } }
+    ensures table_value { held result.1 ≡ fresh_table lent 2 }
+    ensures underway { Underway result.0 (held result.1) result.1.order }
 {
-    refresh(2, order, labels, jobs, control, results);
-    Run {
+    let run = Run {
         lines: 0,
-        count: 2,
         refusal: Refusal::Accepted,
-    }
+    };
+    (run, fresh(2))
 }
 
 // Where the lines of a part end that can be served: behind the whole ones, and at the end of the last part.
@@ -264,15 +259,14 @@ fn end_of(len: usize, last: bool) -> usize
 }
 
 // What a part leaves whose lines were served from one place up to another.
-fn fed_by(n: usize, at: usize, r: Progress, end: usize) -> Fed
+fn fed_by(at: usize, r: Progress, end: usize) -> Fed
     requires { at + r.read ≤ end }
-    ensures { result ≡ fed_of n at r end }
+    ensures { result ≡ fed_of at r end }
 {
     let refusal = r.refusal;
     Fed {
         run: Run {
             lines: r.lines,
-            count: n,
             refusal,
         },
         read: at + r.read,
@@ -281,29 +275,19 @@ fn fed_by(n: usize, at: usize, r: Progress, end: usize) -> Fed
     }
 }
 
-// How a part starts: with nothing that can be served, with a header that is refused, or with lines behind `lines` others, from a place on, on a table of
-// `count` stations.
+// How a part starts: with nothing that can be served, with a header that is refused, or with lines behind `lines` others, from a place on, on.
 #[derive(Clone, Copy)]
 enum Opening {
     Nothing,
     Refused(Refusal),
-    Lines { lines: u32, count: usize, at: usize },
+    Lines { lines: u32, at: usize },
 }
 
 // Reads the header where it is still to come, and writes the fresh table of its stations.
-fn open_part(
-    run: Run,
-    last: bool,
-    order: &mut [usize; 32],
-    labels: &mut Labels,
-    jobs: &mut Jobs,
-    control: &mut Control,
-    results: &mut Results,
-    part: &[u8],
-) -> Opening
-    requires { Underway run (arrays run.count labels.old jobs.old control.old results.old) order.old }
-    ensures { Opens run (arrays run.count labels.old jobs.old control.old results.old) last
-        part.now (λ n. arrays n labels.new jobs.new control.new results.new) order.new result }
+fn open_part(run: Run, last: bool, table: &mut OrderedTable, part: &[u8]) -> Opening
+    requires { Underway run (held table.old) table.old.order }
+    ensures { Opens run (held table.old) last
+        part.now (held table.new) table.new.order result }
 {
     let refusal = run.refusal;
     if refusal.refuses() {
@@ -312,7 +296,6 @@ fn open_part(
     if run.lines != 0 {
         return Opening::Lines {
             lines: run.lines,
-            count: run.count,
             at: 0,
         };
     }
@@ -322,50 +305,25 @@ fn open_part(
     match schedule::read_header(schedule::line_at(part, 0)) {
         Header::Refused(refusal) => Opening::Refused(refusal),
         Header::Stations(n) => {
-            refresh(n, order, labels, jobs, control, results);
-            Opening::Lines {
-                lines: 1,
-                count: n,
-                at: 18,
-            }
+            *table = fresh(n);
+            Opening::Lines { lines: 1, at: 18 }
         }
     }
 }
 
-// The number of stations as it is. The compiler is told that there are two at least, which saves the loops over them a test and a copy.
-fn stations(n: usize) -> usize
-    requires { 2 ≤ n }
-    ensures { result ≡ n }
-{
-    if n < 2 {
-        return 2;
-    }
-    n
-}
-
 // Serves a part of the file, the header first where it is still to come, and writes what the lines print. What is left unread of the part, a line that is
 // not whole or lines for whose report there is no room, stands at the front of the next one.
-pub fn feed(
-    run: Run,
-    last: bool,
-    order: &mut [usize; 32],
-    labels: &mut Labels,
-    jobs: &mut Jobs,
-    control: &mut Control,
-    results: &mut Results,
-    part: &[u8],
-    out: &mut [u8],
-) -> Fed
-    requires underway { Underway run (arrays run.count labels.old jobs.old control.old results.old) order.old }
+pub fn feed(run: Run, last: bool, table: &mut OrderedTable, part: &[u8], out: &mut [u8]) -> Fed
+    requires underway { Underway run (held table.old) table.old.order }
     requires in_bounds { 928 ≤ length out.old }
-    ensures feeds { Feeds run (arrays run.count labels.old jobs.old control.old results.old) last
-        part.now result (arrays result.run.count labels.new jobs.new control.new results.new)
+    ensures feeds { Feeds run (held table.old) last
+        part.now result (held table.new)
         out.old out.new }
-    ensures underway_2 { Underway result.run (arrays result.run.count labels.new jobs.new control.new results.new)
-        order.new }
+    ensures underway_2 { Underway result.run (held table.new)
+        table.new.order }
 {
     let end = end_of(part.len(), last);
-    match open_part(run, last, order, labels, jobs, control, results, part) {
+    match open_part(run, last, table, part) {
         Opening::Nothing => Fed {
             run,
             read: 0,
@@ -376,30 +334,15 @@ pub fn feed(
             let header = schedule::line_at(part, 0);
             let written = print_refusal(1, refusal, out);
             Fed {
-                run: Run {
-                    lines: 0,
-                    count: run.count,
-                    refusal,
-                },
+                run: Run { lines: 0, refusal },
                 read: header.len(),
                 written,
                 more: false,
             }
         }
-        Opening::Lines { lines, count, at } => {
-            let n = stations(count);
-            let r = report_lines(
-                lines,
-                n,
-                order,
-                labels,
-                jobs,
-                control,
-                results,
-                &part[at..end],
-                out,
-            );
-            fed_by(n, at, r, end)
+        Opening::Lines { lines, at } => {
+            let r = report_lines(lines, table, &part[at..end], out);
+            fed_by(at, r, end)
         }
     }
 }
@@ -433,18 +376,7 @@ struct Ending {
 fn run_file(file: &[u8], out: &mut [u8]) -> Ending
     ensures { RunsFile file.now result out.old out.new }
 {
-    let mut order = [0usize; 32];
-    let mut labels = [[[0u8; 31]; 32]; 2];
-    let mut jobs = [[0u32; 32]; 2];
-    let mut control = [[0u8; 32]; 2];
-    let mut results = [[[0u32; 32]; 2]; 32];
-    let mut run = start(
-        &mut order,
-        &mut labels,
-        &mut jobs,
-        &mut control,
-        &mut results,
-    );
+    let (mut run, mut table) = start();
     let mut scratch = [0u8; 4096];
     let mut length = 0;
     let mut at = 0;
@@ -452,11 +384,7 @@ fn run_file(file: &[u8], out: &mut [u8]) -> Ending
         let fed = feed(
             run,
             true,
-            &mut order,
-            &mut labels,
-            &mut jobs,
-            &mut control,
-            &mut results,
+            &mut table,
             schedule::from(file, at),
             &mut scratch,
         );

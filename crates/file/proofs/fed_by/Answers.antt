@@ -9,7 +9,7 @@ pub returns : goal.returns
 returns c =
     let s = c.args in
     ap (λ q. record {
-      run = record { lines = s.r.lines; count = s.n; refusal = s.r.refusal };
+      run = record { lines = s.r.lines; refusal = s.r.refusal };
       read = s.at + s.r.read;
       written = s.r.written;
       more = q && ltb (s.at + s.r.read) s.end;

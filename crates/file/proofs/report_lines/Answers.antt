@@ -28,7 +28,7 @@ stops x =
     let f = l.invariant.0 in
     let s = r in
     let room = room_here f (refused r).some r.if-out-written-lt-ROOM.false in
-    let fits = s.well_formed.1.1.1.1.1.1.1 in
+    let fits = s.well_formed.1.1 in
     let next = line_within s.args.chunk.now (refused r).some x.line_at-line.ensures in
     (room, omega (arith, room, as_long f, fits.1.0.0), omega (arith, next, fits.0.0))
 
@@ -49,7 +49,7 @@ fits x =
     let f = x.loop-out.invariant.0 in
     let s = x in
     let room = room_here f (starts x) x.if-out-written-lt-ROOM.false in
-    let long = s.well_formed.1.1.1.1.1.1.1 in
+    let long = s.well_formed.1.1 in
     let z = here x in
     (room, omega (arith, room, as_long f, long.1.0.0), omega (arith, z.within, long.0.0))
 
