@@ -88,6 +88,9 @@ module _ {a : Arrays} {order : Lists.List ℕ} (f : Runnable a order) where
       ∙ reached_held lent lent_lawful n size (reached_next lent lent_lawful n size r.reached c)
       ∙ ap (λ (s : State Labels.Label). (step original n (digits original n) s c).state) (sym held)
 
+  pub count_after : (c : Call) → (step_of lent a c).table.count ≡ n
+  count_after c = table_count lent lent_lawful n size _ (table_step lent lent_lawful n size a run_reached c)
+
   pub run_orderly : Orderly n (get_or a.labels 0 [])
   run_orderly = orderly a run_passes
 

@@ -3,5 +3,5 @@ use Rattle.arrays.specs.Arrays.{Arrays, arrays}
 use Rattle.file.specs.declared.OrderedTable.{OrderedTable}
 
 -- its arrays
-abbrev pub held : OrderedTable → Arrays
-held t = arrays t.count t.parts.labels t.parts.jobs t.parts.control t.parts.results
+abbrev pub arrays_in : OrderedTable → Arrays
+arrays_in t = arrays t.count t.parts.labels t.parts.jobs t.parts.control t.parts.results

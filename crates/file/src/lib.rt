@@ -12,7 +12,7 @@ ghost use Rattle.arrays.specs.Form.{lent};
 ghost use Rattle.engine.specs.Scans.{order_of};
 ghost use Rattle.schedule.specs.Sessions.{session};
 ghost use Rattle.schedule.specs.Files.{printed};
-ghost use Rattle.file.specs.Tables.{held};
+ghost use Rattle.file.specs.Tables.{arrays_in};
 ghost use Rattle.file.specs.Clauses.{Runnable, Turns, Prints, Reports, RunsFile, ReportsFile};
 ghost use Rattle.file.specs.Feeds.{Underway, Feeds, fed_of, Opens};
 
@@ -84,10 +84,10 @@ pub struct Turn {
 
 // Serves a step call, up to what is written of it, and brings the scan order up to date.
 pub fn take_turn(request: Request, table: &mut OrderedTable) -> Turn
-    requires { Runnable (held table.old) table.old.order }
-    ensures turns { Turns (held table.old) (call_of request (Buffer 928))
-        (held table.new) result }
-    ensures runnable { Runnable (held table.new) table.new.order }
+    requires { Runnable (arrays_in table.old) table.old.order }
+    ensures turns { Turns (arrays_in table.old) (call_of request (Buffer 928))
+        (arrays_in table.new) result }
+    ensures runnable { Runnable (arrays_in table.new) table.new.order }
 {
     let n = table.count;
     let top = table.order[n - 1];
@@ -120,12 +120,12 @@ pub fn take_turn(request: Request, table: &mut OrderedTable) -> Turn
 
 // Serves a step line: prints its report or its refusal to the front of `out`, and hands back its bytes.
 fn serve_line(request: Request, table: &mut OrderedTable, out: &mut [u8]) -> usize
-    requires runnable { Runnable (held table.old) table.old.order }
+    requires runnable { Runnable (arrays_in table.old) table.old.order }
     requires out_len { length out.old ≡ 928 }
-    ensures prints { Prints (held table.old)
+    ensures prints { Prints (arrays_in table.old)
         (call_of request (Buffer 928)) out.old
-        (held table.new) result out.new }
-    ensures runnable_2 { Runnable (held table.new) table.new.order }
+        (arrays_in table.new) result out.new }
+    ensures runnable_2 { Runnable (arrays_in table.new) table.new.order }
 {
     let t = take_turn(request, table);
     let handed = t.handed;
@@ -143,11 +143,11 @@ fn serve_line(request: Request, table: &mut OrderedTable, out: &mut [u8]) -> usi
 // Serves the lines of a part of the file after `lines` others, and writes what they print: up to a final refusal, or until there is no room for the report
 // of another line.
 fn report_lines(lines: u32, table: &mut OrderedTable, chunk: &[u8], out: &mut [u8]) -> Progress
-    requires { Runnable (held table.old) table.old.order }
+    requires { Runnable (arrays_in table.old) table.old.order }
     ensures reports { Reports
-        (session lines Accepted (held table.old)) chunk.now
-        (held table.new) result out.old out.new }
-    ensures runnable { Runnable (held table.new) table.new.order }
+        (session lines Accepted (arrays_in table.old)) chunk.now
+        (arrays_in table.new) result out.old out.new }
+    ensures runnable { Runnable (arrays_in table.new) table.new.order }
 {
     let mut count = lines;
     let mut written = 0;
@@ -209,10 +209,11 @@ pub struct Fed {
 }
 
 // The fresh table of n stations, with its scan order.
-fn fresh(n: usize) -> OrderedTable
+pub fn fresh(n: usize) -> OrderedTable
     requires { (2 ≤ n) × (n ≤ 32) }
-    ensures value { held result ≡ fresh_table lent n }
-    ensures runnable { Runnable (held result) result.order }
+    ensures count_value { result.count ≡ n }
+    ensures value { arrays_in result ≡ fresh_table lent n }
+    ensures runnable { Runnable (arrays_in result) result.order }
 {
     let mut parts = Parts::of(
         [[[0; 31]; 32]; 2],
@@ -238,8 +239,8 @@ fn fresh(n: usize) -> OrderedTable
 // A run before its first line, and its table.
 pub fn start() -> (Run, OrderedTable)
     ensures run_value { result.0 ≡ record { lines = 0; refusal = Accepted } }
-    ensures table_value { held result.1 ≡ fresh_table lent 2 }
-    ensures underway { Underway result.0 (held result.1) result.1.order }
+    ensures table_value { arrays_in result.1 ≡ fresh_table lent 2 }
+    ensures underway { Underway result.0 (arrays_in result.1) result.1.order }
 {
     let run = Run {
         lines: 0,
@@ -285,9 +286,9 @@ enum Opening {
 
 // Reads the header where it is still to come, and writes the fresh table of its stations.
 fn open_part(run: Run, last: bool, table: &mut OrderedTable, part: &[u8]) -> Opening
-    requires { Underway run (held table.old) table.old.order }
-    ensures { Opens run (held table.old) last
-        part.now (held table.new) table.new.order result }
+    requires { Underway run (arrays_in table.old) table.old.order }
+    ensures { Opens run (arrays_in table.old) last
+        part.now (arrays_in table.new) table.new.order result }
 {
     let refusal = run.refusal;
     if refusal.refuses() {
@@ -314,12 +315,12 @@ fn open_part(run: Run, last: bool, table: &mut OrderedTable, part: &[u8]) -> Ope
 // Serves a part of the file, the header first where it is still to come, and writes what the lines print. What is left unread of the part, a line that is
 // not whole or lines for whose report there is no room, stands at the front of the next one.
 pub fn feed(run: Run, last: bool, table: &mut OrderedTable, part: &[u8], out: &mut [u8]) -> Fed
-    requires underway { Underway run (held table.old) table.old.order }
+    requires underway { Underway run (arrays_in table.old) table.old.order }
     requires in_bounds { 928 ≤ length out.old }
-    ensures feeds { Feeds run (held table.old) last
-        part.now result (held table.new)
+    ensures feeds { Feeds run (arrays_in table.old) last
+        part.now result (arrays_in table.new)
         out.old out.new }
-    ensures underway_2 { Underway result.run (held table.new)
+    ensures underway_2 { Underway result.run (arrays_in table.new)
         table.new.order }
 {
     let end = end_of(part.len(), last);

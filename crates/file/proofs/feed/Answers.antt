@@ -3,7 +3,7 @@ use Prim.Native.Nat.{◌≤◌}
 use native.Mathlib.Omega.{arith}
 use lib.ListN.{length}
 use mathlib.Core.Path.{refl}
-use Rattle.file.specs.Tables.{held}
+use Rattle.file.specs.Tables.{arrays_in}
 use Rattle.file.proofs.Openings.{feeds_none, feeds_refused, lines_within, read_within, feeds_lines, underway_lines, underway_refused}
 use Rattle.file.proofs.feed.Goals as goal
 use Rattle.file.proofs.feed.Goals.{In-Lines}
@@ -32,7 +32,7 @@ returns-in-Nothing c =
     let a = c.args in
     let f = c.in-Nothing.ensures in
     rw f.0 (record {
-      feeds = feeds_none a.run (held a.table.now) a.last a.part.now a.out.now f.2;
+      feeds = feeds_none a.run (arrays_in a.table.now) a.last a.part.now a.out.now f.2;
       underway_2 = f.1;
     })
 
@@ -42,7 +42,7 @@ returns-in-Refused c =
     let f = c.in-Refused.ensures in
     let told = c.print_refusal-written.ensures in
     rw f.0 (record {
-      feeds = feeds_refused a.run (held a.table.now) a.last a.part.now a.out.now f.2 f.3
+      feeds = feeds_refused a.run (arrays_in a.table.now) a.last a.part.now a.out.now f.2 f.3
           c.requires.in_bounds c.requires.underway.fresh f.4 c.line_at-header.ensures told.value told.out_after;
       underway_2 = underway_refused f.1 _ _ f.4;
     })

@@ -1,3 +1,4 @@
+use mathlib.Core.Path.{refl}
 use Rattle.file.proofs.LineLaws.{fresh_orderly, fresh_runnable}
 use Rattle.file.proofs.fresh.Goals as goal
 
@@ -9,6 +10,7 @@ pub returns : goal.returns
 returns c =
     let fresh = c.refresh.ensures in
     record {
+      count_value = refl;
       value = fresh;
       runnable = fresh_runnable c.args.n c.requires.0 c.requires.1 fresh c.order-order.ensures;
     }

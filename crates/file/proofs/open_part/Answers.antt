@@ -1,7 +1,7 @@
 use mathlib.Core.Path.{◌≡◌, refl, sym, ap, ◌∙◌}
 use Rattle.moves.specs.Moves.{refusal_number}
 use Rattle.moves.proofs.MoveLaws.{refuses_yes, refuses_no}
-use Rattle.file.specs.Tables.{held}
+use Rattle.file.specs.Tables.{arrays_in}
 use Rattle.schedule.specs.Lines.{header_read}
 use Rattle.schedule.proofs.SessionLaws.{original_stations}
 use Rattle.schedule.specs.declared.Header.TheVariants.{Stations}
@@ -20,14 +20,14 @@ said w = sym w.in-Stations.ensures
 
 pub returns-then-refuses : goal.returns-then-refuses
 returns-then-refuses c =
-    (refl, c.requires, ended_none c.args.run (held c.args.table.now) c.args.last c.args.part.now (refuses_yes c.args.run.refusal c.refuses.ensures c.if-refuses.true))
+    (refl, c.requires, ended_none c.args.run (arrays_in c.args.table.now) c.args.last c.args.part.now (refuses_yes c.args.run.refusal c.refuses.ensures c.if-refuses.true))
 
 pub returns-then-run-ne0 : goal.returns-then-run-ne0
 returns-then-run-ne0 c =
     (opened_steps c.args.run _ c.args.part.now (going (goal.at.returns-then-run-ne0 c).Else-refuses) c.if-run-ne0.true (c.requires.few (going (goal.at.returns-then-run-ne0 c).Else-refuses)), c.requires.runnable)
 
 pub returns-then-part-last : goal.returns-then-part-last
-returns-then-part-last c = (refl, c.requires, waits_none c.args.run (held c.args.table.now) c.args.last c.args.part.now c.if-part-last.true)
+returns-then-part-last c = (refl, c.requires, waits_none c.args.run (arrays_in c.args.table.now) c.args.last c.args.part.now c.if-part-last.true)
 
 pub fresh-requires : goal.fresh-requires
 fresh-requires c = original_stations _ _ (said (goal.at.fresh-requires c).In-Stations)
@@ -37,8 +37,8 @@ returns-in-Refused c =
     let first = c.if-run-ne0.false in (
       refl,
       c.requires,
-      waiting c.args.run (held c.args.table.now) c.args.last c.args.part.now (going (goal.at.returns-in-Refused c).Else-refuses) first,
-      some_ready c.args.run (held c.args.table.now) c.args.last c.args.part.now (going (goal.at.returns-in-Refused c).Else-refuses) first c.if-part-last.false,
+      waiting c.args.run (arrays_in c.args.table.now) c.args.last c.args.part.now (going (goal.at.returns-in-Refused c).Else-refuses) first,
+      some_ready c.args.run (arrays_in c.args.table.now) c.args.last c.args.part.now (going (goal.at.returns-in-Refused c).Else-refuses) first c.if-part-last.false,
       ap (header_read original) (sym c.line_at.ensures) ∙ sym c.read_header.ensures ∙ c.in-Refused.is,
     )
 

@@ -1,7 +1,7 @@
 use Prim.Native.Nat.{◌-◌}
 use lib.ListN.{length}
 use Rattle.moves.specs.declared.Refusal.TheVariants.{Accepted}
-use Rattle.file.specs.Tables.{held}
+use Rattle.file.specs.Tables.{arrays_in}
 use Rattle.schedule.specs.Sessions.{session}
 use Rattle.file.specs.Clauses.{Runnable}
 use Rattle.file.proofs.ChunkLaws.{Sofar}
@@ -10,8 +10,8 @@ use Rattle.file.proofs.report_lines.Given as goal
 -- The invariant is `Sofar` of ChunkLaws: what the lines before `at` left and printed.
 abbrev pub invariant-loop-out : goal.invariant-loop-out
 invariant-loop-out l =
-    Sofar (session l.lines Accepted (held l.initial.table)) l.chunk l.initial.out (held l.table) l.count l.written l.at l.out
-    × Runnable (held l.table) l.table.order
+    Sofar (session l.lines Accepted (arrays_in l.initial.table)) l.chunk l.initial.out (arrays_in l.table) l.count l.written l.at l.out
+    × Runnable (arrays_in l.table) l.table.order
 
 abbrev pub decreases-loop-out : goal.decreases-loop-out
 decreases-loop-out l =

@@ -1,7 +1,7 @@
 use mathlib.Core.Path.{◌≡◌}
 use Prim.Native.Nat.{◌-◌}
 use lib.ListN.{length}
-use Rattle.file.specs.Tables.{held}
+use Rattle.file.specs.Tables.{arrays_in}
 use Rattle.file.specs.Feeds.{Underway}
 use Rattle.file.proofs.FileLaws.{Gathered}
 use Rattle.file.proofs.run_file.Given as goal
@@ -10,8 +10,8 @@ use Rattle.file.proofs.run_file.Given as goal
 -- `t` before it.
 abbrev pub invariant-loop-table : goal.invariant-loop-table
 invariant-loop-table l =
-    Gathered l.file l.initial.out l.run (held l.table) l.length l.at l.out
-    × Underway l.run (held l.table) l.table.order × (length l.scratch ≡ 4096)
+    Gathered l.file l.initial.out l.run (arrays_in l.table) l.length l.at l.out
+    × Underway l.run (arrays_in l.table) l.table.order × (length l.scratch ≡ 4096)
 
 abbrev pub decreases-loop-table : goal.decreases-loop-table
 decreases-loop-table l = length l.file - l.at
