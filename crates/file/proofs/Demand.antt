@@ -11,10 +11,9 @@ use Rattle.schedule.specs.Demand.{FileDemand}
 use Rattle.schedule.specs.Before.{ScansAsBefore}
 use Rattle.schedule.proofs.FileTheorem.{file_demand}
 use Rattle.schedule.proofs.Before.{scans_as_before}
-use Rattle.schedule.specs.declared.Header.TheVariants.{Stations}
 use Rattle.simulation.specs.Calls.{original}
 
-pub demand : (bs : List ℕ) (n : ℕ) → header_read original (take 18 bs) ≡ Stations n → FileDemand lent bs n
+pub demand : (bs : List ℕ) (n : ℕ) → header_read original (take 18 bs) ≡ Ok n → FileDemand lent bs n
 demand = file_demand lent lent_lawful
 
 pub scans_before : (bs : List ℕ) → ScansAsBefore lent bs

@@ -22,7 +22,7 @@ use Rattle.transition.specs.Forms.{Form, TableAnswer, over, fresh_table, step_of
 use Rattle.transition.proofs.Written.{Sized, original_sized}
 use Rattle.transition.proofs.Theorem.{step_kept, reached_held, reached_written, reached_next}
 use Rattle.transition.proofs.Theorem.{ReachedTable, table_fresh, table_count, table_passes, table_step, table_after}
-use Rattle.moves.specs.Moves.{refusal_number, move_of, call_of}
+use Rattle.moves.specs.Moves.{refusal_number, final_number, move_of, call_of}
 use Rattle.moves.proofs.MoveLaws.{by_move}
 use Rattle.moves.specs.declared.Move.{Move}
 use Rattle.moves.specs.declared.Move.TheVariants.{Update}
@@ -171,7 +171,7 @@ module _ {a : Arrays} {order : Lists.List ℕ} (f : Runnable a order) where
     told e = ap bytes_of g.hands.report ∙ ap (λ r. bytes_of (written c.line r (entries_in t.handed.entries (get_or a'.results t.handed.place [])))) e
 
     -- a refused line hands out nothing
-    none : c.room ≡ Buffer 928 → refusal_number t.handed.refusal ≢ 0 → lines ≡ []
+    none : c.room ≡ Buffer 928 → final_number t.handed.refusal ≢ 0 → lines ≡ []
     unfolding report_lines
     none e d = sym (told e)
         ∙ ap (λ (u : TableAnswer Arrays). bytes_of u.report) (step_kept lent a (λ _. same) c (λ v. d (g.hands.number ∙ v)))
@@ -182,12 +182,12 @@ module _ {a : Arrays} {order : Lists.List ℕ} (f : Runnable a order) where
 
     -- what the line prints: its report, or one line with its refusal
     pub turn_prints : c.room ≡ Buffer 928 → {k w : ℕ} {buffer buffer' buffer'' : Lists.List ℕ}
-        → let refusal = printed c.line (refusal_number t.handed.refusal) [] in
+        → let refusal = printed c.line (final_number t.handed.refusal) [] in
         w ≡ t.handed.entries * 29 → buffer' ≡ over lines buffer → k ≡ length refusal → buffer'' ≡ over refusal buffer' → Prints a c buffer a' (w + k) buffer''
-    turn_prints room {buffer = buffer} {buffer'} w r e b = by_cases (ℕ_discrete (refusal_number t.handed.refusal) 0)
+    turn_prints room {buffer = buffer} {buffer'} w r e b = by_cases (ℕ_discrete (final_number t.handed.refusal) 0)
         (λ z.
         let y : (step_of lent a c).refusal ≡ 0 = sym g.hands.number ∙ z in
-        let empty = printed_accepted c.line (refusal_number t.handed.refusal) buffer' z in
+        let empty = printed_accepted c.line (final_number t.handed.refusal) buffer' z in
         record {
           table = g.hands.table;
           count = rw (eq-eqb _ 0 y) (omega (arith, e, empty.0, w, long, ap length (told room)));
@@ -195,7 +195,7 @@ module _ {a : Arrays} {order : Lists.List ℕ} (f : Runnable a order) where
         })
         (λ z.
         let y : (step_of lent a c).refusal ≢ 0 = λ v. z (g.hands.number ∙ v) in
-        let short : printed c.line (refusal_number t.handed.refusal) [] ≡ printed c.line (step_of lent a c).refusal (bytes_of (step_of lent a c).report)
+        let short : printed c.line (final_number t.handed.refusal) [] ≡ printed c.line (step_of lent a c).refusal (bytes_of (step_of lent a c).report)
         = ap (λ (v : ℕ). printed c.line v []) g.hands.number ∙ rw (ne_eqb _ 0 y) refl in
         record {
           table = g.hands.table;

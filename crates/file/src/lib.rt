@@ -5,8 +5,7 @@ ghost use Rattle.std.specs.Prelude.{◌≡◌, ◌≢◌, cond, [], ◌++◌, �
 ghost use Rattle.rows.specs.Held.{Orderly, OrderedBefore};
 ghost use Rattle.simulation.specs.Calls.{Buffer};
 ghost use Rattle.transition.specs.Forms.{over, fresh_table};
-ghost use Rattle.moves.specs.Moves.{refusal_number, call_of};
-ghost use Rattle.moves.specs.declared.Refusal.TheVariants.{Accepted};
+ghost use Rattle.moves.specs.Moves.{final_number, told_number, told_count, call_of};
 ghost use Rattle.moves.specs.declared.Move.TheVariants.{Update};
 ghost use Rattle.arrays.specs.Form.{lent};
 ghost use Rattle.engine.specs.Scans.{order_of};
@@ -19,7 +18,6 @@ ghost use Rattle.file.specs.Feeds.{Underway, Feeds, fed_of, Opens};
 use arrays::{CURRENT, LabelParts, Parts};
 use engine::Handed;
 use moves::{Move, Refusal, Request, Room};
-use schedule::{Header, Next};
 
 // The most bytes that a line prints: 32 report lines of 29.
 const ROOM: usize = 928;
@@ -37,23 +35,22 @@ pub struct OrderedTable {
 #[derive(Clone, Copy)]
 struct Progress {
     lines: u32,
-    refusal: Refusal,
+    refusal: Option<Refusal>,
     read: usize,
     written: usize,
 }
 
 // Writes the refusal line that bears the number `line` to the front of `out`, and nothing for no refusal; hands back its bytes.
 #[tactic(auto, using(schedule::proofs::Runs::printed_accepted, schedule::proofs::Runs::printed_refused))]
-pub fn print_refusal(line: u64, refusal: Refusal, out: &mut [u8]) -> usize
+pub fn print_refusal(line: u64, refusal: Option<Refusal>, out: &mut [u8]) -> usize
     requires { 29 ≤ length out.old }
-    ensures value { result ≡ length (printed line (refusal_number refusal) []) }
-    ensures out_after { out.new ≡ over (printed line (refusal_number refusal) []) out.old }
+    ensures value { result ≡ length (printed line (final_number refusal) []) }
+    ensures out_after { out.new ≡ over (printed line (final_number refusal) []) out.old }
 {
-    let k = refusal.number();
-    if k == 0 {
+    let Some(refusal) = refusal else {
         return 0;
-    }
-    columns::write_report_line(&mut out[0..29], line, k, 0, 0, 0);
+    };
+    columns::write_report_line(&mut out[0..29], line, u64::from(refusal), 0, 0, 0);
     29
 }
 
@@ -73,8 +70,7 @@ fn refresh_order(m: Move, place: usize, rows: &[[u8; 31]; 32], n: usize, order: 
     }
 }
 
-// A step call that was served: what it amounts to, the newest station before it, its refusal, and so many entries of the scan result at a place, that of its
-// station, which it hands out.
+// A step call that was accepted: what it amounts to, the newest station before it, and what it hands out.
 #[derive(Clone, Copy)]
 pub struct Turn {
     pub action: Move,
@@ -83,61 +79,60 @@ pub struct Turn {
 }
 
 // Serves a step call, up to what is written of it, and brings the scan order up to date.
-pub fn take_turn(request: Request, table: &mut OrderedTable) -> Turn
+pub fn take_turn(request: Request, table: &mut OrderedTable) -> Result<Turn, Refusal>
     requires { Runnable (arrays_in table.old) table.old.order }
-    ensures turns { Turns (arrays_in table.old) (call_of request (Buffer 928))
-        (arrays_in table.new) result }
+    ensures turns { Turns (arrays_in table.old) (call_of request (Buffer 928)) (arrays_in table.new) result }
     ensures runnable { Runnable (arrays_in table.new) table.new.order }
 {
     let n = table.count;
-    let top = table.order[n - 1];
-    let task = engine::judge(
+    let newest = table.order[n - 1];
+    let judged = engine::judge(
         n,
         request,
         &table.parts.control,
         &table.parts.results,
         Room::Buffer(ROOM),
-        top,
+        newest,
     );
-    let h = engine::carry_out(
+    let handed = engine::carry_out(
         n,
-        task,
+        judged,
         &table.order,
         &mut table.parts.labels,
         &mut table.parts.jobs,
         &mut table.parts.control,
         &mut table.parts.results,
-    );
-    let m = task.action;
+    )?;
+    let task = judged?;
     let parts = &table.parts;
-    refresh_order(m, task.place, &parts.labels[CURRENT], n, &mut table.order);
-    Turn {
-        action: m,
-        newest: top,
-        handed: h,
-    }
+    refresh_order(
+        task.action,
+        task.place,
+        &parts.labels[CURRENT],
+        n,
+        &mut table.order,
+    );
+    Ok(Turn {
+        action: task.action,
+        newest,
+        handed,
+    })
 }
 
 // Serves a step line: prints its report or its refusal to the front of `out`, and hands back its bytes.
 fn serve_line(request: Request, table: &mut OrderedTable, out: &mut [u8]) -> usize
     requires runnable { Runnable (arrays_in table.old) table.old.order }
     requires out_len { length out.old ≡ 928 }
-    ensures prints { Prints (arrays_in table.old)
-        (call_of request (Buffer 928)) out.old
-        (arrays_in table.new) result out.new }
+    ensures prints { Prints (arrays_in table.old) (call_of request (Buffer 928)) out.old (arrays_in table.new) result out.new }
     ensures runnable_2 { Runnable (arrays_in table.new) table.new.order }
 {
-    let t = take_turn(request, table);
-    let handed = t.handed;
-    let refusal = handed.refusal;
-    let place = handed.place;
-    let written = engine::write_result(
-        &table.parts.results[place],
-        handed.entries,
-        request.line,
-        out,
-    );
-    written + print_refusal(request.line, refusal, out)
+    match take_turn(request, table) {
+        Ok(turn) => {
+            let Handed { place, entries } = turn.handed;
+            engine::write_result(&table.parts.results[place], entries, request.line, out)
+        }
+        Err(refusal) => print_refusal(request.line, Some(refusal), out),
+    }
 }
 
 // Serves the lines of a part of the file after `lines` others, and writes what they print: up to a final refusal, or until there is no room for the report
@@ -145,7 +140,7 @@ fn serve_line(request: Request, table: &mut OrderedTable, out: &mut [u8]) -> usi
 fn report_lines(lines: u32, table: &mut OrderedTable, chunk: &[u8], out: &mut [u8]) -> Progress
     requires { Runnable (arrays_in table.old) table.old.order }
     ensures reports { Reports
-        (session lines Accepted (arrays_in table.old)) chunk.now
+        (session lines None (arrays_in table.old)) chunk.now
         (arrays_in table.new) result out.old out.new }
     ensures runnable { Runnable (arrays_in table.new) table.new.order }
 {
@@ -156,32 +151,35 @@ fn report_lines(lines: u32, table: &mut OrderedTable, chunk: &[u8], out: &mut [u
         if out.len() - written < ROOM {
             return Progress {
                 lines: count,
-                refusal: Refusal::Accepted,
+                refusal: None,
                 read: at,
                 written,
             };
         }
         match schedule::next_call(count, chunk, at) {
-            Next::End => {
+            Ok(None) => {
                 return Progress {
                     lines: count,
-                    refusal: Refusal::Accepted,
+                    refusal: None,
                     read: at,
                     written,
                 };
             }
-            Next::Refused(refusal) => {
+            Err(refusal) => {
                 let line = schedule::line_at(chunk, at);
-                let number = count as u64 + 1;
-                let k = print_refusal(number, refusal, &mut out[written..written + ROOM]);
+                let k = print_refusal(
+                    u64::from(count) + 1,
+                    Some(refusal),
+                    &mut out[written..written + ROOM],
+                );
                 return Progress {
                     lines: count,
-                    refusal,
+                    refusal: Some(refusal),
                     read: at + line.len(),
                     written: written + k,
                 };
             }
-            Next::Call(request) => {
+            Ok(Some(request)) => {
                 let k = serve_line(request, table, &mut out[written..written + ROOM]);
                 count += 1;
                 written += k;
@@ -195,7 +193,7 @@ fn report_lines(lines: u32, table: &mut OrderedTable, chunk: &[u8], out: &mut [u
 #[derive(Clone, Copy)]
 pub struct Run {
     pub lines: u32,
-    pub refusal: Refusal,
+    pub refusal: Option<Refusal>,
 }
 
 // What a part of the file leaves beside the table and the output buffer: the run, the bytes of the part that were read, the bytes that were printed, and
@@ -238,13 +236,13 @@ pub fn fresh(n: usize) -> OrderedTable
 
 // A run before its first line, and its table.
 pub fn start() -> (Run, OrderedTable)
-    ensures run_value { result.0 ≡ record { lines = 0; refusal = Accepted } }
+    ensures run_value { result.0 ≡ record { lines = 0; refusal = None } }
     ensures table_value { arrays_in result.1 ≡ fresh_table lent 2 }
     ensures underway { Underway result.0 (arrays_in result.1) result.1.order }
 {
     let run = Run {
         lines: 0,
-        refusal: Refusal::Accepted,
+        refusal: None,
     };
     (run, fresh(2))
 }
@@ -264,52 +262,49 @@ fn fed_by(at: usize, r: Progress, end: usize) -> Fed
     requires { at + r.read ≤ end }
     ensures { result ≡ fed_of at r end }
 {
-    let refusal = r.refusal;
     Fed {
         run: Run {
             lines: r.lines,
-            refusal,
+            refusal: r.refusal,
         },
         read: at + r.read,
         written: r.written,
-        more: !refusal.refuses() & (at + r.read < end),
+        more: r.refusal.is_none() && at + r.read < end,
     }
 }
 
-// How a part starts: with nothing that can be served, with a header that is refused, or with lines behind `lines` others, from a place on, on.
+// Lines that can be served of a part: from a place on, behind `lines` others.
 #[derive(Clone, Copy)]
-enum Opening {
-    Nothing,
-    Refused(Refusal),
-    Lines { lines: u32, at: usize },
+struct Opening {
+    lines: u32,
+    at: usize,
 }
 
-// Reads the header where it is still to come, and writes the fresh table of its stations.
-fn open_part(run: Run, last: bool, table: &mut OrderedTable, part: &[u8]) -> Opening
+// Reads the header where it is still to come, and writes the fresh table of its stations. What can be served then, if anything can; or the header is refused.
+fn open_part(
+    run: Run,
+    last: bool,
+    table: &mut OrderedTable,
+    part: &[u8],
+) -> Result<Option<Opening>, Refusal>
     requires { Underway run (arrays_in table.old) table.old.order }
-    ensures { Opens run (arrays_in table.old) last
-        part.now (arrays_in table.new) table.new.order result }
+    ensures { Opens run (arrays_in table.old) last part.now (arrays_in table.new) table.new.order result }
 {
-    let refusal = run.refusal;
-    if refusal.refuses() {
-        return Opening::Nothing;
+    if run.refusal.is_some() {
+        return Ok(None);
     }
     if run.lines != 0 {
-        return Opening::Lines {
+        return Ok(Some(Opening {
             lines: run.lines,
             at: 0,
-        };
+        }));
     }
-    if (part.len() < 18) & !last {
-        return Opening::Nothing;
+    if part.len() < 18 && !last {
+        return Ok(None);
     }
-    match schedule::read_header(schedule::line_at(part, 0)) {
-        Header::Refused(refusal) => Opening::Refused(refusal),
-        Header::Stations(n) => {
-            *table = fresh(n);
-            Opening::Lines { lines: 1, at: 18 }
-        }
-    }
+    let n = schedule::read_header(schedule::line_at(part, 0))?;
+    *table = fresh(n);
+    Ok(Some(Opening { lines: 1, at: 18 }))
 }
 
 // Serves a part of the file, the header first where it is still to come, and writes what the lines print. What is left unread of the part, a line that is
@@ -325,23 +320,26 @@ pub fn feed(run: Run, last: bool, table: &mut OrderedTable, part: &[u8], out: &m
 {
     let end = end_of(part.len(), last);
     match open_part(run, last, table, part) {
-        Opening::Nothing => Fed {
+        Ok(None) => Fed {
             run,
             read: 0,
             written: 0,
             more: false,
         },
-        Opening::Refused(refusal) => {
+        Err(refusal) => {
             let header = schedule::line_at(part, 0);
-            let written = print_refusal(1, refusal, out);
+            let written = print_refusal(1, Some(refusal), out);
             Fed {
-                run: Run { lines: 0, refusal },
+                run: Run {
+                    lines: 0,
+                    refusal: Some(refusal),
+                },
                 read: header.len(),
                 written,
                 more: false,
             }
         }
-        Opening::Lines { lines, at } => {
+        Ok(Some(Opening { lines, at })) => {
             let r = report_lines(lines, table, &part[at..end], out);
             fed_by(at, r, end)
         }
@@ -355,13 +353,8 @@ fn put(bytes: &[u8], out: &mut [u8], at: usize) -> usize
     ensures out_after { result ≤ length out.old → out.new ≡ over (take at out.old ++ bytes.now) out.old }
 {
     let end = at + bytes.len();
-    if out.len() < end {
-        return end;
-    }
-    let mut i = 0;
-    while i < bytes.len() {
-        out[at + i] = bytes[i];
-        i += 1;
+    if end <= out.len() {
+        out[at..end].copy_from_slice(bytes);
     }
     end
 }
@@ -369,7 +362,7 @@ fn put(bytes: &[u8], out: &mut [u8], at: usize) -> usize
 // The final refusal of a file, and the length of its report.
 #[derive(Clone, Copy)]
 struct Ending {
-    refusal: Refusal,
+    refusal: Option<Refusal>,
     length: usize,
 }
 
@@ -382,44 +375,36 @@ fn run_file(file: &[u8], out: &mut [u8]) -> Ending
     let mut length = 0;
     let mut at = 0;
     loop {
-        let fed = feed(
-            run,
-            true,
-            &mut table,
-            schedule::from(file, at),
-            &mut scratch,
-        );
-        let k = fed.written;
-        length = put(&scratch[..k], out, length);
-        let next = fed.run;
+        let part = schedule::from(file, at);
+        let fed = feed(run, true, &mut table, part, &mut scratch);
+        length = put(&scratch[..fed.written], out, length);
+        run = fed.run;
         if !fed.more {
-            let refusal = next.refusal;
-            return Ending { refusal, length };
+            return Ending {
+                refusal: run.refusal,
+                length,
+            };
         }
-        run = next;
         at += fed.read;
     }
 }
 
-// What the call that reports a file tells: its own refusal, 7 if the report does not fit; the final refusal of the file; how many bytes were written, and how
-// long the report is.
+// What the call that reports a file tells: how many bytes were written, or its own refusal, 7 if the report does not fit; the final refusal of the file; and
+// how long the report is.
 #[derive(Clone, Copy)]
 pub struct FileReply {
-    pub refusal: Refusal,
-    pub ended: Refusal,
-    pub written: usize,
+    pub reply: Result<usize, Refusal>,
+    pub ended: Option<Refusal>,
     pub length: usize,
 }
 
 // What is told of a report that is written.
 fn reported(whole: Ending) -> FileReply
-    ensures { result ≡ record { refusal = Accepted; ended = whole.refusal; written = whole.length; length = whole.length } }
+    ensures { result ≡ record { reply = Ok whole.length; ended = whole.refusal; length = whole.length } }
 {
-    let ended = whole.refusal;
     FileReply {
-        refusal: Refusal::Accepted,
-        ended,
-        written: whole.length,
+        reply: Ok(whole.length),
+        ended: whole.refusal,
         length: whole.length,
     }
 }
@@ -427,7 +412,7 @@ fn reported(whole: Ending) -> FileReply
 // Writes the report of a whole file; 7, and nothing is written, if it does not fit. Where there is no room for 928 bytes for each line, a first run tells how
 // long the report is.
 pub fn report(file: &[u8], out: &mut [u8]) -> FileReply
-    ensures { ReportsFile file.now out.old (refusal_number result.refusal) (refusal_number result.ended) result.written result.length
+    ensures { ReportsFile file.now out.old (told_number result.reply) (final_number result.ended) (told_count result.reply) result.length
         out.new }
 {
     if file.len() / 18 < out.len() / ROOM {
@@ -436,11 +421,9 @@ pub fn report(file: &[u8], out: &mut [u8]) -> FileReply
     let mut scratch = [0u8; 29];
     let first = run_file(file, &mut scratch);
     if out.len() < first.length {
-        let ended = first.refusal;
         return FileReply {
-            refusal: Refusal::NoRoom,
-            ended,
-            written: 0,
+            reply: Err(Refusal::NoRoom),
+            ended: first.refusal,
             length: first.length,
         };
     }

@@ -1,21 +1,20 @@
 use mathlib.Core.Path.{◌≡◌, refl, sym, ap, ◌∙◌}
-use Rattle.moves.specs.Moves.{refusal_number}
+use Rattle.moves.specs.Moves.{refusal_number, final_number}
 use Rattle.moves.proofs.MoveLaws.{refuses_yes, refuses_no}
 use Rattle.file.specs.Tables.{arrays_in}
 use Rattle.schedule.specs.Lines.{header_read}
 use Rattle.schedule.proofs.SessionLaws.{original_stations}
-use Rattle.schedule.specs.declared.Header.TheVariants.{Stations}
 use Rattle.file.proofs.Openings.{ended_none, waits_none, opened_steps, waiting, some_ready, opened_header}
 use Rattle.simulation.specs.Calls.{original}
 use Rattle.file.proofs.open_part.Goals as goal
 use Rattle.file.proofs.open_part.Goals.{Else-refuses, In-Stations}
 
 -- Openings tells how a part starts. `x` is what is known when the run is found to go on, and `u` when the header has been read.
-going : (x : goal.Else-refuses) → refusal_number x.args.run.refusal ≡ 0
+going : (x : goal.Else-refuses) → final_number x.args.run.refusal ≡ 0
 going x = refuses_no x.args.run.refusal x.refuses.ensures x.if-refuses.false
 
 -- an accepted header
-said : (w : goal.In-Stations) → header_read original w.line_at.result.now ≡ Stations w.in-Stations.n
+said : (w : goal.In-Stations) → header_read original w.line_at.result.now ≡ Ok w.in-Stations.n
 said w = sym w.in-Stations.ensures
 
 pub returns-then-refuses : goal.returns-then-refuses
@@ -43,8 +42,8 @@ returns-in-Refused c =
     )
 
 pub returns-in-Stations : goal.returns-in-Stations
-returns-in-Stations c =
+returns-in-Ok c =
     let fresh = c.fresh.ensures in
     let first = c.if-run-ne0.false in
     let part = c.args.part.now in
-    (opened_header c.args.run _ c.args.last part (going (goal.at.returns-in-Stations c).Else-refuses) first c.line_at.ensures (said (goal.at.returns-in-Stations c).In-Stations) fresh.value, fresh.runnable)
+    (opened_header c.args.run _ c.args.last part (going (goal.at.returns-in-Ok c).Else-refuses) first c.line_at.ensures (said (goal.at.returns-in-Ok c).In-Stations) fresh.value, fresh.runnable)

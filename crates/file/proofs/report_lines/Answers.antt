@@ -4,7 +4,7 @@ use Prim.Native.Nat.{◌+◌, ◌-◌, ◌≤◌, ◌<◌}
 use native.Mathlib.Omega.{arith}
 use borrow.Rule.Slice.PartMut.{same_len_mid}
 use lib.ListN.{length, drop, length-take, length-drop}
-use Rattle.moves.specs.Moves.{refusal_number}
+use Rattle.moves.specs.Moves.{refusal_number, final_number}
 use Rattle.schedule.proofs.Places.{StepAt, RefusedAt, at_end, at_refused, at_call}
 use Rattle.schedule.proofs.Runs.{printed_refusal}
 use Rattle.file.proofs.LineLaws.{run_passes}

@@ -1,7 +1,7 @@
 use Prim.Native.Nat.{◌*◌, ◌≤◌}
 use native.Mathlib.Omega.{arith}
 use mathlib.Core.Path.{refl}
-use Rattle.moves.specs.Moves.{refusal_number}
+use Rattle.moves.specs.Moves.{refusal_number, final_number}
 use Rattle.schedule.proofs.Runs.{printed_refusal}
 use Rattle.file.proofs.LineLaws.{turn_fits, turn_prints}
 use Rattle.file.proofs.serve_line.Goals as goal
