@@ -1,10 +1,11 @@
-use Prim.Native.Nat.{◌*◌}
+use Prim.Native.Nat.{◌*◌, ◌+◌, ◌/◌, min}
 use native.Mathlib.Omega.{arith}
-use mathlib.Core.Path.{sym, ap₂}
+use mathlib.Core.Path.{◌≡◌, ◌∙◌, sym, ap₂}
 use lib.Bits.{bit_xor}
+use lib.Count.{count_trailing_zeros}
 use Rattle.label.specs.Rows.{digit}
 use Rattle.label.proofs.Order.{difference_none}
-use Rattle.label.proofs.Words.{Search, search_on, search_found, search_past, row_bytes}
+use Rattle.label.proofs.Words.{Search, search_on, search_found, row_bytes}
 use Rattle.label.proofs.first_difference.Goals as goal
 use Rattle.label.proofs.first_difference.Goals.{After-word-in-loop-w}
 
@@ -21,15 +22,11 @@ searching j =
       reach = λ q k h. omega arith;
     }
 
-pub returns-then-q-m : goal.returns-then-q-m
-returns-then-q-m c =
+pub returns-then-x-ne0 : goal.returns-then-x-ne0
+returns-then-x-ne0 c =
     let d = c in
-    search_found (searching (goal.at.returns-then-q-m c).After-word-in-loop-w) (ap₂ bit_xor d.word.ensures d.word-in-loop-w.ensures) c.if-x-ne0.true c.if-q-m.true
-
-pub returns-else-q-m : goal.returns-else-q-m
-returns-else-q-m c =
-    let d = c in
-    search_past (searching (goal.at.returns-else-q-m c).After-word-in-loop-w) (ap₂ bit_xor d.word.ensures d.word-in-loop-w.ensures) c.if-q-m.false
+    let e : c.min.result ≡ min c.args.m (c.min-start.result + count_trailing_zeros 64 (bit_xor c.word.result c.word-in-loop-w.result) / 8) = omega arith in
+    e ∙ search_found (searching (goal.at.returns-then-x-ne0 c).After-word-in-loop-w) (ap₂ bit_xor d.word.ensures d.word-in-loop-w.ensures) c.if-x-ne0.true
 
 pub loop-w-preserved : goal.loop-w-preserved
 loop-w-preserved c =
