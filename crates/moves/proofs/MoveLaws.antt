@@ -92,3 +92,10 @@ refuses_yes (Some r) p e = positive r e
 pub refuses_no : (r : Option Refusal) → is_some r ≡ false → final_number r ≡ 0
 refuses_no None p = refl
 refuses_no (Some r) p = absurd (tf refl p)
+
+pub some_final : (r : Option Refusal) → final_number r ≢ 0 → is_some r ≡ true
+some_final None d = absurd (d refl)
+some_final (Some r) d = refl
+
+pub none_final : (r : Option Refusal) → final_number r ≡ 0 → is_some r ≡ false
+none_final r e = ap is_some (accepted r e)
