@@ -23,7 +23,8 @@ use Rattle.schedule.specs.Tables.{tables}
 use Rattle.schedule.specs.Lines.{next_line}
 use Rattle.schedule.specs.Sessions.{Session, session, Served}
 use Rattle.schedule.specs.Files.{cut, printed, behind, run_lines}
-use Rattle.schedule.proofs.SessionLaws.{next_refused}
+use Rattle.moves.proofs.MoveLaws.{positive}
+use Rattle.schedule.specs.Lines.{a_step}
 use Rattle.schedule.proofs.Runs.{shown_of, run_refused, run_step, put_over, length_over, over_short, printed_refusal}
 use Rattle.schedule.proofs.Cuts.{run_append, cut_add}
 use Rattle.schedule.proofs.Places.{line_at, StepAt, RefusedAt}
@@ -144,7 +145,7 @@ module _ {s : Session Arrays} {chunk out₀ : Lists.List ℕ} {a : Arrays} {line
       -- a line that is refused for good
       pub sofar_stop : (r : Refusal) {n : ℕ} {x : Lists.List ℕ} → RefusedAt lines chunk at r → let told = printed (lines + 1) (refusal_number r) [] in
           n ≡ length told → x ≡ over told (mid_of written k out)
-          → Reports s chunk a (record { lines = lines; refusal = r; read = at + length l; written = written + n }) out₀ (put_mid written k out x)
+          → Reports s chunk a (record { lines = lines; refusal = Some r; read = at + length l; written = written + n }) out₀ (put_mid written k out x)
       sofar_stop r g b c =
           let q = ap (next_line lines) p ∙ g.said in
           let told = printed (lines + 1) (refusal_number r) [] in
@@ -156,9 +157,9 @@ module _ {s : Session Arrays} {chunk out₀ : Lists.List ℕ} {a : Arrays} {line
             written = omega (arith, b, f.long, length-append f.bytes told);
             report = rw c (put told (omega (arith, low)));
             goes = goes_on;
-            stops = inl (next_refused lines l r q);
+            stops = inl (positive r);
             short = omega (arith, b, low, f.short, line_next chunk h p f.whole);
-            counted = λ z. absurd (next_refused lines l r q z);
+            counted = λ z. absurd (positive r z);
           }
 
       -- a line that is served
@@ -184,7 +185,7 @@ module _ {s : Session Arrays} {chunk out₀ : Lists.List ℕ} {a : Arrays} {line
           } in
           subst (λ j. Sofar s chunk out₀ a' (lines + 1) (written + n) (at + j) (put_mid written k out x)) full made
         where
-          served : next_line lines l ≡ Step q.station q.code q.job → let c = call_of q (Buffer 928) in
+          served : next_line lines l ≡ Ok (a_step q.station q.code q.job) → let c = call_of q (Buffer 928) in
               run_lines (tables lent) (session lines None a) (l ∷ [])
               ≡ record { session = session (lines + 1) None (step_of lent a c).table; refusal = 0; bytes = shown_of (tables lent) a c }
-          served e = run_step (tables lent) (session lines None a) l refl ok q.station q.code q.job e ∙ rw (← z.bears) refl
+          served e = run_step (tables lent) (session lines None a) l refl ok (a_step q.station q.code q.job) e ∙ rw (← z.bears) refl

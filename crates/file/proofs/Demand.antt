@@ -1,5 +1,6 @@
 -- Schedule files on the tables that are lent: demand 3, for every list of bytes whose header is accepted; and what Card 1 leaves as it was, for every list of
 -- bytes.
+use Rattle.std.specs.Prelude.{Ok}
 use Prim.Native.Nat.{ℕ}
 use mathlib.Core.Path.{◌≡◌, refl}
 use mathlib.Core.List.{List}

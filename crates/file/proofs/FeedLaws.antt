@@ -249,7 +249,7 @@ feeds_one {run} {a} {last} {part} {r} {r'} {a₁} {a₂} {buffer} f g =
       ap (λ o. o.session) e,
       omega (arith, f.read, g.read, same),
       f.written ∙ ap (λ o. length o.bytes) e ∙ sym g.written,
-      f.more ∙ (λ i. eqb (refusal_number (e i).session.refusal) 0 && ltb (same i) (ready (run_session run a) last part)) ∙ sym g.more,
+      f.more ∙ (λ i. eqb (final_number (e i).session.refusal) 0 && ltb (same i) (ready (run_session run a) last part)) ∙ sym g.more,
       f.report ∙ ap (λ o. over o.bytes buffer) e ∙ sym g.report,
     )
 

@@ -62,6 +62,10 @@ unfolding relabelled
 labels_same n k job l = by_move (λ m. m ≢ Update → relabelled n (digits original n) l (label_step (move_of k job m)) false ≡ l false)
     (λ d. refl) (λ d. refl) (λ d. refl) (λ d. absurd (d refl)) (λ d. refl) (λ d. refl) (λ d. refl) (λ d. refl)
 
+-- what hands something out is a task
+pub task_given : {h : Handed} {x : Result Task Refusal} {r : Refusal} → Ok h ≡ handed_by x → x ≡ Err r → ⊥
+task_given {h} {x} {r} e w = let q : Ok h ≡ Err r = e ∙ ap handed_by w in cc
+
 module _ {a : Arrays} {order : Lists.List ℕ} (f : Runnable a order) where
   abbrev n : ℕ
   n = a.count

@@ -16,7 +16,7 @@ use Rattle.basics.proofs.Facts.{and_both}
 use Rattle.simulation.specs.Calls.{original}
 use Rattle.transition.specs.Forms.{over, fresh_table}
 use Rattle.moves.specs.Moves.{refusal_number, final_number}
-use Rattle.moves.proofs.MoveLaws.{accepted}
+use Rattle.moves.proofs.MoveLaws.{positive, accepted}
 use Rattle.moves.specs.declared.Refusal.{Refusal}
 use Rattle.std.specs.Prelude.{Option, Some, None, Result, Ok, Err}
 use Rattle.arrays.specs.Arrays.{Arrays}
@@ -25,7 +25,7 @@ use Rattle.schedule.specs.Tables.{tables}
 use Rattle.schedule.specs.Lines.{header_read}
 use Rattle.schedule.specs.Sessions.{Session, session, Served}
 use Rattle.schedule.specs.Files.{cut, printed, run_lines}
-use Rattle.schedule.proofs.SessionLaws.{header_refused, header_length}
+use Rattle.schedule.proofs.SessionLaws.{header_length}
 use Rattle.schedule.proofs.Runs.{printed_refusal}
 use Rattle.file.specs.Clauses.{Runnable, read_lines, Reports}
 use Rattle.file.specs.Feeds.{run_session, awaits, run_from, ready, Underway, Feeds, fed_of, Opened}
@@ -130,19 +130,19 @@ module _ (run : Run) (a : Arrays) (last : Bool) (part buffer : Lists.List ℕ) w
       (fresh : awaits (run_session run a) ≡ true → a ≡ fresh_table lent 2) where
     pub feeds_refused : {x : Refusal} {l : Lists.List ℕ} {w : ℕ} {buffer' : Lists.List ℕ} → header_read original (take 18 part) ≡ Err x → l ≡ take 18 part
         → let told = printed 1 (refusal_number x) [] in w ≡ length told → buffer' ≡ over told buffer
-        → Feeds run a last part (record { run = record { lines = 0; refusal = x }; read = length l; written = w; more = false }) a
+        → Feeds run a last part (record { run = record { lines = 0; refusal = Some x }; read = length l; written = w; more = false }) a
         buffer buffer'
     unfolding cut run_lines
     feeds_refused {x} h e p q =
         let told = printed 1 (refusal_number x) [] in
-        let d = header_refused original (take 18 part) x h in
+        let d = positive x in
         record {
           served = 1;
           most = some;
           read = omega (arith, ap length e, length-take 18 part);
           bytes = told;
           runs = rw (wait, h) (λ i. record {
-            session = session 0 x (sym (fresh wait) i);
+            session = session 0 (Some x) (sym (fresh wait) i);
             refusal = refusal_number x;
             bytes = append-nil told i;
           });
@@ -270,7 +270,7 @@ module _ {run : Run} {a : Arrays} {part : Lists.List ℕ} {lines at : ℕ} {a₁
             (λ n. refused_opened left n)
 
 pub underway_refused : {run : Run} {a : Arrays} {order : Lists.List ℕ} → Underway run a order → (l : Lists.List ℕ) (x : Refusal)
-    → header_read original l ≡ Err x → Underway (record { lines = 0; refusal = x }) a order
+    → header_read original l ≡ Err x → Underway (record { lines = 0; refusal = Some x }) a order
 underway_refused {a = a} f l x h =
-    let d = header_refused original l x h in
-    record { runnable = f.runnable; few = λ z. absurd (d z); fresh = λ w. absurd (true≢false (sym w ∙ refused_opened (session 0 x a) d)) }
+    let d = positive x in
+    record { runnable = f.runnable; few = λ z. absurd (d z); fresh = λ w. absurd (true≢false (sym w ∙ refused_opened (session 0 (Some x) a) d)) }

@@ -269,7 +269,7 @@ fn fed_by(at: usize, r: Progress, end: usize) -> Fed
         },
         read: at + r.read,
         written: r.written,
-        more: r.refusal.is_none() && at + r.read < end,
+        more: r.refusal.is_none() & (at + r.read < end),
     }
 }
 
@@ -299,7 +299,7 @@ fn open_part(
             at: 0,
         }));
     }
-    if part.len() < 18 && !last {
+    if (part.len() < 18) & !last {
         return Ok(None);
     }
     let n = schedule::read_header(schedule::line_at(part, 0))?;
