@@ -8,7 +8,7 @@ use mathlib.Core.Logic.{◌≢◌, by_cases}
 use mathlib.Core.Bool.{Bool, true, false}
 use mathlib.Core.List.{List, [], ◌∷◌, ◌++◌, append_assoc}
 use lib.ListN.{length, length-append, length-replicate, get_or, set, take, drop, replicate, length-drop}
-use lib.Seq.{paste, take-append-add, set_at, take_at, drop_at, drop-drop, take-append-le, drop-append-le, drop-append-add, length-take-le, get_or-take}
+use lib.Seq.{paste, paste-zero, take-append-add, set_at, take_at, drop_at, drop-drop, take-append-le, drop-append-le, drop-append-add, length-take-le, get_or-take}
 use lib.Dec.{eqb}
 use Rattle.std.specs.List.{AllWithin, HoldsAt}
 use Rattle.std.specs.Option.{MatchOption}
@@ -57,6 +57,12 @@ inserted_moves {A} l k q x h u =
     let whole : paste l (q + 1) (drop q l) (k - q) ≡ take q l ++ get_or l q x ∷ (take (k - q) (drop q l) ++ drop (k + 1) l)
     = rw (take_more l q x (omega arith), f) (simp append_assoc) in
     rw (whole, set_at (take q l) (get_or l q x) (take (k - q) (drop q l) ++ drop (k + 1) l) x q (length-take-le q l (omega arith)), front, moved) (simp append_assoc)
+
+-- behind all of them
+pub put_last : {A : Type 0} (l : List A) (k : ℕ) (x : A) → k < length l → set l k x ≡ put_in k x (take k l) ++ drop (k + 1) l
+put_last {A} l k x u =
+    let z : k - k ≡ 0 = omega arith in
+    ap (λ (r : List A). set r k x) (paste-zero l (k + 1) (drop k l) ∙ sym (ap (paste l (k + 1) (drop k l)) z)) ∙ inserted_moves l k k x (omega arith) u
 
 -- those behind place q move up as far as place m
 pub removed_moves : {A : Type 0} (l : List A) (m q : ℕ) → q ≤ m → m < length l → paste l q (drop (q + 1) l) (m - q) ≡ taken_out m q l
