@@ -1,6 +1,6 @@
 // The newest station and the scan order (document 01, "The digits and the labels", "The steps").
 ghost use Rattle.std.specs.Prelude.{◌≡◌, ◌≢◌, true, ◌∷◌, ◌++◌, ℕ, ◌+◌, ◌-◌, ◌≤◌, ◌<◌, length, get_or, take, drop, replicate};
-ghost use Rattle.basics.specs.Tests.{newest, ordered};
+ghost use Rattle.basics.specs.Tests.{newest, inserted, ordered, All};
 ghost use Rattle.label.specs.Labels.{holders};
 ghost use Rattle.rows.specs.Held.{held, stands_in, Orderly, OrderedBefore, place_among, taken_out, Leads};
 
@@ -56,19 +56,18 @@ pub fn newest(rows: &[[u8; 31]; 32], n: usize) -> Top
     top
 }
 
-// How many of the stations in the first m places of `order`, which stand there oldest first, stand before station k: by binary search.
-fn position(rows: &[[u8; 31]; 32], n: usize, order: &[usize], m: usize, k: usize) -> usize
+// Where station k is put in among others that stand oldest first: how many of them stand before it, by binary search.
+fn position(rows: &[[u8; 31]; 32], n: usize, order: &[usize], k: usize) -> usize
     requires orderly { Orderly n rows.now }
-    requires k_lt_n { (k < n) × (m ≤ length order.now) }
-    requires by_index { (p : ℕ) → p < m → (get_or order.now p 0 < n) × (get_or order.now p 0 ≢ k) }
-    requires by_index_2 { (p q : ℕ) → p < q → q < m → stands_in n rows.now (get_or order.now p 0) (get_or order.now q 0) ≡ true }
-    ensures upper_bound { result ≤ m }
-    ensures by_index_3 { (p : ℕ) → p < result → stands_in n rows.now (get_or order.now p 0) k ≡ true }
-    ensures by_index_4 { (p : ℕ) → result ≤ p → p < m → stands_in n rows.now k (get_or order.now p 0) ≡ true }
+    requires k_lt_n { k < n }
+    requires others { All (λ i. (i < n) × (i ≢ k)) order.now }
+    requires by_index { (p q : ℕ) → p < q → q < length order.now → stands_in n rows.now (get_or order.now p 0) (get_or order.now q 0) ≡ true }
+    ensures upper_bound { result ≤ length order.now }
+    ensures placed { inserted (stands_in n rows.now) k order.now ≡ take result order.now ++ k ∷ drop result order.now }
 {
     let row = rows[k];
     let mut low: usize = 0;
-    let mut high = m;
+    let mut high = order.len();
     while low < high {
         let middle = (low + high) / 2;
         let i = order[middle];
@@ -99,7 +98,7 @@ pub fn order(rows: &[[u8; 31]; 32], n: usize) -> [usize; 32]
 {
     let mut r = [0usize; 32];
     for k in 0..n {
-        let q = position(rows, n, &r, k, k);
+        let q = position(rows, n, &r[..k], k);
         insert_at(&mut r, k, q, k);
     }
     r
@@ -123,6 +122,6 @@ pub fn reorder(rows: &[[u8; 31]; 32], n: usize, order: &mut [usize], k: usize)
 {
     let m = n - 1;
     take_out(order, n, k);
-    let q = position(rows, n, order, m, k);
+    let q = position(rows, n, &order[..m], k);
     insert_at(order, m, q, k);
 }
