@@ -6,6 +6,7 @@ ghost use Rattle.label.specs.Rows.{digit, row};
 ghost use Rattle.rows.specs.Held.{held, Orderly, pending_in, stands_in};
 
 // How many leading digits each of the n stations shares with the label `top`.
+#[tactic(auto, using(basics::proofs::Filled::filled_none, basics::proofs::Filled::filled_more))]
 fn shared_prefixes(rows: &[[u8; 31]; 32], n: usize, top: [u8; 31]) -> [usize; 32]
     requires { (1 ≤ n) × (n ≤ 32) }
     ensures { result ≡ tabulate 32 0 (λ j. cond (ltb j n) (first_difference (n - 1) (held rows.now j) (digit top)) 0) }
@@ -66,6 +67,7 @@ fn new_label(rows: &[[u8; 31]; 32], n: usize, z: usize, k: usize) -> [u8; 31]
 }
 
 // The pending label that a snap for a label leaves at place k, where station z is the newest: that station keeps its own.
+#[tactic(auto, using(crate::proofs::OrderLaws::orderly_total, label::proofs::Total::newest_inside, crate::proofs::ChoiceLaws::pending_kept, crate::proofs::ChoiceLaws::pending_new))]
 pub fn pending_by(rows: &[[u8; 31]; 32], n: usize, z: usize, k: usize, own: [u8; 31]) -> [u8; 31]
     requires orderly { Orderly n rows.now }
     requires z_value { z ≡ newest n (stands_in n rows.now) }

@@ -22,6 +22,7 @@ fn alone(station: usize) -> Top
 }
 
 // The newest of the first j stations, and how many of them have its label, are known: the same of these and station j.
+#[tactic(auto, using(label::proofs::Holders::holders_few))]
 fn with_next(rows: &[[u8; 31]; 32], n: usize, top: Top, j: usize) -> Top
     requires orderly { Orderly n rows.now }
     requires j_lt_n { j < n }
@@ -44,6 +45,7 @@ fn with_next(rows: &[[u8; 31]; 32], n: usize, top: Top, j: usize) -> Top
 }
 
 // The newest of n stations, the one that all others stand before, and how many of them have its label: in one pass.
+#[tactic(auto, using(crate::proofs::NewestLaws::leads_all))]
 pub fn newest(rows: &[[u8; 31]; 32], n: usize) -> Top
     requires { Orderly n rows.now }
     ensures station_value { result.station ≡ newest n (stands_in n rows.now) }
