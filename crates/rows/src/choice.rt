@@ -34,7 +34,7 @@ fn histogram(shared: &[usize], k: usize) -> [usize; 32]
     r
 }
 
-// The position h - 1 of the new label, h the smallest at which at least n - h stations other than k share h digits, where n stations share digits.
+// The position h - 1 of the new label, h the smallest at which at least n - h stations other than k share h digits, n the number of stations.
 // As there are n - 1 of them, that is the first p at which at most p of them share at most p digits.
 fn level(shared: &[usize], k: usize) -> usize
     requires k_lt_n { (k < length shared.now) × (length shared.now ≤ 32) }

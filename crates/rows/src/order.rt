@@ -1,4 +1,5 @@
 // The newest station and the scan order (document 01, "The digits and the labels", "The steps").
+// The C interface lends the rows of all 32 stations: how many of them count is a parameter beside them.
 ghost use Rattle.std.specs.Prelude.{◌≡◌, ◌≢◌, true, ◌∷◌, ◌++◌, ℕ, ◌+◌, ◌-◌, ◌≤◌, ◌<◌, length, get_or, take, drop, replicate};
 ghost use Rattle.basics.specs.Tests.{newest, inserted, ordered, All};
 ghost use Rattle.label.specs.Labels.{holders};
@@ -67,6 +68,7 @@ fn position(rows: &[[u8; 31]; 32], n: usize, order: &[usize], k: usize) -> usize
     ensures upper_bound { result ≤ length order.now }
     ensures placed { inserted (stands_in n rows.now) k order.now ≡ take result order.now ++ k ∷ drop result order.now }
 {
+    // `partition_point` asks that its closure takes any number, and only the n stations have labels.
     let row = rows[k];
     let mut low: usize = 0;
     let mut high = order.len();
