@@ -8,7 +8,7 @@ use mathlib.Core.Logic.{◌≢◌, by_cases}
 use mathlib.Core.Bool.{Bool, true, false}
 use mathlib.Core.List.{List, [], ◌∷◌, ◌++◌, append_assoc}
 use lib.ListN.{length, length-append, length-replicate, get_or, set, take, drop, replicate, length-drop}
-use lib.Seq.{paste, take-append-add, set_at, take_at, drop_at, drop-drop, take-append-le, drop-append-le, drop-append-add, length-take-le, get_or-take}
+use lib.Seq.{paste, paste-zero, take-append-add, set_at, take_at, drop_at, drop-drop, take-append-le, drop-append-le, drop-append-add, length-take-le, get_or-take}
 use lib.Dec.{eqb}
 use Rattle.std.specs.List.{AllWithin, HoldsAt}
 use Rattle.std.specs.Option.{MatchOption}
@@ -57,6 +57,12 @@ inserted_moves {A} l k q x h u =
     let whole : paste l (q + 1) (drop q l) (k - q) ≡ take q l ++ get_or l q x ∷ (take (k - q) (drop q l) ++ drop (k + 1) l)
     = rw (take_more l q x (omega arith), f) (simp append_assoc) in
     rw (whole, set_at (take q l) (get_or l q x) (take (k - q) (drop q l) ++ drop (k + 1) l) x q (length-take-le q l (omega arith)), front, moved) (simp append_assoc)
+
+-- behind all of them
+pub put_last : {A : Type 0} (l : List A) (k : ℕ) (x : A) → k < length l → set l k x ≡ put_in k x (take k l) ++ drop (k + 1) l
+put_last {A} l k x u =
+    let z : k - k ≡ 0 = omega arith in
+    ap (λ (r : List A). set r k x) (paste-zero l (k + 1) (drop k l) ∙ sym (ap (paste l (k + 1) (drop k l)) z)) ∙ inserted_moves l k k x (omega arith) u
 
 -- those behind place q move up as far as place m
 pub removed_moves : {A : Type 0} (l : List A) (m q : ℕ) → q ≤ m → m < length l → paste l q (drop (q + 1) l) (m - q) ≡ taken_out m q l
@@ -144,12 +150,11 @@ module _ (w : ℕ) (b : ℕ → ℕ → Bool) (k : ℕ) (l : List ℕ) (e : l �
   order_long h = rw (e, length-append, ordered_length, length-replicate) (omega arith)
 
   -- what is listed is other than station k, and stands there oldest first
-  pub order_others : (n : ℕ) → k < n → (p : ℕ) → p < k → Other n k (get_or l p 0)
-  order_others n h = front_all k l (ordered k b) order_front (ordered_length b k) (Other n k)
-      (ordered_all (Other n k) b k (λ i u. (omega arith, λ f. omega arith)))
+  pub front_others : (n : ℕ) → k < n → All (Other n k) (take k l)
+  front_others n h = rw order_front (ordered_all (Other n k) b k (λ i u. (omega arith, λ f. omega arith)))
 
-  pub order_sorted : {n : ℕ} → Total n b → k < n → (p q : ℕ) → p < q → q < k → b (get_or l p 0) (get_or l q 0) ≡ true
-  order_sorted {n} o h = front_sorted k l (ordered k b) order_front (ordered_length b k) b (ordered_sorted n b o k (omega arith))
+  pub front_in_order : {n : ℕ} → Total n b → k < n → (p q : ℕ) → p < q → q < length (take k l) → b (get_or (take k l) p 0) (get_or (take k l) q 0) ≡ true
+  front_in_order {n} o h = rw order_front (sorted_at b (ordered k b) (ordered_sorted n b o k (omega arith)))
 
   order_rest : k < w → drop (k + 1) l ≡ replicate (w - (k + 1)) 0
   order_rest h = rw (e, replicate_more {A = ℕ} w k 0 h) (ap (λ (i : ℕ). drop (i + 1) (ordered k b ++ 0 ∷ replicate (w - (k + 1)) 0)) (sym (ordered_length b k))
@@ -259,15 +264,19 @@ module _ {w n k : ℕ} {b : ℕ → ℕ → Bool} {l : List ℕ} (d : Displaced 
     others_sorted = front_sorted m r others others_front others_long b
         (without_sorted b k (ordered n b) (ordered_sorted n b d.now n (omega arith)))
 
+    pub others_all : All (Other n k) (take m r)
+    others_all = rw others_front (without_all (λ j. j < n) (Other n k) k (λ j u v. (u, v)) (ordered n b) (ordered_all (λ j. j < n) b n (λ j u. u)))
+
+    pub others_in_order : (p q : ℕ) → p < q → q < length (take m r) → b (get_or (take m r) p 0) (get_or (take m r) q 0) ≡ true
+    others_in_order = rw others_front (sorted_at b others (without_sorted b k (ordered n b) (ordered_sorted n b d.now n (omega arith))))
+
     -- and put in at place q, where it stands now
+    pub put_where : (q : ℕ) (r' : List ℕ) → inserted b k (take m r) ≡ put_in q k (take m r) → r' ≡ put_in q k (take m r) ++ drop (m + 1) r → r' ≡ order_in w b n
+    put_where q r' e f = f ∙ rw (← e, rest, others_front, back) refl
+
     pub put_again : (q : ℕ) (r' : List ℕ) → q ≤ m → ((p : ℕ) → p < q → b (get_or r p 0) k ≡ true)
         → ((p : ℕ) → q ≤ p → p < m → b k (get_or r p 0) ≡ true) → r' ≡ put_in q k (take m r) ++ drop (m + 1) r → r' ≡ order_in w b n
-    put_again q r' h early late f = f ∙ rw (
-      ← put_in_lem d.now k d.inside m r others_listed (omega (arith, others_room)) q h early late,
-      rest,
-      others_front,
-      back,
-    ) refl
+    put_again q r' h early late = put_where q r' (put_in_lem d.now k d.inside m r others_listed (omega (arith, others_room)) q h early late)
 
 -- THE NEWEST
 

@@ -9,8 +9,7 @@ use mathlib.Core.List.{List, [], ◌∷◌}
 use lib.ListN.{length, get_or, take}
 use lib.Seq.{take_all, length-take-le, get_or-take}
 use Rattle.std.specs.List.{list_any, list_all, range_with_len}
-use Rattle.std.proofs.lemmas.List.Folds.{list_any_more, list_all_more}
-use Rattle.std.proofs.lemmas.List.FromFn.{length-range_with_len, get_or-range_with_len}
+use Rattle.std.proofs.lemmas.List.Folds.{list_any_more}
 use lib.Dec.{eqb}
 use borrow.Author.Tests.{eqb-true, eq-eqb, ne_eqb, not-true, not-false}
 use Rattle.basics.specs.Tests.{every}
@@ -18,6 +17,7 @@ use Rattle.label.specs.Labels.{Label, agrees}
 use Rattle.label.specs.Rows.{digit, no_ring}
 use Rattle.rows.specs.Held.{held, some, has_digit, has_all, parts_with, closes_ring, no_ring_at}
 use Rattle.basics.proofs.Facts.{tf, is_false, is_true, same_test, and_both, both, every_all, every_at, every_no, every_same}
+use Rattle.basics.proofs.Chains.{all_range}
 use Rattle.label.proofs.Order.{Agree, agrees_true, agree_agrees}
 use Rattle.label.proofs.RowLaws.{ring, ring_true, ring_of}
 
@@ -45,14 +45,6 @@ some_has (suc n) f e = go (f n) refl (some_has n f)
 
 -- a chain over a list asks what a test of the places does
 module _ {A : Type 0} (f : A → Bool) (l : List A) (d : A) where
-  all_upto : (k : ℕ) → k ≤ length l → list_all f (take k l) ≡ every k (λ j. f (get_or l j d))
-  unfolding every
-  all_upto zero h = refl
-  all_upto (suc k) h = rw (← add-one k) (list_all_more f l k d (omega arith)) ∙ ap (λ b. b && f (get_or l k d)) (all_upto k (omega arith))
-
-  all_places : list_all f l ≡ every (length l) (λ j. f (get_or l j d))
-  all_places = ap (list_all f) (sym (take_all (length l) l (omega arith))) ∙ all_upto (length l) (omega arith)
-
   any_upto : (k : ℕ) → k ≤ length l → list_any f (take k l) ≡ some k (λ j. f (get_or l j d))
   unfolding every
   any_upto zero h = refl
@@ -151,7 +143,6 @@ pub all_positions : (rows : List (List ℕ)) (n : ℕ) → 1 ≤ n → n ≤ len
     → list_all (λ p. every (length (take n rows)) (no_ring_at (length (take n rows)) (held (take n rows)) p)) (range_with_len 0 (n - 1)) ≡ no_ring (n - 1) (held rows)
 all_positions rows n h k =
     let long : length (take n rows) ≡ n = length-take-le n rows k in
-    rw long (all_places _ (range_with_len 0 (n - 1)) 0
-    ∙ rw (length-range_with_len 0 (n - 1)) (every_same (n - 1) _ _ (λ p l. ap (λ q. every n (no_ring_at n (held (take n rows)) q)) (get_or-range_with_len 0 (n - 1) p 0 l ∙ zero-add p))
-    ∙ sym (no_ring_each n (held (take n rows)) h)))
+    rw long (all_range _ 0 (n - 1) ∙ every_same (n - 1) _ _ (λ p l. ap (λ q. every n (no_ring_at n (held (take n rows)) q)) (zero-add p))
+    ∙ sym (no_ring_each n (held (take n rows)) h))
     ∙ no_ring_same (n - 1) _ _ (λ i l. ap digit (get_or-take n rows i [] (omega arith)))

@@ -1,6 +1,7 @@
 // The newest station and the scan order (document 01, "The digits and the labels", "The steps").
+// The C interface lends the rows of all 32 stations: how many of them count is a parameter beside them.
 ghost use Rattle.std.specs.Prelude.{◌≡◌, ◌≢◌, true, ◌∷◌, ◌++◌, ℕ, ◌+◌, ◌-◌, ◌≤◌, ◌<◌, length, get_or, take, drop, replicate};
-ghost use Rattle.basics.specs.Tests.{newest, ordered};
+ghost use Rattle.basics.specs.Tests.{newest, inserted, ordered, All};
 ghost use Rattle.label.specs.Labels.{holders};
 ghost use Rattle.rows.specs.Held.{held, stands_in, Orderly, OrderedBefore, place_among, taken_out, Leads};
 
@@ -22,6 +23,7 @@ fn alone(station: usize) -> Top
 }
 
 // The newest of the first j stations, and how many of them have its label, are known: the same of these and station j.
+#[tactic(auto, using(label::proofs::Holders::holders_few))]
 fn with_next(rows: &[[u8; 31]; 32], n: usize, top: Top, j: usize) -> Top
     requires orderly { Orderly n rows.now }
     requires j_lt_n { j < n }
@@ -44,6 +46,7 @@ fn with_next(rows: &[[u8; 31]; 32], n: usize, top: Top, j: usize) -> Top
 }
 
 // The newest of n stations, the one that all others stand before, and how many of them have its label: in one pass.
+#[tactic(auto, using(crate::proofs::NewestLaws::leads_all))]
 pub fn newest(rows: &[[u8; 31]; 32], n: usize) -> Top
     requires { Orderly n rows.now }
     ensures station_value { result.station ≡ newest n (stands_in n rows.now) }
@@ -56,19 +59,19 @@ pub fn newest(rows: &[[u8; 31]; 32], n: usize) -> Top
     top
 }
 
-// How many of the stations in the first m places of `order`, which stand there oldest first, stand before station k: by binary search.
-fn position(rows: &[[u8; 31]; 32], n: usize, order: &[usize], m: usize, k: usize) -> usize
+// Where station k is put in among others that stand oldest first: how many of them stand before it, by binary search.
+fn position(rows: &[[u8; 31]; 32], n: usize, order: &[usize], k: usize) -> usize
     requires orderly { Orderly n rows.now }
-    requires k_lt_n { (k < n) × (m ≤ length order.now) }
-    requires by_index { (p : ℕ) → p < m → (get_or order.now p 0 < n) × (get_or order.now p 0 ≢ k) }
-    requires by_index_2 { (p q : ℕ) → p < q → q < m → stands_in n rows.now (get_or order.now p 0) (get_or order.now q 0) ≡ true }
-    ensures upper_bound { result ≤ m }
-    ensures by_index_3 { (p : ℕ) → p < result → stands_in n rows.now (get_or order.now p 0) k ≡ true }
-    ensures by_index_4 { (p : ℕ) → result ≤ p → p < m → stands_in n rows.now k (get_or order.now p 0) ≡ true }
+    requires k_lt_n { k < n }
+    requires others { All (λ i. (i < n) × (i ≢ k)) order.now }
+    requires by_index { (p q : ℕ) → p < q → q < length order.now → stands_in n rows.now (get_or order.now p 0) (get_or order.now q 0) ≡ true }
+    ensures upper_bound { result ≤ length order.now }
+    ensures placed { inserted (stands_in n rows.now) k order.now ≡ take result order.now ++ k ∷ drop result order.now }
 {
+    // `partition_point` asks that its closure takes any number, and only the n stations have labels.
     let row = rows[k];
     let mut low: usize = 0;
-    let mut high = m;
+    let mut high = order.len();
     while low < high {
         let middle = (low + high) / 2;
         let i = order[middle];
@@ -99,7 +102,7 @@ pub fn order(rows: &[[u8; 31]; 32], n: usize) -> [usize; 32]
 {
     let mut r = [0usize; 32];
     for k in 0..n {
-        let q = position(rows, n, &r, k, k);
+        let q = position(rows, n, &r[..k], k);
         insert_at(&mut r, k, q, k);
     }
     r
@@ -123,6 +126,6 @@ pub fn reorder(rows: &[[u8; 31]; 32], n: usize, order: &mut [usize], k: usize)
 {
     let m = n - 1;
     take_out(order, n, k);
-    let q = position(rows, n, order, m, k);
+    let q = position(rows, n, &order[..m], k);
     insert_at(order, m, q, k);
 }

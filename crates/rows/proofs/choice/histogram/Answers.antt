@@ -1,6 +1,5 @@
-use Prim.Native.Nat.{ℕ}
 use native.Mathlib.Omega.{arith}
-use mathlib.Core.Path.{◌≡◌, ap, ◌∙◌}
+use mathlib.Core.Path.{◌≡◌, ap}
 use mathlib.Core.Bool.{not, ◌&&◌}
 use lib.ListN.{length, get_or, length-set, get_or-replicate}
 use lib.Dec.{eqb}
@@ -16,12 +15,6 @@ pub loop-j-init : goal.loop-j-init
 unfolding count
 loop-j-init c = (search rules, λ q h. get_or-replicate 32 q 0 0 h)
 
-pub offset_bounds-r-shared : goal.offset_bounds-r-shared
-offset_bounds-r-shared c = omega (arith, c.requires.by_index c.loop-j.j (omega arith))
-
-pub bounds-r-shared : goal.bounds-r-shared
-bounds-r-shared c = omega (arith, c.requires.by_index c.loop-j.j (omega arith))
-
 pub overflow_add-r : goal.overflow_add-r
 overflow_add-r c =
     let s = c.args.shared.now in
@@ -33,9 +26,6 @@ overflow_add-r c =
       c.loop-j.invariant.1 q (c.requires.by_index c.loop-j.j (omega arith)),
       count_bound j (λ i. not (eqb i k) && eqb (get_or s i 0) q),
     )
-
-pub bounds-r-shared-then-j-k : goal.bounds-r-shared-then-j-k
-bounds-r-shared-then-j-k c = omega (arith, c.requires.by_index c.loop-j.j (omega arith))
 
 pub loop-j-preserved : goal.loop-j-preserved
 loop-j-preserved c =
@@ -53,7 +43,3 @@ loop-j-preserved c =
       )
       | else-j-k w ↦ (rw w.r-is l, rw w.r-is (tally_miss 32 (λ i. not (eqb i k)) (λ i. get_or s i 0) r j old (ap not (eq-eqb j k w.if-j-k.false))))
     ]
-
-pub returns : goal.returns
-returns c = λ q h. c.loop-j.invariant.1 q h ∙ ap (λ (n : ℕ). count n (λ i. not (eqb i c.args.k) && eqb
-    (get_or c.args.shared.now i 0) q)) (omega arith)

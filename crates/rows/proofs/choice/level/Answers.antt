@@ -1,7 +1,7 @@
 use Prim.Native.Nat.{◌+◌, ◌-◌}
 use mathlib.Core.Path.{◌≡◌, ◌∙◌, sym}
 use native.Mathlib.Omega.{arith}
-use lib.ListN.{get_or}
+use lib.ListN.{length, get_or}
 use borrow.Author.Count.{below_more}
 use Rattle.rows.proofs.ChoiceLaws.{upto_none, upto_more, upto_small, level_is}
 use Rattle.rows.proofs.choice.level.Goals as goal
@@ -17,7 +17,7 @@ overflow_add-few c =
     omega (
       arith,
       upto_more r p,
-      upto_small a.n a.k (λ j. get_or a.shared.now j 0) 32 r c.histogram-exact.ensures (omega arith) (p + 1)
+      upto_small (length a.shared.now) a.k (λ j. get_or a.shared.now j 0) 32 r c.histogram-exact.ensures (omega arith) (p + 1)
           (omega arith),
     )
 
@@ -26,7 +26,7 @@ returns-then-few-p c =
     let a = c.args in
     let r = c.histogram-exact.result in
     let p = c.loop-p.p in
-    level_is a.n a.k (λ j. get_or a.shared.now j 0) 32 r c.histogram-exact.ensures (omega arith) p (omega arith) (omega arith)
+    level_is (length a.shared.now) a.k (λ j. get_or a.shared.now j 0) 32 r c.histogram-exact.ensures (omega arith) p (omega arith) (omega arith)
     c.loop-p.invariant.1 (λ h. omega (arith, upto_more r p))
 
 pub loop-p-preserved : goal.loop-p-preserved
@@ -38,7 +38,7 @@ loop-p-preserved c =
 pub returns : goal.returns
 returns c =
     let a = c.args in
-    let e : c.loop-p.p ≡ a.n - 1 = omega arith in
-    sym e ∙ level_is a.n a.k (λ j. get_or a.shared.now j 0) 32 c.histogram-exact.result c.histogram-exact.ensures (omega arith)
+    let e : c.loop-p.p ≡ length a.shared.now - 1 = omega arith in
+    sym e ∙ level_is (length a.shared.now) a.k (λ j. get_or a.shared.now j 0) 32 c.histogram-exact.result c.histogram-exact.ensures (omega arith)
     c.loop-p.p (omega arith) (omega arith)
     c.loop-p.invariant.1 (λ h. absurd (omega arith))
