@@ -4,9 +4,9 @@ use native.Mathlib.Numerals.{add-one}
 use native.Mathlib.Omega.{arith}
 use mathlib.Core.Path.{◌≡◌, refl, sym, ap, ◌∙◌}
 use mathlib.Core.List.{List, [], ◌∷◌, ◌++◌, append_assoc, append-nil}
-use lib.ListN.{length, get_or, take, drop, set, length-append, length-take, drop_of_length-le}
-use lib.Seq.{length-take-le, take-suc, drop-cons, set_at}
-use borrow.Rule.Slice.PartMut.{mid_of, put_mid}
+use lib.ListN.{length, get_or, take, drop, length-append}
+use lib.Seq.{length-take-le, take-suc}
+use borrow.Rule.Slice.PartMut.{put_mid}
 use Rattle.basics.proofs.Filled.{put_behind}
 use Rattle.columns.specs.Columns.{column}
 use Rattle.columns.proofs.ColumnLaws.{length_column}

@@ -1,9 +1,7 @@
-use mathlib.Core.Path.{refl, ap, ◌∙◌}
+use mathlib.Core.Path.{refl}
 use native.Mathlib.Omega.{arith}
-use lib.ListN.{length, take}
-use lib.Seq.{take_all}
 use Rattle.number_lines.specs.Lines.{number_lines}
-use Rattle.number_lines.proofs.Printing.{printed, numbers_more}
+use Rattle.number_lines.proofs.Printing.{numbers_more}
 use Rattle.number_lines.proofs.print_numbers.Goals as goal
 
 pub loop-i-init : goal.loop-i-init

@@ -6,7 +6,7 @@ use lib.ListN.{length, take, drop, length-drop}
 use lib.Seq.{take_all}
 use Rattle.std.proofs.Common.{Option}
 use Rattle.number_lines.specs.Lines.{number_read}
-use Rattle.number_lines.proofs.Reading.{read_start, read_more, read_full, read_bad}
+use Rattle.number_lines.proofs.Reading.{read_more, read_full, read_bad}
 use Rattle.number_lines.proofs.read_numbers.Goals as goal
 
 -- the line that is read is the one at `at`
