@@ -48,19 +48,13 @@ pub const OUT_OF_SERVICE: u8 = 1;
 pub fn phase_of(b: u8) -> Phase
     ensures { phase_of result ≡ phase_for b }
 {
-    if b == IDLE {
-        return Phase::Idle;
+    match b {
+        IDLE => Phase::Idle,
+        SNAP => Phase::Snap,
+        UPDATE => Phase::Update,
+        END_LABEL => Phase::End(Operation::Label),
+        _ => Phase::End(Operation::Scan),
     }
-    if b == SNAP {
-        return Phase::Snap;
-    }
-    if b == UPDATE {
-        return Phase::Update;
-    }
-    if b == END_LABEL {
-        return Phase::End(Operation::Label);
-    }
-    Phase::End(Operation::Scan)
 }
 
 // Whether a number stands for out of service; every number but 0 is read so.
@@ -85,28 +79,19 @@ pub fn shown_in(n: usize, stations: &[u32; 32]) -> usize
     requires { n ≤ 32 }
     ensures { result ≡ shown_in n stations.now }
 {
-    let mut k = n;
-    while 0 < k {
-        if stations[k - 1] != 0 {
-            return k;
-        }
-        k -= 1;
+    match stations[..n].iter().rposition(|s| *s != 0) {
+        Some(last) => last + 1,
+        None => 0,
     }
-    0
 }
 
 // Writes what a fresh table holds beside its labels over what is lent: no jobs, all idle and in service, empty results.
 pub fn refresh_rest(jobs: &mut Jobs, control: &mut Control, results: &mut Results)
     ensures { Holds fresh_rest jobs.new control.new results.new }
 {
-    let none = [0u32; 32];
-    let idle = [IDLE; 32];
-    let serving = [IN_SERVICE; 32];
-    let empty = [none; 2];
-    *jobs = [none; 2];
-    let state = [idle, serving];
-    *control = state;
-    *results = [empty; 32];
+    *jobs = [[0; 32]; 2];
+    *control = [[IDLE; 32], [IN_SERVICE; 32]];
+    *results = [[[0; 32]; 2]; 32];
 }
 
 // Writes the fresh table of n stations over what is lent.
@@ -119,8 +104,6 @@ pub fn refresh(
 )
     ensures { arrays n labels.new jobs.new control.new results.new ≡ fresh_table lent n }
 {
-    let label = [1u8; 31];
-    let plane = [label; 32];
-    *labels = [plane; 2];
+    *labels = [[[1; 31]; 32]; 2];
     refresh_rest(jobs, control, results);
 }

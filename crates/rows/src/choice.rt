@@ -12,10 +12,8 @@ fn shared_prefixes(rows: &[[u8; 31]; 32], n: usize, top: [u8; 31]) -> [usize; 32
 {
     let m = n - 1;
     let mut shared = [0usize; 32];
-    let mut j: usize = 0;
-    while j < n {
+    for j in 0..n {
         shared[j] = label::first_difference(rows[j], top, m);
-        j += 1;
     }
     shared
 }
@@ -27,13 +25,10 @@ fn histogram(shared: &[usize; 32], n: usize, k: usize) -> [usize; 32]
     ensures { (q : ℕ) → q < 32 → get_or result q 0 ≡ count n (λ j. not (eqb j k) && eqb (get_or shared.now j 0) q) }
 {
     let mut r = [0usize; 32];
-    let mut j: usize = 0;
-    while j < n {
+    for j in 0..n {
         if j != k {
-            let q = shared[j];
-            r[q] = r[q] + 1;
+            r[shared[j]] += 1;
         }
-        j += 1;
     }
     r
 }
@@ -48,15 +43,13 @@ fn level(shared: &[usize; 32], n: usize, k: usize) -> usize
     let exact = histogram(shared, n, k);
     let m = n - 1;
     let mut few: usize = 0;
-    let mut p: usize = 0;
-    while p < m {
+    for p in 0..m {
         few += exact[p];
         if few <= p {
             return p;
         }
-        p += 1;
     }
-    p
+    m
 }
 
 // The new label of station k, where station z is the newest.

@@ -50,10 +50,8 @@ pub fn newest(rows: &[[u8; 31]; 32], n: usize) -> Top
     ensures holders_value { result.holders ≡ holders n (n - 1) (held rows.now) result.station }
 {
     let mut top = alone(0);
-    let mut j: usize = 1;
-    while j < n {
+    for j in 1..n {
         top = with_next(rows, n, top, j);
-        j += 1;
     }
     top
 }
@@ -84,16 +82,13 @@ fn position(rows: &[[u8; 31]; 32], n: usize, order: &[usize], m: usize, k: usize
 }
 
 // The first k of `order` get x put in among them at place q; what stands past them stays.
+#[tactic(auto, using(crate::proofs::OrderLaws::inserted_moves))]
 pub fn insert_at(order: &mut [usize], k: usize, q: usize, x: usize)
     requires { (q ≤ k) × (k < length order.old) }
     ensures { order.new ≡ take q (take k order.old) ++ x ∷ drop q (take k order.old) ++ drop (k + 1)
         order.old }
 {
-    let mut p = k;
-    while q < p {
-        order[p] = order[p - 1];
-        p -= 1;
-    }
+    order.copy_within(q..k, q + 1);
     order[q] = x;
 }
 
@@ -103,40 +98,11 @@ pub fn order(rows: &[[u8; 31]; 32], n: usize) -> [usize; 32]
     ensures { result ≡ ordered n (stands_in n rows.now) ++ replicate (32 - n) 0 }
 {
     let mut r = [0usize; 32];
-    let mut k: usize = 0;
-    while k < n {
+    for k in 0..n {
         let q = position(rows, n, &r, k, k);
         insert_at(&mut r, k, q, k);
-        k += 1;
     }
     r
-}
-
-// The first of n places of `order` that holds station k; n if none does.
-fn place(order: &[usize], n: usize, k: usize) -> usize
-    requires { n ≤ length order.now }
-    ensures { result ≡ place_among n order.now k }
-{
-    let mut p: usize = 0;
-    while p < n {
-        if order[p] == k {
-            return p;
-        }
-        p += 1;
-    }
-    p
-}
-
-// The one at place q of `order` is taken out, and those behind it move up as far as place m, which is then free.
-fn remove_at(order: &mut [usize], m: usize, q: usize)
-    requires { (q ≤ m) × (m < length order.old) }
-    ensures { order.new ≡ taken_out m q order.old }
-{
-    let mut p = q;
-    while p < m {
-        order[p] = order[p + 1];
-        p += 1;
-    }
 }
 
 // Station k, one of the first n of `order`, is taken out, and those behind it move up: place n - 1 is then free.
@@ -144,8 +110,8 @@ pub fn take_out(order: &mut [usize], n: usize, k: usize)
     requires { (place_among n order.old k < n) × (n ≤ length order.old) }
     ensures { order.new ≡ taken_out (n - 1) (place_among n order.old k) order.old }
 {
-    let q = place(order, n, k);
-    remove_at(order, n - 1, q);
+    let q = order[..n].iter().position(|i| *i == k).unwrap();
+    order.copy_within(q + 1..n, q);
 }
 
 // Brings the order up to date after station k alone got another label: it is taken out, and put in where it stands now.
