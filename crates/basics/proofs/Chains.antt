@@ -1,9 +1,13 @@
--- What `all` answers over a slice and over a range: a test of each number below a bound.
-use Rattle.std.proofs.Common.{◌≡◌, ℕ, zero, suc, ◌+◌, Bool, true, false, ◌&&◌, List, [], ◌∷◌, ◌≤◌, length, get_or, take, drop, length-drop, refl, sym, ap, ap₂, ◌∙◌, arith}
+-- What chains of iterators answer, and arrays that are made: `all` over a slice and over a range, and `from_fn`.
+use Rattle.std.proofs.Common.{◌≡◌, ℕ, zero, suc, ◌+◌, ◌<◌, Bool, true, false, ◌&&◌, List, [], ◌∷◌, ◌≤◌, length, get_or, take, drop, length-drop, refl, sym, ap, ap₂, ◌∙◌, arith}
 use Rattle.std.proofs.lemmas.List.{get_or-take, get_or-drop, length-take-le}
 use Rattle.std.specs.List.{list_all, range_with_len}
-use Rattle.basics.specs.Tests.{every}
-use Rattle.basics.proofs.Facts.{every_same}
+use Rattle.std.specs.Array.{IsFromFnResult, IsFromFnResultFrom}
+use denote.Param.Members.{Mut, Called}
+use native.Mathlib.Decide.{dec_lt}
+use mathlib.Core.Logic.{by_cases}
+use Rattle.basics.specs.Tests.{every, tabulate}
+use Rattle.basics.proofs.Facts.{every_same, tabulate_is}
 
 every_front : (n : ℕ) (f : ℕ → Bool) → every (suc n) f ≡ (f 0 && every n (λ i. f (suc i)))
 unfolding every
@@ -39,3 +43,19 @@ pub all_part : {A : Type 0} (test : A → Bool) (n k : ℕ) (xs : List A) (d : A
     → list_all test (take k (drop n xs)) ≡ every k (λ i. test (get_or xs (n + i) d))
 all_part test n k xs d h =
     all_front test k (drop n xs) d (omega (arith, length-drop n xs)) ∙ every_same k _ _ (λ i l. ap test (get_or-drop n xs i d))
+
+-- an array that `from_fn` makes, of a closure that it leaves as it was
+module _ {F B : Type 0} (g : Mut F (ℕ × Unit {0}) B) (f : F) (h : ℕ → B)
+    (calls : (j : ℕ) (y : B) (q : F) → Called g f (j, tt) y q → (q ≡ f) × (y ≡ h j)) (ys : List B) where
+  each_made : (p : F) (i k : ℕ) → p ≡ f → IsFromFnResultFrom g p ys i k → (j : ℕ) → i ≤ j → j < i + k → (d : B) → get_or ys j d ≡ h j
+  each_made p i zero e r j u l d = absurd (omega arith)
+  each_made p i (suc k) e r j u l d =
+      let c = calls i r.1 r.0 (rw e at r.3) in
+      by_cases (dec_lt i j)
+      (λ m. each_made r.0 (i + 1) k c.0 r.4 j (omega arith) (omega arith) d)
+      (λ m. let q : j ≡ i = omega arith in rw q (r.2.1 d ∙ c.1))
+
+pub made_each : {F B : Type 0} {g : Mut F (ℕ × Unit {0}) B} {f : F} {n : ℕ} {ys : List B} (h : ℕ → B) → IsFromFnResult g f ys n
+    → ((j : ℕ) (y : B) (q : F) → Called g f (j, tt) y q → (q ≡ f) × (y ≡ h j)) → ys ≡ tabulate n 0 h
+made_each {g = g} {f = f} {n = n} {ys = ys} h r calls =
+    sym (tabulate_is n ys (h 0) h r.long (λ i l. sym (each_made g f h calls ys f 0 n refl r.each i (omega arith) (omega arith) (h 0))))

@@ -23,11 +23,11 @@ fn tops() -> [u8; 64]
 fn digit_fits(d: u8, top: u8) -> bool
     ensures { result ≡ within 1 top d }
 {
-    std::num::wrapping_sub_u8(d, 1) < top
+    d.wrapping_sub(1) < top
 }
 
 // Whether each of the 16 digits from position h on fits in two labels of m digits.
-#[tactic(auto, using(basics::proofs::Loops::flag_more, basics::proofs::Loops::flag_up))]
+#[tactic(auto, unfolding(basics::specs::Tests::every))]
 fn half_fits(m: usize, current: &[u8; 31], pending: &[u8; 31], most: &[u8; 64], h: usize) -> bool
     requires m_bound { (m ≤ 31) × (h ≤ 15) }
     requires most_value { most.now ≡ tops }
@@ -54,8 +54,7 @@ fn halves_fit(m: usize, labels: &Labels, from: usize, k: usize, most: &[u8; 64],
 // Whether both labels of k stations, from the one at `from` on, fit as labels of m digits. First one half of all of them is read, then the other: the
 // halves, as long as a vector each, share position 15, and no byte is read for both at once.
 fn labels_fit(m: usize, labels: &Labels, from: usize, k: usize) -> bool
-    requires m_bound { (m ≤ 31) × (from + k ≤ 32) }
-    requires by_index { (x : ℕ) → x < 2 → (i : ℕ) → i < 32 → length (cell labels.now x i []) ≡ 31 }
+    requires { (m ≤ 31) × (from + k ≤ 32) }
     ensures { result ≡ every k (λ i. both_fit m labels.now (from + i)) }
 {
     let most = tops();
@@ -180,7 +179,6 @@ pub fn well_formed(
         return false;
     }
     let n = count as usize;
-    arrays::shaped(*labels, *jobs, *control, *results);
     let stations = labels_fit(n - 1, labels, 0, n) & results_fit(n, results);
     let places = labels_fit(0, labels, n, 32 - n)
         & none_from(n, &jobs[0])

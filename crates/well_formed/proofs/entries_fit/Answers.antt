@@ -1,4 +1,4 @@
-use Rattle.std.proofs.Common.{◌≡◌, ℕ, ◌&&◌, not, eqb, leb, length, take, get_or, refl, ◌∙◌, arith}
+use Rattle.std.proofs.Common.{◌≡◌, ℕ, ◌&&◌, not, eqb, leb, length, take, refl, ◌∙◌, arith}
 use Rattle.std.proofs.lemmas.List.{get_or-take, length_push}
 use Rattle.std.proofs.lemmas.Slice.Zip.{zip_turn}
 use Rattle.basics.proofs.Loops.{flag_more}

@@ -1,4 +1,4 @@
-use Rattle.std.proofs.Common.{◌≡◌, ℕ, ◌<◌, true, eqb, get_or, take, refl, arith, length-set}
+use Rattle.std.proofs.Common.{◌<◌, true, eqb, get_or, refl, arith, length-set}
 use Rattle.std.proofs.lemmas.List.{get_or-take, length-take-le}
 use lib.ListN.{get_or-replicate}
 use Rattle.basics.specs.Tests.{count}

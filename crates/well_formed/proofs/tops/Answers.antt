@@ -1,5 +1,4 @@
-use Rattle.std.proofs.Common.{ap, ◌∙◌, refl, ◌++◌, replicate, arith}
-use Rattle.well_formed.specs.Loops.{tops}
+use Rattle.std.proofs.Common.{ap, ◌∙◌, refl, ◌++◌, replicate}
 use Rattle.basics.specs.Tests.{tabulate}
 use Rattle.well_formed.proofs.tops.Goals as goal
 
