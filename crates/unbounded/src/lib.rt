@@ -50,10 +50,13 @@ fn given_to(
     ensures { GivenTo m place z current.now log.now used result }
 {
     match m {
-        Move::SnapLabel => match log.get(used) {
-            Some(&v) if numbers::fits(current, z, place, v) => Some(Some(v as u32)),
-            _ => None,
-        },
+        Move::SnapLabel => {
+            let v = *log.get(used)?;
+            if !numbers::fits(current, z, place, v) {
+                return None;
+            }
+            Some(Some(v as u32))
+        }
         _ => Some(None),
     }
 }

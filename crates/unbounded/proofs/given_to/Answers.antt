@@ -1,24 +1,21 @@
-use Rattle.std.proofs.Common.{rules, ◌≡◌, ◌≢◌, ◌≤◌, ◌<◌, length, ℕ, ◌+◌, ◌-◌, ◌*◌, ◌/◌, ◌%◌, Bool, true, false, nat_eq, nat_lt, List, [], ◌∷◌, ◌++◌, slice_index_or, slice_set, bit_and, bit_or, Fits, w8, w32, w64, Bor, MutBor}
-use Rattle.simulation.specs.Calls.{Buffer}
-use Rattle.simulation.specs.Machine.{fresh}
-use Rattle.moves.specs.declared.Move.TheVariants.{Update}
-use Rattle.moves.specs.Moves.{call_of}
-use Rattle.unbounded.specs.Numbers.{order_by, NumberedBefore}
-use Rattle.unbounded.specs.Tables.{table, stateᵘ, Runnableᵘ, GivenTo, Turnsᵘ}
+use mathlib.Core.Path.{refl, sym, ◌∙◌}
+use Rattle.unbounded.proofs.TurnLaws.{number_given, number_unfit, none_left, none_taken}
 use Rattle.unbounded.proofs.given_to.Goals as goal
 
--- src/lib.rt:41:1
-pub returns-in-Some : goal.returns-in-Some
-returns-in-Some c = ?
+-- The number must be there, and pass the test, which bounds it before it is narrowed.
+pub returns-in_err-v-in-SnapLabel : goal.returns-in_err-v-in-SnapLabel
+returns-in_err-v-in-SnapLabel c =
+    rw c.from_residual.ensures (none_left _ _ _ _ _ _ c.in-SnapLabel.is c.in_err-v-in-SnapLabel.ensures.lookup.3)
 
--- src/lib.rt:41:1
-pub returns-in_default-get : goal.returns-in_default-get
-returns-in_default-get c = ?
+pub returns-then-not-fits : goal.returns-then-not-fits
+returns-then-not-fits c =
+    let h = c.in_ok-v-in-SnapLabel.ensures.lookup.3 in
+    number_unfit _ _ _ _ _ _ c.in-SnapLabel.is h.0 (h.1 0) (sym c.if-not-fits.true ∙ c.fits.ensures)
 
--- src/lib.rt:41:1
-pub returns-in_default-get-2 : goal.returns-in_default-get-2
-returns-in_default-get-2 c = ?
+pub returns-else-not-fits : goal.returns-else-not-fits
+returns-else-not-fits c =
+    let h = c.in_ok-v-in-SnapLabel.ensures.lookup.3 in
+    number_given _ _ _ _ _ _ c.in-SnapLabel.is h.0 (h.1 0) refl (sym c.if-not-fits.false ∙ c.fits.ensures)
 
--- src/lib.rt:41:1
 pub returns-in_default : goal.returns-in_default
-returns-in_default c = ?
+returns-in_default c = none_taken _ _ _ _ _ _ c.in_default.not-SnapLabel c.requires.1
