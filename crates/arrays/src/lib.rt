@@ -50,6 +50,14 @@ impl<L: Copy + Drop, J: Copy + Drop, C: Copy + Drop, R: Copy + Drop> Parts<L, J,
 // The four arrays of a table of labels.
 pub type LabelParts = Parts<Labels, Jobs, Control, Results>;
 
+// A table that calls are served on one after the other: how many stations it has, their scan order, and its arrays.
+#[derive(Clone, Copy)]
+pub struct OrderedTable<P> {
+    pub count: usize,
+    pub order: [usize; 32],
+    pub parts: P,
+}
+
 // The planes of what is current and of what is pending.
 pub const CURRENT: usize = 0;
 
