@@ -1,4 +1,5 @@
-// A table in four arrays, which are lent: their types, the fresh table, and how far a scan result goes.
+// A table in four arrays, which are lent: their types, the fresh table, and how far a scan result goes. C lends four arrays; and the prover does not cover a
+// struct of them, whose literal would have a field that is an array of arrays.
 #![tactic(auto)]
 
 ghost use Rattle.std.specs.Prelude.{◌≡◌, ℕ, ◌≤◌};
@@ -63,7 +64,7 @@ pub const CURRENT: usize = 0;
 
 pub const PENDING: usize = 1;
 
-// The numbers of the phases.
+// The numbers of the phases, in the control bytes that C lends.
 pub const IDLE: u8 = 0;
 
 pub const SNAP: u8 = 1;
@@ -79,7 +80,7 @@ pub const IN_SERVICE: u8 = 0;
 
 pub const OUT_OF_SERVICE: u8 = 1;
 
-// The phase that a number stands for.
+// The phase that a number stands for. `Phase` is declared in `moves`, so an impl of `From` cannot stand here.
 pub fn phase_of(b: u8) -> Phase
     ensures { phase_of result ≡ phase_for b }
 {
@@ -99,7 +100,7 @@ pub fn is_out(b: u8) -> bool
     b != IN_SERVICE
 }
 
-// The lengths of two planes of numbers, which are known of an array passed by value.
+// The lengths of two planes of numbers, which are known of an array passed by value. Of a lent array the prover knows its own length, and none of its rows'.
 pub fn sized(numbers: [[u32; 32]; 2])
     ensures { Sized 2 32 numbers }
 {}
