@@ -1,4 +1,5 @@
-// The one engine: step calls on a table in four arrays, which are lent and changed in place, and a question to it, which changes nothing.
+// The one engine: step calls on a table in four arrays, which are lent and changed in place, and a question to it, which changes nothing. They are four
+// parameters, as the C interface lends four arrays.
 #![tactic(auto)]
 
 ghost use Rattle.std.specs.Prelude.{◌≡◌, ◌≢◌, true, map, ℕ, ◌*◌, ◌≤◌, ◌<◌, length, get_or, replicate};
@@ -288,6 +289,7 @@ fn serve(
 }
 
 // A step call on a table of unknown content, up to what is written of it: 13 is judged first, on all that is lent. A refused call changes nothing.
+#[tactic(auto, using(crate::proofs::Served::ill_formed))]
 pub fn perform(
     count: u64,
     request: Request,
@@ -315,6 +317,7 @@ pub fn perform(
 }
 
 // A step call with a report buffer: how many bytes of it are written.
+#[tactic(auto, using(crate::proofs::Served::steps_bytes, crate::proofs::Served::steps_refused))]
 pub fn step(
     count: u64,
     request: Request,
@@ -336,6 +339,7 @@ pub fn step(
 }
 
 // A step call with a panel: how many records of it are written.
+#[tactic(auto, using(crate::proofs::Served::steps_rows, crate::proofs::Served::steps_refused))]
 pub fn step_shown(
     count: u64,
     request: Request,
@@ -357,6 +361,7 @@ pub fn step_shown(
 }
 
 // How many stations of a table of unknown content have the newest's label. 13 is judged first, on all that is lent.
+#[tactic(auto, using(crate::proofs::Served::orderly, crate::proofs::Served::tells_well_formed))]
 pub fn top_holders(
     count: u64,
     labels: &Labels,
