@@ -289,7 +289,6 @@ fn serve(
 }
 
 // A step call on a table of unknown content, up to what is written of it: 13 is judged first, on all that is lent. A refused call changes nothing.
-#[tactic(auto, using(crate::proofs::Served::ill_formed))]
 pub fn perform(
     count: u64,
     request: Request,
@@ -317,7 +316,6 @@ pub fn perform(
 }
 
 // A step call with a report buffer: how many bytes of it are written.
-#[tactic(auto, using(crate::proofs::Served::steps_bytes, crate::proofs::Served::steps_refused))]
 pub fn step(
     count: u64,
     request: Request,
@@ -339,7 +337,6 @@ pub fn step(
 }
 
 // A step call with a panel: how many records of it are written.
-#[tactic(auto, using(crate::proofs::Served::steps_rows, crate::proofs::Served::steps_refused))]
 pub fn step_shown(
     count: u64,
     request: Request,
@@ -361,7 +358,6 @@ pub fn step_shown(
 }
 
 // How many stations of a table of unknown content have the newest's label. 13 is judged first, on all that is lent.
-#[tactic(auto, using(crate::proofs::Served::orderly, crate::proofs::Served::tells_well_formed))]
 pub fn top_holders(
     count: u64,
     labels: &Labels,
