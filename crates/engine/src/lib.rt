@@ -207,8 +207,9 @@ pub fn carry_out(
 {
     arrays::shaped(*labels, *jobs, *control, *results);
     let accepted = task?;
+    let handed = carry_rest(n, task, order, jobs, control, results);
     relabel(accepted.action, accepted.place, accepted.newest, n, labels);
-    carry_rest(n, task, order, jobs, control, results)
+    handed
 }
 
 // Judges a call on a table of n stations with what is lent for its report; `top` is the newest station, as far as it is known.
