@@ -1,12 +1,11 @@
-// The step calls on a table that its owner lends, and a question to it. Each calls the function on a table by value that has its name; two owners come last.
+// The step calls on a table that its owner lends, and a question to it. Each is a call on the table by value; two owners come last.
 #![tactic(auto)]
 
-ghost use Rattle.std.specs.Prelude.{◌≡◌, [], length};
-ghost use Rattle.simulation.specs.Calls.{Buffer, Bytes};
+ghost use Rattle.std.specs.Prelude.{◌≡◌, []};
 ghost use Rattle.transition.specs.Questions.{Tells};
-ghost use Rattle.transition.specs.Sequences.{Steps};
-ghost use Rattle.moves.specs.Moves.{refusal_number, called};
+ghost use Rattle.moves.specs.Moves.{refusal_number};
 ghost use Rattle.table.specs.Tables.{declared};
+ghost use Rattle.step.specs.Clauses.{Reports};
 
 use engine::{Holders, Reply};
 use step::Outcome;
@@ -14,82 +13,67 @@ use table::Table;
 
 // A step call.
 pub fn step(t: &mut Table, code: u64, station: u64, job: u64, report: &mut [u8]) -> Reply
-    ensures { Steps declared t.old (called 0 code station job (Buffer (length report.old))) (Bytes report.old)
-        t.new (refusal_number result.refusal) result.written (Bytes report.new) }
+    ensures { Reports t.old code station job report.old t.new result report.new }
 {
     let next = step::step(*t, code, station, job, report);
     *t = next.table;
     next.reply
 }
 
+// A step call without a report buffer.
+fn without_report(t: &mut Table, code: u64, station: u64, job: u64) -> Reply
+    ensures { Reports t.old code station job [] t.new result [] }
+{
+    step(t, code, station, job, &mut [])
+}
+
 // A station begins to take a label for a job.
 pub fn begin_label(t: &mut Table, station: u64, job: u64) -> Reply
-    ensures { Steps declared t.old (called 0 1 station job (Buffer 0)) (Bytes []) t.new (refusal_number result.refusal) result.written
-        (Bytes []) }
+    ensures { Reports t.old 1 station job [] t.new result [] }
 {
-    let next = step::begin_label(*t, station, job);
-    *t = next.table;
-    next.reply
+    without_report(t, 1, station, job)
 }
 
 // A station scans: it begins, and takes its snapshot.
 pub fn scan(t: &mut Table, station: u64) -> Reply
-    ensures { Steps declared t.old (called 0 2 station 0 (Buffer 0)) (Bytes []) t.new (refusal_number result.refusal) result.written
-        (Bytes []) }
+    ensures { Reports t.old 2 station 0 [] t.new result [] }
 {
-    let next = step::scan(*t, station);
-    *t = next.table;
-    next.reply
+    without_report(t, 2, station, 0)
 }
 
 // A station takes its snapshot for a label.
 pub fn snap(t: &mut Table, station: u64) -> Reply
-    ensures { Steps declared t.old (called 0 3 station 0 (Buffer 0)) (Bytes []) t.new (refusal_number result.refusal) result.written
-        (Bytes []) }
+    ensures { Reports t.old 3 station 0 [] t.new result [] }
 {
-    let next = step::snap(*t, station);
-    *t = next.table;
-    next.reply
+    without_report(t, 3, station, 0)
 }
 
 // A station writes its pending label and job.
 pub fn update(t: &mut Table, station: u64) -> Reply
-    ensures { Steps declared t.old (called 0 4 station 0 (Buffer 0)) (Bytes []) t.new (refusal_number result.refusal) result.written
-        (Bytes []) }
+    ensures { Reports t.old 4 station 0 [] t.new result [] }
 {
-    let next = step::update(*t, station);
-    *t = next.table;
-    next.reply
+    without_report(t, 4, station, 0)
 }
 
 // A station ends its operation; a scan is reported.
 pub fn end(t: &mut Table, station: u64, report: &mut [u8]) -> Reply
-    ensures { Steps declared t.old (called 0 5 station 0 (Buffer (length report.old))) (Bytes report.old)
-        t.new (refusal_number result.refusal) result.written (Bytes report.new) }
+    ensures { Reports t.old 5 station 0 report.old t.new result report.new }
 {
-    let next = step::end(*t, station, report);
-    *t = next.table;
-    next.reply
+    step(t, 5, station, 0, report)
 }
 
 // A station leaves service.
 pub fn leave_service(t: &mut Table, station: u64) -> Reply
-    ensures { Steps declared t.old (called 0 6 station 0 (Buffer 0)) (Bytes []) t.new (refusal_number result.refusal) result.written
-        (Bytes []) }
+    ensures { Reports t.old 6 station 0 [] t.new result [] }
 {
-    let next = step::leave_service(*t, station);
-    *t = next.table;
-    next.reply
+    without_report(t, 6, station, 0)
 }
 
 // A station returns to service.
 pub fn return_to_service(t: &mut Table, station: u64) -> Reply
-    ensures { Steps declared t.old (called 0 7 station 0 (Buffer 0)) (Bytes []) t.new (refusal_number result.refusal) result.written
-        (Bytes []) }
+    ensures { Reports t.old 7 station 0 [] t.new result [] }
 {
-    let next = step::return_to_service(*t, station);
-    *t = next.table;
-    next.reply
+    without_report(t, 7, station, 0)
 }
 
 // How many stations have the newest's label: a question, for which the table is lent and not changed.
@@ -101,8 +85,7 @@ pub fn top_holders(t: &Table) -> Holders
 
 // The owner of a table lends it for a step call, and hands it back: whoever calls this has no reference to a table.
 pub fn step_owned(t: Table, code: u64, station: u64, job: u64, report: &mut [u8]) -> Outcome
-    ensures { Steps declared t (called 0 code station job (Buffer (length report.old))) (Bytes report.old)
-        result.table (refusal_number result.reply.refusal) result.reply.written (Bytes report.new) }
+    ensures { Reports t code station job report.old result.table result.reply report.new }
 {
     let mut own = t;
     let reply = step(&mut own, code, station, job, report);

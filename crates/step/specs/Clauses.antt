@@ -1,17 +1,23 @@
 -- What the contract of a call says before its report is written, as bytes or as records (02, Card 1).
-use Rattle.std.specs.Prelude.{ℕ, ◌≤◌, ◌≡◌, true, List, [], get_or}
+use Rattle.std.specs.Prelude.{ℕ, ◌≤◌, ◌≡◌, true, List, [], length, get_or}
 use Rattle.basics.specs.Tests.{tabulate}
 use Rattle.simulation.specs.Calls as Calls
-use Rattle.simulation.specs.Calls.{Call, holds, Report, size, written}
+use Rattle.simulation.specs.Calls.{Call, Buffer, holds, Report, Bytes, size, written}
 use Rattle.transition.specs.Forms.{onto, step_of}
 use Rattle.transition.specs.Sequences.{Steps}
-use Rattle.moves.specs.Moves.{refusal_number}
+use Rattle.moves.specs.Moves.{refusal_number, called}
 use Rattle.arrays.specs.Form.{lent}
 use Rattle.engine.specs.Clauses.{Named, place_in}
 use Rattle.table.specs.Tables.{blank, rows_of, entries_of, taken_apart, declared}
+use Rattle.engine.specs.declared.Reply.{Reply}
 use Rattle.table.specs.declared.Entry.{Entry}
 use Rattle.table.specs.declared.Table.{Table}
 use Rattle.step.specs.declared.Unfilled.{Unfilled}
+
+-- a direct step call with the report buffer b: the table, the reply and the buffer that it leaves
+abbrev pub Reports : Table → ℕ → ℕ → ℕ → List ℕ → Table → Reply → List ℕ → Type 0
+Reports t code station job b t' reply b' =
+    Steps declared t (called 0 code station job (Buffer (length b))) (Bytes b) t' (refusal_number reply.refusal) reply.written (Bytes b')
 
 -- the first k entries of a declared result
 abbrev pub first_entries : ℕ → List Entry → List Calls.Entry
