@@ -1,7 +1,7 @@
 // The step calls whose report goes to a panel: a slice of records that is lent, one for each place of a scan result.
 #![tactic(auto)]
 
-ghost use Rattle.std.specs.Prelude.{◌≡◌, ◌≤◌, ◌<◌, min, length, take, drop};
+ghost use Rattle.std.specs.Prelude.{◌≡◌, ◌≤◌, ◌<◌, length, take, drop};
 ghost use Rattle.panel.specs.Panels.{record_at, filled, Shows};
 
 use engine::Reply;
@@ -23,7 +23,7 @@ fn record_at(entries: [Entry; Table::MAX_STATIONS], i: usize) -> Record
 {
     let e = entries[i];
     Record {
-        place: (i + 1) as u32,
+        place: i as u32 + 1,
         station: e.station,
         job: e.job,
     }
@@ -34,10 +34,8 @@ fn fill(panel: &mut [Record], entries: [Entry; Table::MAX_STATIONS], n: usize)
     requires { (n ≤ 32) × (n ≤ length panel.old) }
     ensures { panel.new ≡ filled entries n panel.old }
 {
-    let mut i: usize = 0;
-    while i < n {
-        panel[i] = record_at(entries, i);
-        i = i + 1;
+    for (i, record) in panel[..n].iter_mut().enumerate() {
+        *record = record_at(entries, i);
     }
 }
 
@@ -46,8 +44,7 @@ pub fn step(t: Table, code: u64, station: u64, job: u64, panel: &mut [Record]) -
     ensures { Shows t code station job panel.old result.table result.reply panel.new }
 {
     let next = step::with_panel(t, code, station, job, panel.len());
-    let entries = next.entries;
-    fill(panel, entries, next.outcome.reply.written);
+    fill(panel, next.entries, next.outcome.reply.written);
     next.outcome
 }
 
@@ -68,17 +65,6 @@ pub struct Shown {
     pub panel: [Record; Table::MAX_STATIONS],
 }
 
-// More than 32 counts as 32.
-fn at_most_32(n: usize) -> usize
-    ensures { result ≡ min n 32 }
-{
-    if n < Table::MAX_STATIONS {
-        n
-    } else {
-        Table::MAX_STATIONS
-    }
-}
-
 // The owner of a table and of 32 records lends the table and the first `lent` records, and hands all back: whoever calls this has no reference to either. The
 // other records stay.
 pub fn step_owned(
@@ -93,7 +79,7 @@ pub fn step_owned(
 {
     let mut own = t;
     let mut records = panel;
-    let k = at_most_32(lent);
+    let k = lent.min(Table::MAX_STATIONS);
     let reply = step_lent(&mut own, code, station, job, &mut records[..k]);
     Shown {
         table: own,
