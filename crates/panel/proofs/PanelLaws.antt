@@ -18,7 +18,7 @@ use Rattle.transition.specs.Sequences.{Steps}
 use Rattle.moves.specs.Moves.{called}
 use Rattle.table.specs.Tables.{blank, declared}
 use Rattle.table.specs.declared.Entry.{Entry}
-use Rattle.step.specs.Clauses.{first_entries, HandsEntries}
+use Rattle.step.specs.Clauses.{first_entries}
 use Rattle.panel.specs.declared.Record.{Record}
 use Rattle.panel.specs.Panels.{record_at, filled, declared_record, panel_of, Shows}
 

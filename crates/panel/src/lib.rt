@@ -4,7 +4,7 @@
 ghost use Rattle.std.specs.Prelude.{◌≡◌, ◌≤◌, ◌<◌, length, take, drop};
 ghost use Rattle.panel.specs.Panels.{record_at, filled, Shows};
 
-use engine::Reply;
+use moves::Refusal;
 use step::Outcome;
 use table::{Entry, Table};
 
@@ -43,13 +43,23 @@ fn fill(panel: &mut [Record], entries: [Entry; Table::MAX_STATIONS], n: usize)
 pub fn step(t: Table, code: u64, station: u64, job: u64, panel: &mut [Record]) -> Outcome
     ensures { Shows t code station job panel.old result.table result.reply panel.new }
 {
-    let next = step::with_panel(t, code, station, job, panel.len());
-    fill(panel, next.entries, next.outcome.reply.written);
-    next.outcome
+    match step::with_panel(t, code, station, job, panel.len()) {
+        Ok(next) => {
+            fill(panel, next.entries, next.count);
+            Outcome {
+                table: next.table,
+                reply: Ok(next.count),
+            }
+        }
+        Err(refusal) => Outcome {
+            table: t,
+            reply: Err(refusal),
+        },
+    }
 }
 
 // A step call on a table that its owner lends.
-pub fn step_lent(t: &mut Table, code: u64, station: u64, job: u64, panel: &mut [Record]) -> Reply
+pub fn step_lent(t: &mut Table, code: u64, station: u64, job: u64, panel: &mut [Record]) -> Result<usize, Refusal>
     ensures { Shows t.old code station job panel.old t.new result panel.new }
 {
     let next = step(*t, code, station, job, panel);
@@ -61,7 +71,7 @@ pub fn step_lent(t: &mut Table, code: u64, station: u64, job: u64, panel: &mut [
 #[derive(Clone, Copy)]
 pub struct Shown {
     pub table: Table,
-    pub reply: Reply,
+    pub reply: Result<usize, Refusal>,
     pub panel: [Record; Table::MAX_STATIONS],
 }
 

@@ -6,10 +6,8 @@ use Rattle.panel.proofs.PanelLaws.{filled_step}
 use Rattle.panel.proofs.step.Goals as goal
 
 pub fill-requires : goal.fill-requires
-fill-requires c =
-    let h = c.with_panel-next.ensures in (h.short, leb-true c.with_panel-next.result.outcome.reply.written (length c.args.panel.now) h.room)
+fill-requires c = (c.in-Ok.ensures.short, leb-true c.in-Ok.next.count (length c.args.panel.now) c.in-Ok.ensures.room)
 
-pub returns : goal.returns
-returns c =
-    let h = c.with_panel-next.ensures in
-    rw c.fill.ensures (filled_step declared _ c.with_panel-next.result.entries _ c.args.panel.now refl (h.steps (panel_of c.args.panel.now)))
+pub returns-in-Ok : goal.returns-in-Ok
+returns-in-Ok c =
+    rw c.fill.ensures (filled_step declared _ c.in-Ok.next.entries _ c.args.panel.now refl (c.in-Ok.ensures.steps (panel_of c.args.panel.now)))
