@@ -70,7 +70,8 @@ module _ (t : Table) (w : Whole t) (c : Call) where
     accepted_by true ok = ap put_together ((L e made).table ∙ ap (λ (x : TableAnswer Arrays). x.table) (step_written lent (taken_apart t) c ok))
         ∙ sym (ap (λ (x : TableAnswer Table). x.table) (step_written declared t c ok))
     accepted_by false bad =
-        let x : 0 ≡ 13 = (L e made).number ∙ ap (λ (x : TableAnswer Arrays). x.refusal) (step_ill_formed lent (taken_apart t) c bad) in
+        let number : (step_of lent (taken_apart t) c).refusal ≡ 0 = sym (L e made).number in
+        let spoiled : (step_of lent (taken_apart t) c).refusal ≡ 13 = ap (λ (x : TableAnswer Arrays). x.refusal) (step_ill_formed lent (taken_apart t) c bad) in
         absurd (omega arith)
 
     accepted_table : {t' : Table} → t' ≡ put_together a' → t' ≡ (step_of declared t c).table
@@ -85,20 +86,6 @@ module _ (t : Table) (w : Whole t) (c : Call) where
       let none = none_written c.line c.room given in
       steps_of declared (declared_written t w) (sym (ap (λ (x : TableAnswer Table). x.table) s)) number (sym (ap size report ∙ none.0))
       (sym (ap (λ x. onto x given) report ∙ none.1))
-
--- what is told of the arrays of a table is told of the table (02, Card 5)
-pub tells_declared : (t : Table) {a : Arrays} {number stations : ℕ} → a ≡ taken_apart t → Tells lent a number stations → Tells declared t number stations
-unfolding taken_apart
-tells_declared t {a} {number} {stations} e s =
-    let r = subst (λ (u : Arrays). Tells lent u number stations) e s in record { number = r.number; count = r.count }
-
--- whether it is refused tells whether it is well-formed
-pub told_formed : (t : Table) {number stations : ℕ} → Tells declared t number stations → eqb number 0 ≡ declared.well_formed t
-told_formed t s = ap (λ k. eqb k 0) s.number ∙ go (declared.well_formed t)
-  where
-    go : (b : Bool) → eqb (cond b 0 13) 0 ≡ b
-    go true = refl
-    go false = refl
 
 -- A CALL BEFORE IT IS WRITTEN
 
@@ -145,12 +132,9 @@ module _ (t : Table) (w : Whole t) (c : Call) {a a' : Arrays} {h : Handed} (e : 
         steps_of declared (declared_written t w) (accepted_table t w c e made q) (number_is t w c e made) (ap size report_is) (ap (λ r. onto r given) report_is);
   }
 
--- its report lines: there is room for them, and with them at the front of the buffer it is the step
+-- with its report lines at the front of the buffer it is the step
 module _ {t : Table} {q : Request} (r : Unfilled) (b : List.List ℕ) (s : Ready t (call_of q (Buffer (length b))) r) {rows : Rows}
     (f : rows ≡ rows_of r.entries) where
-  pub lines_ready : (r.count ≤ 32) × (Named r.count rows × (r.count * 29 ≤ length b))
-  lines_ready = (s.short, (subst (Named r.count) (sym f) s.named, leb-true (r.count * 29) (length b) s.room))
-
   pub lines_written : {n : ℕ} {b' : List.List ℕ} → n ≡ r.count * 29 → b' ≡ over (report_lines q.line 1 (entries_in r.count rows)) b
       → Reports t q b r.table (Ok n) b'
   lines_written {n} {b'} e g =
