@@ -2,31 +2,45 @@
 -- counts it too.
 use Prim.Native.Nat.{ℕ, ◌+◌}
 use native.Mathlib.Omega.{arith}
+use native.Mathlib.Nat.{add-zero}
 use mathlib.Core.Path.{◌≡◌, refl, sym, ap, subst, ◌∙◌}
 use mathlib.Core.Logic.{◌≢◌}
 use mathlib.Core.Bool.{Bool, true, false, cond}
 use mathlib.Core.List as Lists
 use mathlib.Core.List.{[]}
+use mir.Val.{bool_byte}
 use borrow.Author.Tests.{lt-ltb}
-use Rattle.std.specs.Prelude.{Ok, Err}
+use Rattle.std.specs.Prelude.{Some, Ok, Err}
 use Rattle.simulation.specs.Calls.{Buffer, Bytes, report_lines, bytes_of}
 use Rattle.transition.specs.Forms.{Form, TableAnswer}
 use Rattle.transition.specs.Sequences.{Steps}
 use Rattle.transition.proofs.Theorem.{step_ill_formed}
 use Rattle.transition.proofs.Sequences.{steps_bytes}
-use Rattle.moves.specs.Moves.{final_number, called}
+use Rattle.moves.specs.Moves.{refusal_number, final_number, called}
+use Rattle.moves.proofs.MoveLaws.{positive}
 use Rattle.moves.specs.declared.Refusal.{Refusal}
 use Rattle.schedule.specs.Tables.{tables}
 use Rattle.schedule.specs.Lines.{next_line, line_room, line_call}
-use Rattle.schedule.specs.Sessions.{Session, session, stopped, ill_formed, step_line, serve_of, Serves}
+use Rattle.schedule.specs.Sessions.{Session, session, refused, stopped, ill_formed, step_line, serve_of, Serves}
 use Rattle.schedule.specs.declared.Line.{Line}
-use Rattle.schedule.proofs.SessionLaws.{next_within, serve_ill_formed, serve_next}
+use Rattle.schedule.proofs.SessionLaws.{next_within, serve_final, serve_ill_formed, serve_next}
 
 -- a line that does not read leaves the table, whether that is well-formed or not, and writes nothing
 pub unread_keeps : {T : Type 0} (b : Bool) (s : Session T) (r : Refusal) → let o = cond b (stopped s r) (ill_formed s) in
     (o.session.table ≡ s.table) × (o.bytes ≡ [])
 unread_keeps true s r = (refl, refl)
 unread_keeps false s r = (refl, refl)
+
+-- a line counts if it is not past the last
+pub counted : (b : Bool) (n k : ℕ) → k ≡ bool_byte b → cond b (n + 1) n ≡ n + k
+counted true n k e = ap (λ j. n + j) (sym e)
+counted false n k e = sym (add-zero n) ∙ ap (λ j. n + j) (sym e)
+
+-- a session with a final refusal says it again
+pub serve_again : (F : Form) (s : Session F.Table) (line : Lists.List ℕ) (r : Refusal) → s.refusal ≡ Some r
+    → serve_of (tables F) s line ≡ refused s (refusal_number r)
+serve_again F s line r e =
+    serve_final (tables F) s line (λ z. positive r (sym (ap final_number e) ∙ z)) ∙ ap (λ x. refused s (final_number x)) e
 
 module _ (F : Form) (s : Session F.Table) (line : Lists.List ℕ) (none : final_number s.refusal ≡ 0) where
   pub serve_unread : (r : Refusal) → next_line s.lines line ≡ Err r → serve_of (tables F) s line ≡ cond (F.well_formed s.table) (stopped s r) (ill_formed s)
