@@ -12,7 +12,13 @@ use step::Outcome;
 use table::Table;
 
 // A step call.
-pub fn step(t: &mut Table, code: u64, station: u64, job: u64, report: &mut [u8]) -> Result<usize, Refusal>
+pub fn step(
+    t: &mut Table,
+    code: u64,
+    station: u64,
+    job: u64,
+    report: &mut [u8],
+) -> Result<usize, Refusal>
     ensures { Reports t.old (directly code station job) report.old t.new result report.new }
 {
     let next = step::step(*t, code, station, job, report);

@@ -7,7 +7,6 @@ use mathlib.Core.Path.{◌≡◌, refl, sym, ap, ap₂, subst, ◌∙◌}
 use mathlib.Core.List.{List, [], ◌++◌, map, map-append}
 use lib.ListN.{length, get_or, set, take, drop}
 use Rattle.std.proofs.lemmas.List.{append-nil, drop_all, length-take-le}
-use borrow.Author.Tests.{leb-true}
 use Rattle.basics.specs.Tests.{tabulate}
 use Rattle.basics.proofs.Facts.{map_drop, length_tabulate, tabulate_same, map_tabulate}
 use Rattle.basics.proofs.Filled.{front_more}
@@ -15,12 +14,11 @@ use Rattle.simulation.specs.Calls.{Call, Panel, panel_records, Report, Records, 
 use Rattle.simulation.proofs.Reports.{records_tabulate, records_length}
 use Rattle.transition.specs.Forms.{Form, over, onto}
 use Rattle.transition.specs.Sequences.{Steps}
-use Rattle.moves.specs.Moves.{called}
-use Rattle.table.specs.Tables.{blank, declared}
+use Rattle.table.specs.Tables.{blank}
 use Rattle.table.specs.declared.Entry.{Entry}
 use Rattle.step.specs.Clauses.{first_entries}
 use Rattle.panel.specs.declared.Record.{Record}
-use Rattle.panel.specs.Panels.{record_at, filled, declared_record, panel_of, Shows}
+use Rattle.panel.specs.Panels.{record_at, filled, declared_record, panel_of}
 
 -- a loop fills it record by record
 pub filled_none : (es : List Entry) (ys : List Record) → ys ≡ filled es 0 ys

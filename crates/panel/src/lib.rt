@@ -59,7 +59,13 @@ pub fn step(t: Table, code: u64, station: u64, job: u64, panel: &mut [Record]) -
 }
 
 // A step call on a table that its owner lends.
-pub fn step_lent(t: &mut Table, code: u64, station: u64, job: u64, panel: &mut [Record]) -> Result<usize, Refusal>
+pub fn step_lent(
+    t: &mut Table,
+    code: u64,
+    station: u64,
+    job: u64,
+    panel: &mut [Record],
+) -> Result<usize, Refusal>
     ensures { Shows t.old code station job panel.old t.new result panel.new }
 {
     let next = step(*t, code, station, job, panel);

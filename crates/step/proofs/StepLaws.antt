@@ -3,23 +3,19 @@
 use Prim.Native.Nat.{ℕ, ◌*◌, ◌≤◌, ◌<◌}
 use native.Mathlib.Omega.{arith}
 use mathlib.Core.Path.{◌≡◌, refl, sym, ap, ap₂, subst, ◌∙◌}
-use mathlib.Core.Logic.{◌≢◌}
-use mathlib.Core.Bool.{Bool, true, false, cond}
+use mathlib.Core.Bool.{Bool, true, false}
 use mathlib.Core.List as List
 use mathlib.Core.List.{[], ◌∷◌}
 use lib.ListN.{length, get_or}
-use lib.Dec.{eqb}
-use borrow.Author.Tests.{leb-true}
 use Rattle.std.specs.Prelude.{Result, Ok, Err}
 use Rattle.basics.proofs.Facts.{tabulate_same}
 use Rattle.simulation.specs.Calls as Calls
 use Rattle.simulation.specs.Calls.{Call, Buffer, report_lines, Report, Bytes, size, written}
 use Rattle.transition.specs.Forms.{TableAnswer, over, onto, step_of}
-use Rattle.transition.specs.Questions.{Tells}
 use Rattle.transition.specs.Sequences.{Steps}
 use Rattle.transition.proofs.Theorem.{step_written, step_ill_formed, step_kept}
 use Rattle.transition.proofs.Sequences.{steps_of, none_written}
-use Rattle.moves.specs.Moves.{refusal_number, told_number, call_of}
+use Rattle.moves.specs.Moves.{told_number, call_of}
 use Rattle.moves.specs.declared.Refusal.{Refusal}
 use Rattle.moves.proofs.MoveLaws.{positive}
 use Rattle.arrays.specs.Arrays.{Rows, Arrays, cell, entries_in}

@@ -1,4 +1,3 @@
-use Rattle.std.proofs.Common.{rules}
 use Rattle.table.specs.Tables.{declared}
 use Rattle.session.specs.Clauses.{session_of}
 use Rattle.session.proofs.LineLaws.{steps_line}
