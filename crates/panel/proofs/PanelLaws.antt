@@ -4,9 +4,9 @@ use native.Mathlib.Nat.{zero-add}
 use native.Mathlib.Numerals.{add-one}
 use native.Mathlib.Omega.{arith}
 use mathlib.Core.Path.{◌≡◌, refl, sym, ap, ap₂, subst, ◌∙◌}
-use mathlib.Core.List.{List, [], ◌++◌, map, map-append}
+use mathlib.Core.List.{List, ◌++◌, map, map-append}
 use lib.ListN.{length, get_or, set, take, drop}
-use Rattle.std.proofs.lemmas.List.{append-nil, drop_all, length-take-le}
+use Rattle.std.proofs.lemmas.List.{get_or-take, length-take-le}
 use Rattle.basics.specs.Tests.{tabulate}
 use Rattle.basics.proofs.Facts.{map_drop, length_tabulate, tabulate_same, map_tabulate}
 use Rattle.basics.proofs.Filled.{front_more}
@@ -14,9 +14,11 @@ use Rattle.simulation.specs.Calls.{Call, Panel, panel_records, Report, Records, 
 use Rattle.simulation.proofs.Reports.{records_tabulate, records_length}
 use Rattle.transition.specs.Forms.{Form, over, onto}
 use Rattle.transition.specs.Sequences.{Steps}
-use Rattle.table.specs.Tables.{blank}
+use Rattle.table.specs.Tables.{blank, declared}
 use Rattle.table.specs.declared.Entry.{Entry}
-use Rattle.step.specs.Clauses.{first_entries}
+use Rattle.table.specs.declared.Table.{Table}
+use Rattle.step.specs.Clauses.{first_entries, Ready}
+use Rattle.step.specs.declared.Unfilled.{Unfilled}
 use Rattle.panel.specs.declared.Record.{Record}
 use Rattle.panel.specs.Panels.{record_at, filled, declared_record, panel_of}
 
@@ -30,11 +32,11 @@ pub filled_more : (es : List Entry) (i : ℕ) (ys xs : List Record) (r : Record)
 filled_more es i ys xs r e h is =
     ap (λ l. set l i r) e ∙ front_more i 0 (record_at es) ys r h (is ∙ ap (record_at es) (sym (zero-add i))) ∙ ap (λ k. filled es k ys) (sym (add-one i))
 
--- a loop over the first n has filled them; the others stay
-pub filled_front : (es : List Entry) (n : ℕ) (ys xs : List Record) → n ≤ length ys → xs ≡ filled es n (take n ys) → xs ++ drop n ys ≡ filled es n ys
-filled_front es n ys xs h e =
-    let none : drop n (take n ys) ≡ [] = drop_all n (take n ys) (omega (arith, length-take-le n ys)) in
-    ap (λ l. l ++ drop n ys) (e ∙ ap (λ l. tabulate n 0 (record_at es) ++ l) none ∙ append-nil (tabulate n 0 (record_at es)))
+-- the first k entries fill as much as all do
+filled_taken : (es : List Entry) (k : ℕ) (ys : List Record) → k ≤ length es → filled (take k es) (length (take k es)) ys ≡ filled es k ys
+filled_taken es k ys h =
+    ap (λ n. filled (take k es) n ys) (length-take-le k es h) ∙ ap (λ l. l ++ drop k ys) (tabulate_same k 0 (record_at (take k es)) (record_at es)
+    (λ p l. ap (λ x. record { place = p + 1; station = x.station; job = x.job }) (get_or-take k es p blank (omega arith))))
 
 filled_records : (es : List Entry) (n : ℕ) (ys : List Record)
     → over (panel_records 1 (first_entries n es)) (map declared_record ys) ≡ map declared_record (filled es n ys)
@@ -48,7 +50,7 @@ filled_records es n ys = ap (λ l. over l (map declared_record ys)) (records_tab
         ∙ sym (map_tabulate declared_record n 0 (record_at es))
 
 -- so on a table of any form: with the records of k entries at the front of its panel the call is the step
-pub filled_step : (form : Form) {t t' : form.Table} (c : Call) {refusal : ℕ} (es : List Entry) (k : ℕ) (ys : List Record) → c.room ≡ Panel (length ys)
+filled_step : (form : Form) {t t' : form.Table} (c : Call) {refusal : ℕ} (es : List Entry) (k : ℕ) (ys : List Record) → c.room ≡ Panel (length ys)
     → let report = written c.line c.room (first_entries k es) in Steps form t c (panel_of ys) t' refusal (size report) (onto report (panel_of ys))
     → Steps form t c (panel_of ys) t' refusal k (panel_of (filled es k ys))
 filled_step form {t} {t'} c {refusal} es k ys e s =
@@ -57,3 +59,11 @@ filled_step form {t} {t'} c {refusal} es k ys e s =
     ap (λ r. written c.line r (first_entries k es)) e in
     subst (λ (x : ℕ × Report). Steps form t c (panel_of ys) t' refusal x.0 x.1)
     (λ i. ((ap size is ∙ long) i, (ap (λ r. onto r (panel_of ys)) is ∙ ap Records (filled_records es k ys)) i)) s
+
+-- so on the declared table, of the entries that are handed out
+pub shown_step : {t : Table} (c : Call) (r : Unfilled) (ys : List Record) → c.room ≡ Panel (length ys) → Ready t c r
+    → let shown = take r.count r.entries in Steps declared t c (panel_of ys) r.table 0 r.count (panel_of (filled shown (length shown) ys))
+shown_step {t} c r ys e s =
+    let long : length r.entries ≡ 32 = ap length s.entries ∙ length_tabulate 32 0 _ in
+    subst (λ zs. Steps declared t c (panel_of ys) r.table 0 r.count (panel_of zs)) (sym (filled_taken r.entries r.count ys (omega (arith, s.short))))
+    (filled_step declared c r.entries r.count ys e (s.steps (panel_of ys)))

@@ -1,8 +1,8 @@
 // The step calls whose report goes to a panel: a slice of records that is lent, one for each place of a scan result.
 #![tactic(auto)]
 
-ghost use Rattle.std.specs.Prelude.{◌≡◌, ◌≤◌, ◌<◌, length, take, drop};
-ghost use Rattle.panel.specs.Panels.{record_at, filled, Shows};
+ghost use Rattle.std.specs.Prelude.{◌≡◌, ◌≤◌, length, take, drop};
+ghost use Rattle.panel.specs.Panels.{filled, Shows};
 
 use moves::Refusal;
 use step::Outcome;
@@ -16,26 +16,18 @@ pub struct Record {
     pub job: u32,
 }
 
-// The record of entry i.
-fn record_at(entries: [Entry; Table::MAX_STATIONS], i: usize) -> Record
-    requires { i < 32 }
-    ensures { result ≡ record_at entries i }
+// Fills a record for each entry; the others stay.
+fn fill(panel: &mut [Record], entries: &[Entry])
+    requires few { length entries.now ≤ 32 }
+    requires room { length entries.now ≤ length panel.old }
+    ensures { panel.new ≡ filled entries.now (length entries.now) panel.old }
 {
-    let e = entries[i];
-    Record {
-        place: i as u32 + 1,
-        station: e.station,
-        job: e.job,
-    }
-}
-
-// Fills the first n records; the others stay.
-fn fill(panel: &mut [Record], entries: [Entry; Table::MAX_STATIONS], n: usize)
-    requires { (n ≤ 32) × (n ≤ length panel.old) }
-    ensures { panel.new ≡ filled entries n panel.old }
-{
-    for (i, record) in panel[..n].iter_mut().enumerate() {
-        *record = record_at(entries, i);
+    for (i, entry) in entries.iter().enumerate() {
+        panel[i] = Record {
+            place: i as u32 + 1,
+            station: entry.station,
+            job: entry.job,
+        };
     }
 }
 
@@ -45,7 +37,7 @@ pub fn step(t: Table, code: u64, station: u64, job: u64, panel: &mut [Record]) -
 {
     match step::with_panel(t, code, station, job, panel.len()) {
         Ok(next) => {
-            fill(panel, next.entries, next.count);
+            fill(panel, &next.entries[..next.count]);
             Outcome {
                 table: next.table,
                 reply: Ok(next.count),

@@ -4,4 +4,4 @@ use Rattle.panel.proofs.fill.Given as goal
 
 -- the records before are filled
 abbrev pub invariant-loop-i : goal.invariant-loop-i
-invariant-loop-i l = l.record-items ≡ filled l.entries l.i l.initial.record-items
+invariant-loop-i l = l.panel ≡ filled l.entries l.i l.initial.panel

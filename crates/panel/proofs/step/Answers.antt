@@ -1,13 +1,17 @@
-use Rattle.std.proofs.Common.{length, refl}
+use Rattle.std.proofs.Common.{length, refl, arith}
+use Rattle.std.proofs.lemmas.List.{length-take}
 use borrow.Author.Tests.{leb-true}
-use Rattle.table.specs.Tables.{declared}
-use Rattle.panel.specs.Panels.{panel_of}
-use Rattle.panel.proofs.PanelLaws.{filled_step}
+use Rattle.panel.proofs.PanelLaws.{shown_step}
 use Rattle.panel.proofs.step.Goals as goal
 
 pub fill-requires : goal.fill-requires
-fill-requires c = (c.in-Ok.ensures.short, leb-true c.in-Ok.next.count (length c.args.panel.now) c.in-Ok.ensures.room)
+fill-requires c =
+    let n = c.in-Ok.next in
+    let shown = length-take n.count n.entries in
+    record {
+      few = omega (arith, shown, c.in-Ok.ensures.short);
+      room = omega (arith, shown, leb-true n.count (length c.args.panel.now) c.in-Ok.ensures.room);
+    }
 
 pub returns-in-Ok : goal.returns-in-Ok
-returns-in-Ok c =
-    rw c.fill.ensures (filled_step declared _ c.in-Ok.next.entries _ c.args.panel.now refl (c.in-Ok.ensures.steps (panel_of c.args.panel.now)))
+returns-in-Ok c = rw c.fill.ensures (shown_step _ c.in-Ok.next c.args.panel.now refl c.in-Ok.ensures)
