@@ -4,13 +4,15 @@ use native.Mathlib.Nat.{zero-add}
 use native.Mathlib.Numerals.{add-one}
 use native.Mathlib.Omega.{arith}
 use mathlib.Core.Path.{◌≡◌, refl, sym, ap, ap₂, subst, ◌∙◌}
+use mathlib.Core.Bool.{true}
 use mathlib.Core.List.{List, ◌++◌, map, map-append}
 use lib.ListN.{length, get_or, set, take, drop}
-use Rattle.std.proofs.lemmas.List.{get_or-take, length-take-le}
+use Rattle.std.proofs.lemmas.List.{get_or-take, length-take, length-take-le}
+use borrow.Author.Tests.{leb-true}
 use Rattle.basics.specs.Tests.{tabulate}
 use Rattle.basics.proofs.Facts.{map_drop, length_tabulate, tabulate_same, map_tabulate}
 use Rattle.basics.proofs.Filled.{front_more}
-use Rattle.simulation.specs.Calls.{Call, Panel, panel_records, Report, Records, size, written}
+use Rattle.simulation.specs.Calls.{Call, Panel, holds, panel_records, Report, Records, size, written}
 use Rattle.simulation.proofs.Reports.{records_tabulate, records_length}
 use Rattle.transition.specs.Forms.{Form, over, onto}
 use Rattle.transition.specs.Sequences.{Steps}
@@ -60,10 +62,17 @@ filled_step form {t} {t'} c {refusal} es k ys e s =
     subst (λ (x : ℕ × Report). Steps form t c (panel_of ys) t' refusal x.0 x.1)
     (λ i. ((ap size is ∙ long) i, (ap (λ r. onto r (panel_of ys)) is ∙ ap Records (filled_records es k ys)) i)) s
 
--- so on the declared table, of the entries that are handed out
-pub shown_step : {t : Table} (c : Call) (r : Unfilled) (ys : List Record) → c.room ≡ Panel (length ys) → Ready t c r
-    → let shown = take r.count r.entries in Steps declared t c (panel_of ys) r.table 0 r.count (panel_of (filled shown (length shown) ys))
-shown_step {t} c r ys e s =
+-- so on the declared table: there is room for the entries that are handed out, and with their records at the front of its panel the call is the step
+pub shown_few : {t : Table} {c : Call} (r : Unfilled) → Ready t c r → length (take r.count r.entries) ≤ 32
+shown_few r s = omega (arith, length-take r.count r.entries, s.short)
+
+pub shown_room : {t : Table} {c : Call} (r : Unfilled) (k : ℕ) → Ready t c r → c.room ≡ Panel k → length (take r.count r.entries) ≤ k
+shown_room r k s e =
+    omega (arith, length-take r.count r.entries, leb-true r.count k (subst (λ x. holds x r.count ≡ true) e s.room))
+
+pub shown_step : {t : Table} {c : Call} (r : Unfilled) (ys zs : List Record) → Ready t c r → c.room ≡ Panel (length ys)
+    → zs ≡ filled (take r.count r.entries) (length (take r.count r.entries)) ys → Steps declared t c (panel_of ys) r.table 0 r.count (panel_of zs)
+shown_step {t} {c} r ys zs s e f =
     let long : length r.entries ≡ 32 = ap length s.entries ∙ length_tabulate 32 0 _ in
-    subst (λ zs. Steps declared t c (panel_of ys) r.table 0 r.count (panel_of zs)) (sym (filled_taken r.entries r.count ys (omega (arith, s.short))))
+    subst (λ l. Steps declared t c (panel_of ys) r.table 0 r.count (panel_of l)) (sym (f ∙ filled_taken r.entries r.count ys (omega (arith, s.short))))
     (filled_step declared c r.entries r.count ys e (s.steps (panel_of ys)))

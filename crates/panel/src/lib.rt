@@ -17,6 +17,7 @@ pub struct Record {
 }
 
 // Fills a record for each entry; the others stay.
+#[tactic(auto, using(crate::proofs::PanelLaws::filled_none, crate::proofs::PanelLaws::filled_more))]
 fn fill(panel: &mut [Record], entries: &[Entry])
     requires few { length entries.now ≤ 32 }
     requires room { length entries.now ≤ length panel.old }
