@@ -36,6 +36,10 @@ pub counted : (b : Bool) (n k : ℕ) → k ≡ bool_byte b → cond b (n + 1) n 
 counted true n k e = ap (λ j. n + j) (sym e)
 counted false n k e = sym (add-zero n) ∙ ap (λ j. n + j) (sym e)
 
+-- a line that is refused writes nothing, whatever the report buffer is
+pub refuses : {T : Type 0} {s : Session T} {number : ℕ} {buffer : Lists.List ℕ} → Serves (refused s number) s number 0 buffer buffer
+refuses = record { session = refl; number = refl; count = refl; report = refl }
+
 -- a session with a final refusal says it again
 pub serve_again : (F : Form) (s : Session F.Table) (line : Lists.List ℕ) (r : Refusal) → s.refusal ≡ Some r
     → serve_of (tables F) s line ≡ refused s (refusal_number r)

@@ -3,9 +3,8 @@
 
 ghost use Rattle.std.specs.Prelude.{◌≡◌, ℕ, cond, ◌≤◌, length, Ok};
 ghost use mathlib.Core.List as Lists;
-ghost use Rattle.moves.specs.Moves.{refusal_number};
 ghost use Rattle.schedule.specs.Tables.{tables};
-ghost use Rattle.schedule.specs.Sessions.{refused, stopped, ill_formed, header_of, step_line, serve_of};
+ghost use Rattle.schedule.specs.Sessions.{stopped, ill_formed, header_of, step_line, serve_of};
 ghost use Rattle.table.specs.Tables.{declared};
 ghost use Rattle.session.specs.Clauses.{session_of, ServedAs, Keeps};
 
@@ -46,41 +45,23 @@ pub fn open(header: &[u8]) -> Session
     }
 }
 
-// A refused line: it reports nothing, whatever the report buffer is.
-fn refuse(s: Session, r: Refusal) -> Served
-    ensures { (buffer : Lists.List ℕ) → ServedAs (refused (session_of s) (refusal_number r)) result buffer buffer }
-{
-    Served {
-        session: s,
-        reply: Err(r),
-    }
-}
-
-// A final refusal, which the session keeps.
-fn stop(s: Session, r: Refusal) -> Served
-    ensures { (buffer : Lists.List ℕ) → ServedAs (stopped (session_of s) r) result buffer buffer }
-{
-    let refusal = Some(r);
-    refuse(Session { refusal, ..s }, r)
-}
-
-// A line that meets an ill-formed table. Lines past the last do not count.
-fn turn_away(s: Session) -> Served
-    ensures { (buffer : Lists.List ℕ) → ServedAs (ill_formed (session_of s)) result buffer buffer }
-{
-    let lines = s.lines + u32::from(s.lines < 1000001);
-    refuse(Session { lines, ..s }, Refusal::IllFormedTable)
-}
-
-// A line that does not read, or is one too many: its refusal is final, unless the table is ill-formed.
+// A line that does not read, or is one too many: its refusal is final, unless the table is ill-formed. The line then counts, but for those past the last.
 fn unread(s: Session, r: Refusal) -> Served
     ensures { (buffer : Lists.List ℕ)
         → ServedAs (cond (declared.well_formed s.table) (stopped (session_of s) r) (ill_formed (session_of s))) result buffer buffer }
 {
     if step::well_formed(s.table) {
-        return stop(s, r);
+        let refusal = Some(r);
+        return Served {
+            session: Session { refusal, ..s },
+            reply: Err(r),
+        };
     }
-    turn_away(s)
+    let lines = s.lines + u32::from(s.lines < 1000001);
+    Served {
+        session: Session { lines, ..s },
+        reply: Err(Refusal::IllFormedTable),
+    }
 }
 
 // A line that is a step: its call judges the table, and its report bears the number of the line.
@@ -115,7 +96,10 @@ pub fn serve(s: Session, line: &[u8], report: &mut [u8; 928]) -> Served
     ensures keeps { Keeps s result report.old report.new }
 {
     if let Some(r) = s.refusal {
-        return refuse(s, r);
+        return Served {
+            session: s,
+            reply: Err(r),
+        };
     }
     match schedule::next_line(s.lines, line) {
         Ok(line) => step_line(s, line, report),

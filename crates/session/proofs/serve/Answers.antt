@@ -1,17 +1,15 @@
-use Rattle.std.proofs.Common.{◌∙◌, ap, sym}
+use Rattle.std.proofs.Common.{◌∙◌, ap, sym, refl}
 use Rattle.transition.specs.Forms.{over}
 use Rattle.moves.specs.Moves.{final_number}
 use Rattle.schedule.specs.Sessions.{Session}
 use Rattle.schedule.proofs.SessionLaws.{serves_as}
 use Rattle.table.specs.Tables.{declared}
 use Rattle.table.specs.declared.Table.{Table}
-use Rattle.session.proofs.LineLaws.{unread_keeps, serve_again, serve_unread, serve_step}
+use Rattle.session.proofs.LineLaws.{unread_keeps, refuses, serve_again, serve_unread, serve_step}
 use Rattle.session.proofs.serve.Goals as goal
 
 pub returns-in-Some : goal.returns-in-Some
-returns-in-Some c =
-    let e = c.refuse.ensures c.args.report.now in
-    record { served_as = serves_as (serve_again declared _ _ _ c.in-Some.is) e; keeps = λ d. (ap (λ (s : Session Table). s.table) e.session, e.report) }
+returns-in-Some c = record { served_as = serves_as (serve_again declared _ _ _ c.in-Some.is) refuses; keeps = λ d. (refl, refl) }
 
 pub returns-in-Ok : goal.returns-in-Ok
 returns-in-Ok c = record {
