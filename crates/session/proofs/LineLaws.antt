@@ -1,4 +1,4 @@
--- A line of a session that goes on, by what it reads as. A step is served as its call is, which judges 13 itself: a step line is never past the last, so 13
+-- A line of a session, by what it reads as. A step is served as its call is, which judges 13 itself: a step line is never past the last, so 13
 -- counts it too.
 use Prim.Native.Nat.{ℕ, ◌+◌}
 use native.Mathlib.Omega.{arith}

@@ -51,9 +51,11 @@ fn unread(s: Session, r: Refusal) -> Served
         → ServedAs (cond (declared.well_formed s.table) (stopped (session_of s) r) (ill_formed (session_of s))) result buffer buffer }
 {
     if step::well_formed(s.table) {
-        let refusal = Some(r);
         return Served {
-            session: Session { refusal, ..s },
+            session: Session {
+                refusal: Some(r),
+                ..s
+            },
             reply: Err(r),
         };
     }
