@@ -2,7 +2,7 @@
 use Prim.Native.Nat.{ℕ, ◌+◌, ◌-◌, ◌≤◌, ◌<◌}
 use native.Mathlib.Nat.{zero-add}
 use native.Mathlib.Omega.{arith}
-use mathlib.Core.Path.{◌≡◌, refl, sym, ap, subst, ◌∙◌}
+use mathlib.Core.Path.{◌≡◌, refl, sym, ap, ◌∙◌}
 use mathlib.Core.Logic.{◌≢◌, ◌⊎◌, inl, inr}
 use mathlib.Core.Bool.{Bool, true, false, true≢false}
 use mathlib.Core.List as Lists
@@ -28,9 +28,7 @@ use Rattle.std.specs.Prelude.{Some, None, IfSome}
 use Rattle.std.specs.declared.option.Option.{Option}
 use Rattle.std.specs.Io.KnownBytes.{Consumes, IsAtEnd}
 use Rattle.std.proofs.KnownBytes.{Consumes-nil, Consumes-trans}
-use Rattle.intake.specs.Clauses.{ahead_read, is_settled, Within, lines_left, Cut, ReadsPart, TooLong, Taken}
-use Rattle.intake.specs.declared.Intake.{Intake}
-use Rattle.intake.specs.declared.Intake.TheVariants as Intakes
+use Rattle.intake.specs.Clauses.{ahead_read, is_settled, Within, lines_left, Cut, ReadsPart, TooLong}
 use Rattle.intake.specs.declared.Reading.{Reading}
 use Rattle.intake.specs.declared.Reading.TheVariants.{Start, Lines, Refused}
 use Rattle.simulation.specs.Calls.{original}
@@ -266,12 +264,6 @@ module _ {part : Lists.List ℕ} {reading : Reading} (f : Sofar part reading) wh
 
     pub sofar_fewer : length part' ≡ 73764 → length part' ≤ k → is_settled reading ≡ false → lines_left reading' < lines_left reading
     sofar_fewer e l s = omega (arith, g.fewer, sofar_left s, length-take-le k part' h)
-
--- A WHOLE FILE lies within the buffer
-pub whole_inside : (part : Lists.List ℕ) (i : Intake) (k : ℕ) → Taken part i → i ≡ Intakes.Whole k → (k ≤ length part) × (k ≡ length (take k part))
-whole_inside part i k f e =
-    let room : k < length part = subst (Taken part) e f in
-    (omega arith, sym (length-take-le k part (omega arith)))
 
 -- A READER that gave all of this; `first` was read from it before, and what it had left then is known, or claims nothing
 pub record Passed (known left : Option (Lists.List ℕ)) (first part : Lists.List ℕ) (reading : Reading) : Type 0 where

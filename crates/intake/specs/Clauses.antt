@@ -1,5 +1,6 @@
 -- A schedule that is only read, part by part, and what is known of one that was read (02, Cards 6 and 7).
-use Rattle.std.specs.Prelude.{ℕ, ◌+◌, ◌-◌, ◌*◌, ◌≤◌, ◌<◌, ◌≡◌, ◌≢◌, ◌⊎◌, Bool, true, false, [], ◌++◌, length, take}
+use Rattle.std.specs.Prelude.{ℕ, ◌+◌, ◌-◌, ◌*◌, ◌≤◌, ◌<◌, ◌≡◌, ◌≢◌, ◌⊎◌, Bool, true, false, [], ◌++◌, length, take, Ok, Err}
+use Rattle.std.specs.declared.result.Result.{Result}
 use mathlib.Core.List as Lists
 use Rattle.moves.specs.Moves.{refusal_number}
 use Rattle.moves.specs.declared.Refusal.{Refusal}
@@ -10,8 +11,8 @@ use Rattle.schedule.specs.Numbers.{surveyed, reading_refusal}
 use Rattle.intake.specs.declared.Reading.{Reading}
 use Rattle.intake.specs.declared.Reading.TheVariants.{Start, Lines}
 use Rattle.intake.specs.declared.Reading.TheVariants as Readings
-use Rattle.intake.specs.declared.Intake.{Intake}
-use Rattle.intake.specs.declared.Intake.TheVariants.{Failed, Refused, Whole}
+use Rattle.intake.specs.declared.Unread.{Unread}
+use Rattle.intake.specs.declared.Unread.TheVariants.{Failed, Refused}
 use Rattle.simulation.specs.Calls.{original}
 
 -- WHAT READING TELLS of a file that is read so far, if these bytes are all that is still to come of it; from the start on, that is what Card 7 tells of a file.
@@ -63,13 +64,13 @@ pub record TooLong (part : Lists.List ℕ) (r : Refusal) : Type 0 where
   pub ends : (count < length part) ⊎ ((more : Lists.List ℕ) → reading_refusal ((before ++ take count part) ++ more) ≡ r)
 
 -- nothing is known where a read failed; all of a file that leaves room in the buffer is at its front
-abbrev pub Taken : Lists.List ℕ → Intake → Type 0
-Taken part Failed = Unit {0}
-Taken part (Refused r) = TooLong part r
-Taken part (Whole count) = count < length part
+abbrev pub Taken : Lists.List ℕ → Result ℕ Unread → Type 0
+Taken part (Ok count) = count < length part
+Taken part (Err Failed) = Unit {0}
+Taken part (Err (Refused r)) = TooLong part r
 
 -- what is told of a file of these bytes; all of one that leaves room in the buffer stands at its front
-abbrev pub Tells : Lists.List ℕ → Lists.List ℕ → Intake → Type 0
-Tells bs part Failed = Unit {0}
-Tells bs part (Refused r) = r ≡ reading_refusal bs
-Tells bs part (Whole count) = bs ≡ take count part
+abbrev pub Tells : Lists.List ℕ → Lists.List ℕ → Result ℕ Unread → Type 0
+Tells bs part (Ok count) = bs ≡ take count part
+Tells bs part (Err Failed) = Unit {0}
+Tells bs part (Err (Refused r)) = r ≡ reading_refusal bs

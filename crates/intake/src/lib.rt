@@ -2,13 +2,16 @@
 // functions of its bytes, and `read_schedule` tells that of the bytes of its reader, where they are known.
 #![tactic(auto)]
 
-ghost use Rattle.std.specs.Prelude.{◌≡◌, [], ◌++◌, length, IfSome};
-ghost use Rattle.intake.specs.Clauses.{ahead_read, Within, ReadsPart, is_settled, Taken, Tells};
+ghost use Rattle.std.specs.Prelude.{◌≡◌, [], ◌++◌, length, IfOk, IfSome};
+ghost use Rattle.intake.specs.Clauses.{ahead_read, Within, ReadsPart, is_settled, TooLong, Taken, Tells};
 ghost use Rattle.intake.specs.declared.Reading.TheVariants.{Start, Lines};
+ghost use Rattle.intake.specs.declared.Unread.TheVariants as Unreads;
+ghost use Rattle.schedule.specs.Numbers.{reading_refusal};
 
 use moves::Refusal;
 use schedule::Header;
 use std::io::{Read, Write};
+use streams::{Failed, Stream};
 
 // The bytes of a header and 4,097 step lines, one more than are served: a file that leaves some of them is whole there, and any other is too long.
 pub const ROOM: usize = 73764;
@@ -89,57 +92,62 @@ pub fn told(reading: Reading) -> Refusal
     }
 }
 
-// A schedule that was read: it could not be, it is refused, or so many bytes are all of it.
+// Why a schedule is not there to be served: it could not be read, or it is refused.
 #[derive(Clone, Copy)]
-pub enum Intake {
+pub enum Unread {
     Failed,
     Refused(Refusal),
-    Whole(usize),
 }
 
-// Reads on behind a full buffer, part after part, until the input ends or nothing that follows can change what is told.
-fn read_on<R: Read, E: Write>(
-    input: &mut R,
+impl From<Failed> for Unread {
+    ghost from_gives = { λ _ e. e ≡ Unreads.Failed };
+
+    fn from(_e: Failed) -> Unread {
+        Unread::Failed
+    }
+}
+
+impl From<Refusal> for Unread {
+    ghost from_gives = { λ refusal e. e ≡ Unreads.Refused refusal };
+
+    fn from(refusal: Refusal) -> Unread {
+        Unread::Refused(refusal)
+    }
+}
+
+// Reads on behind a full buffer, part after part, until the input ends or nothing that follows can change what is told, and hands that back.
+fn read_on<R: Read + Drop, E: Write + Drop>(
+    input: &mut Stream<'_, R, E>,
     part: &mut [u8],
-    errors: &mut E,
-    complaint: &[u8],
-) -> Intake
+) -> Result<Refusal, Failed>
     requires { length part.old ≡ 73764 }
-    ensures taken { Taken part.new result }
-    ensures told { IfSome (R.remaining input.old) (λ bs. Tells (part.old ++ bs) part.new result) }
+    ensures taken { IfOk result (TooLong part.new) }
+    ensures told { IfOk result (λ r. IfSome (R.remaining input.old.stream) (λ bs. r ≡ reading_refusal (part.old ++ bs))) }
 {
     let mut reading = read_part(Reading::Start, part);
     while !settled(reading) {
-        let r = streams::read_input(input, part, errors, complaint);
-        if r.failed {
-            return Intake::Failed;
-        }
-        let k = r.count;
+        let k = input.read_full(part)?;
         reading = read_part(reading, &part[..k]);
         if k < part.len() {
-            return Intake::Refused(told(reading));
+            return Ok(told(reading));
         }
     }
-    Intake::Refused(told(reading))
+    Ok(told(reading))
 }
 
-// Reads a schedule, and no further than the part by which its refusal is known, if it is longer than the buffer; complains if it cannot be read.
-pub fn read_schedule<R: Read, E: Write>(
-    input: &mut R,
+// Reads a schedule, and hands back how many bytes at the front of the buffer are all of it. If it is longer than the buffer, it is read no further than the
+// part by which its refusal is known. Complains if it cannot be read.
+pub fn read_schedule<R: Read + Drop, E: Write + Drop>(
+    input: &mut Stream<'_, R, E>,
     part: &mut [u8; ROOM],
-    errors: &mut E,
-    complaint: &[u8],
-) -> Intake
+) -> Result<usize, Unread>
     ensures taken { Taken part.new result }
-    ensures told { IfSome (R.remaining input.old) (λ bs. Tells bs part.new result) }
+    ensures told { IfSome (R.remaining input.old.stream) (λ bs. Tells bs part.new result) }
 {
-    let r = streams::read_input(input, part, errors, complaint);
-    if r.failed {
-        return Intake::Failed;
-    }
-    let count = r.count;
+    let count = input.read_full(part)?;
     if count < part.len() {
-        return Intake::Whole(count);
+        return Ok(count);
     }
-    read_on(input, part, errors, complaint)
+    let refusal = read_on(input, part)?;
+    Err(Unread::Refused(refusal))
 }

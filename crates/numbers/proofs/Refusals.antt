@@ -1,9 +1,10 @@
 -- A file that is refused while it is read is refused its numbers in the same way.
-use Rattle.std.proofs.Common.{◌≡◌, ◌≢◌, ℕ, Bool, true, false, cond, [], length, take, refl, sym, ap, subst, ◌∙◌, Some, None, IfSome, eqb, ltb}
+use Rattle.std.proofs.Common.{◌≡◌, ◌≢◌, ℕ, Bool, true, false, cond, [], length, take, refl, sym, ap, subst, ◌∙◌, Some, None, IfSome, Ok, Err, OnOk, eqb, ltb}
 use mathlib.Core.List as Lists
 use lib.Seq.{take_at}
 use borrow.Author.Tests.{ne_eqb}
 use Rattle.std.specs.declared.option.Option.{Option}
+use Rattle.std.specs.declared.result.Result.{Result}
 use Rattle.std.specs.Io.KnownBytes.{Appends}
 use Rattle.simulation.specs.Calls.{original}
 use Rattle.transition.specs.Forms.{over}
@@ -14,6 +15,9 @@ use Rattle.schedule.specs.Files.{printed}
 use Rattle.schedule.specs.Demand.{file_calls}
 use Rattle.schedule.specs.Numbers.{final_of, surveyed, snap_calls, reading_refusal}
 use Rattle.numbering.specs.Files.{numbering_refusal}
+use Rattle.intake.specs.Clauses.{TooLong, Taken, Tells}
+use Rattle.intake.specs.declared.Unread.{Unread}
+use Rattle.intake.specs.declared.Unread.TheVariants.{Refused}
 use Rattle.numbers.specs.Clauses.{printed_file}
 
 -- a refusal that is met before what a card has of its own
@@ -40,10 +44,14 @@ refused_file bs {r} e d =
     rw (same, ne_eqb (refusal_number r) 0 d) refl
 
 -- what is written of a file that is refused while it is read
-pub refused_written : (known old new : Option (Lists.List ℕ)) (r : Refusal) {k : ℕ} {out : Lists.List ℕ} (lent : Lists.List ℕ) → IfSome known (λ bs. r ≡ reading_refusal bs)
-    → refusal_number r ≢ 0 → k ≡ length (printed 0 (refusal_number r) []) → out ≡ over (printed 0 (refusal_number r) []) lent
-    → Appends old new (take k out) → IfSome known (λ bs. Appends old new (printed_file bs))
-refused_written None old new r lent e d n o w = tt
-refused_written (Some bs) old new r {k} lent e d n o w =
-    let l = printed 0 (refusal_number r) [] in
-    subst (Appends old new) (ap (take k) o ∙ take_at l _ k (sym n) ∙ refused_file bs e d) w
+pub refused_written : (known old new : Option (Lists.List ℕ)) (part : Lists.List ℕ) {u : Unread} {r q : Refusal} → u ≡ Refused r → q ≡ r
+    → IfSome known (λ bs. Tells bs part (Err u)) → Taken part (Err u) → {k : ℕ} {out : Lists.List ℕ} (lent : Lists.List ℕ)
+    → k ≡ length (printed 0 (refusal_number q) []) → out ≡ over (printed 0 (refusal_number q) []) lent
+    → {U E : Type 0} (written : Result U E) → OnOk written (Appends old new (take k out)) → OnOk written (IfSome known (λ bs. Appends old new (printed_file bs)))
+refused_written known old new part same given told taken lent n o (Err failed) w = tt
+refused_written None old new part same given told taken lent n o (Ok done) w = tt
+refused_written (Some bs) old new part {u} {r} {q} same given told taken {k} lent n o (Ok done) w =
+    let l = printed 0 (refusal_number q) [] in
+    let e : r ≡ reading_refusal bs = subst (λ v. Tells bs part (Err v)) same told in
+    let long : TooLong part r = subst (λ v. Taken part (Err v)) same taken in
+    subst (Appends old new) (ap (take k) o ∙ take_at l _ k (sym n) ∙ refused_file bs (given ∙ e) (rw given long.refused)) w

@@ -7,13 +7,60 @@ ghost use Rattle.streams.specs.Clauses.{Descriptor, IsPrefixLen};
 
 use std::env::Env;
 use std::fs::File;
-use std::io::{Read, Write};
+use std::io::{Read, Stderr, Write};
 use std::os::fd::AsRawFd;
 use std::str;
 
-// A stream failed, and that was said on standard error.
+// A stream failed, and that was said.
 #[derive(Clone, Copy)]
 pub struct Failed;
+
+// A stream, and what is written to `errors` where it fails.
+#[derive(Drop)]
+pub struct Stream<'a, S: Drop, E: Drop> {
+    pub stream: S,
+    pub errors: E,
+    pub complaint: &'a [u8],
+}
+
+// Says what failed; where that cannot be written either, nothing is left to do.
+fn complain<E: Write>(errors: &mut E, complaint: &[u8]) -> Failed {
+    let _ = errors.write_all(complaint);
+    Failed
+}
+
+impl<R: Read + Drop, E: Write + Drop> Stream<'_, R, E> {
+    // Reads until `buf` is full or the input ends, and hands back how many bytes were read; complains if it cannot be read.
+    pub fn read_full(&mut self, buf: &mut [u8]) -> Result<usize, Failed>
+        ensures prefix_len { IfOk result (λ n. IsPrefixLen n buf.new) }
+        ensures bytes { IfOk result (λ n. Consumes (R.remaining self.old.stream) (R.remaining self.new.stream) (take n buf.new)) }
+        ensures end { IfOk result (λ n. n < length buf.new → IsAtEnd (R.remaining self.new.stream)) }
+    {
+        let mut count = 0;
+        while count < buf.len() {
+            let k = self
+                .stream
+                .read(&mut buf[count..])
+                .map_err(|_| complain(&mut self.errors, self.complaint))?;
+            if k == 0 {
+                return Ok(count);
+            }
+            count += k;
+        }
+        Ok(count)
+    }
+}
+
+impl<W: Write + Drop, E: Write + Drop> Stream<'_, W, E> {
+    // Writes all bytes; complains if they cannot be written.
+    pub fn write_all(&mut self, bytes: &[u8]) -> Result<(), Failed>
+        ensures { OnOk result (Appends (W.contents self.old.stream) (W.contents self.new.stream) bytes.now) }
+    {
+        self.stream
+            .write_all(bytes)
+            .map_err(|_| complain(&mut self.errors, self.complaint))
+    }
+}
 
 // The file, if its descriptor is not negative.
 fn with_descriptor(file: File) -> Option<File>
@@ -34,56 +81,22 @@ fn open_named(rt: &HostRuntime, name: &[u8]) -> Option<File>
     with_descriptor(file)
 }
 
-// Says what failed; where that cannot be written either, nothing is left to do.
-fn complain<E: Write>(errors: &mut E, complaint: &[u8]) -> Failed {
-    let _ = errors.write_all(complaint);
-    Failed
-}
-
 // Opens the file that argument i names for reading; complains if there is no such argument, or it names no file that can be opened.
-pub fn open_argument(rt: &HostRuntime, i: usize, complaint: &[u8]) -> Result<File, Failed>
-    ensures { IfOk result Descriptor }
+pub fn open_argument<'a>(
+    rt: &HostRuntime,
+    i: usize,
+    complaint: &'a [u8],
+) -> Result<Stream<'a, File, Stderr>, Failed>
+    ensures { IfOk result (λ opened. Descriptor opened.stream) }
 {
     let mut path = [0u8; 4096];
     let named = rt.arg(i, &mut path).ok();
-    let file = named.and_then(|k| open_named(rt, &path[..k]));
-    file.ok_or_else(|| complain(&mut rt.stderr(), complaint))
-}
-
-// Reads until `buf` is full or the input ends, and hands back how many bytes were read; complains if it cannot be read.
-pub fn read_input<R: Read, E: Write>(
-    input: &mut R,
-    buf: &mut [u8],
-    errors: &mut E,
-    complaint: &[u8],
-) -> Result<usize, Failed>
-    ensures prefix_len { IfOk result (λ n. IsPrefixLen n buf.new) }
-    ensures bytes { IfOk result (λ n. Consumes (R.remaining input.old) (R.remaining input.new) (take n buf.new)) }
-    ensures end { IfOk result (λ n. n < length buf.new → IsAtEnd (R.remaining input.new)) }
-{
-    let mut count = 0;
-    while count < buf.len() {
-        let k = input
-            .read(&mut buf[count..])
-            .map_err(|_| complain(errors, complaint))?;
-        if k == 0 {
-            return Ok(count);
-        }
-        count += k;
-    }
-    Ok(count)
-}
-
-// Writes all bytes; complains if they cannot be written.
-pub fn write_output<W: Write, E: Write>(
-    output: &mut W,
-    bytes: &[u8],
-    errors: &mut E,
-    complaint: &[u8],
-) -> Result<(), Failed>
-    ensures { OnOk result (Appends (W.contents output.old) (W.contents output.new) bytes.now) }
-{
-    output
-        .write_all(bytes)
-        .map_err(|_| complain(errors, complaint))
+    let stream = named
+        .and_then(|k| open_named(rt, &path[..k]))
+        .ok_or_else(|| complain(&mut rt.stderr(), complaint))?;
+    Ok(Stream {
+        stream,
+        errors: rt.stderr(),
+        complaint,
+    })
 }

@@ -4,7 +4,7 @@ use Rattle.intake.proofs.Parts.{Passed}
 use Rattle.intake.proofs.read_on.Given as goal
 
 abbrev pub invariant-loop-input : goal.invariant-loop-input
-invariant-loop-input g l = Passed (g.R.Read.remaining l.initial.input) (g.R.Read.remaining l.input) l.initial.part l.part l.reading
+invariant-loop-input g l = Passed (g.R.Read.remaining l.initial.input.stream) (g.R.Read.remaining l.input.stream) l.initial.part l.part l.reading
 
 abbrev pub decreases-loop-input : goal.decreases-loop-input
 decreases-loop-input g l = lines_left l.reading
