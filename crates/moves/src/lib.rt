@@ -210,7 +210,7 @@ fn job_fits(step: Step, job: u64) -> bool
     ensures { result ≡ job_fits (step_code step) job }
 {
     match step {
-        Step::BeginLabel => 1 <= job && job <= 4294967295,
+        Step::BeginLabel => (1..=4294967295).contains(&job),
         _ => job == 0,
     }
 }
@@ -241,7 +241,7 @@ pub fn judge(
         ≡ judge_in original n (standing_of own) (called line code station job (room_of room)) }
 {
     let step = Step::try_from(code)?;
-    if station < 1 || (n as u64) < station {
+    if !(1..=n as u64).contains(&station) {
         return Err(Refusal::UnknownStation);
     }
     by_code(own, step, job, room)
@@ -252,8 +252,9 @@ pub fn place_of(station: u64, n: usize) -> usize
     requires { 1 ≤ n }
     ensures { result ≡ place_of n station }
 {
-    if station < 1 || (n as u64) < station {
-        return 0;
+    if (1..=n as u64).contains(&station) {
+        (station - 1) as usize
+    } else {
+        0
     }
-    (station - 1) as usize
 }

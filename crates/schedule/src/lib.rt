@@ -10,7 +10,7 @@ use columns::{read_column, read_three};
 use moves::{Refusal, Request};
 
 // What a step line says. The header is written like one.
-#[derive(Clone, Copy, PartialEq, Eq)]
+#[derive(Clone, Copy)]
 pub struct Line {
     pub station: u64,
     pub code: u64,
@@ -56,7 +56,7 @@ pub fn read_header(line: &[u8]) -> Result<usize, Refusal>
     if code != 0 {
         return Err(Refusal::UnknownStep);
     }
-    if station < 2 || 32 < station {
+    if !(2..=32).contains(&station) {
         return Err(Refusal::StationCount);
     }
     if job != 0 {
