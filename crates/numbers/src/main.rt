@@ -19,13 +19,10 @@ fn print_file(file: &[u8], list: &mut [u32], out: &mut [u8]) -> usize
     ensures value { result ≡ length (printed_file file.now) }
     ensures out_after { out.new ≡ over (printed_file file.now) out.old }
 {
-    let r = numbering::numbers(file, list);
-    let refusal = r.refusal;
-    if refusal.refuses() {
-        return file::print_refusal(0, refusal, out);
+    match numbering::numbers(file, list) {
+        Ok(count) => number_lines::print_numbers(&list[..count], out),
+        Err(refusal) => file::print_refusal(0, Some(refusal), out),
     }
-    let count = r.written;
-    number_lines::print_numbers(&list[..count], out)
 }
 
 // Reads a schedule file and writes what is printed for it.
@@ -44,7 +41,7 @@ fn answer<R: Read + Drop, W: Write + Drop, E: Write + Drop>(
             output.write_all(&out[..k])
         }
         Err(Unread::Refused(refusal)) => {
-            let k = file::print_refusal(0, refusal, &mut out);
+            let k = file::print_refusal(0, Some(refusal), &mut out);
             output.write_all(&out[..k])
         }
         Err(Unread::Failed) => Err(Failed),
