@@ -38,8 +38,8 @@ fn read_first(part: &[u8]) -> Result<Option<u32>, Refusal>
     read_lines(1, schedule::from(part, header.len()))
 }
 
-// Reads one part more of a file, of which no line is run: whole lines, or all that is left of it. Before it so many lines are read, the header among them, or
-// the header is still to come; so it is after it, unless the file is refused, whatever follows.
+// Reads one part more of a file, of which no line is run: whole lines, or all that is left of it. So many lines are read before it and behind it, the header
+// among them, or the header is still to come. An error is what is told of the file, whatever follows.
 pub fn read_part(lines: Option<u32>, part: &[u8]) -> Result<Option<u32>, Refusal>
     requires { Within (Ok lines) }
     ensures { ReadsPart (Ok lines) part.now result }
