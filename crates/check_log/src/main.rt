@@ -8,11 +8,11 @@ ghost use Rattle.unbounded.specs.Tables.{table};
 ghost use Rattle.logs.specs.Clauses.{Checking};
 
 use arrays::{Control, Jobs, Results};
-use intake::Intake;
+use intake::Unread;
 use logs::{Begun, Progress, Verdict};
 use moves::Refusal;
 use std::io::{Read, Write};
-use streams::Opened;
+use streams::{Failed, Stream};
 use unbounded::Numbers;
 
 // A right log has at most 4,096 numbers, of 12 bytes each; the buffer holds one byte more, and what fills it is no lines of numbers, whatever was cut off
@@ -22,33 +22,12 @@ const NUMBERS: usize = 49153;
 // The report is read in parts of so many bytes.
 const PART: usize = 32768;
 
-// Writes the answer.
-fn answer<W: Write, E: Write>(verdict: Verdict, output: &mut W, errors: &mut E) {
-    let mut out = [0u8; 29];
-    let k = logs::print_verdict(verdict, &mut out);
-    streams::write_output(
-        output,
-        &out[..k],
-        errors,
-        b"check_log: the answer could not be written\n",
-    );
-}
-
-// Writes the refusal of the schedule.
-fn refuse<W: Write, E: Write>(refusal: Refusal, output: &mut W, errors: &mut E) {
-    let verdict = Verdict {
-        refusal,
-        right: false,
-    };
-    answer(verdict, output, errors);
-}
-
-// Reads the report part by part, until it ends or the log is known not to be right, and writes the answer.
-fn check_report<R: Read, W: Write, E: Write>(
+// Reads the report part by part, until it ends or the log is known not to be right, and answers whether it is right.
+fn check_report<R: Read + Drop, E: Write + Drop>(
     check: Progress,
     file: &[u8],
     list: &[u64; 4096],
-    report: &mut R,
+    report: &mut Stream<'_, R, E>,
     order: &mut [usize; 32],
     numbers: &mut Numbers,
     jobs: &mut Jobs,
@@ -56,25 +35,14 @@ fn check_report<R: Read, W: Write, E: Write>(
     results: &mut Results,
     lines: &mut [u8],
     part: &mut [u8],
-    output: &mut W,
-    errors: &mut E,
-)
+) -> Result<bool, Failed>
     requires checking { Checking check (table check.stations numbers.old jobs.old control.old results.old) order.old
         file.now list.now lines.old }
     requires part_nonzero { 0 < length part.old }
 {
     let mut progress = check;
     loop {
-        let r = streams::read_input(
-            report,
-            part,
-            errors,
-            b"check_log: the report could not be read\n",
-        );
-        if r.failed {
-            return;
-        }
-        let k = r.count;
+        let k = report.read_full(part)?;
         progress = logs::feed(
             progress,
             file,
@@ -88,24 +56,17 @@ fn check_report<R: Read, W: Write, E: Write>(
             lines,
         );
         if (k < part.len()) | !progress.right {
-            let verdict = Verdict {
-                refusal: Refusal::Accepted,
-                right: logs::finish(progress),
-            };
-            answer(verdict, output, errors);
-            return;
+            return Ok(logs::finish(progress));
         }
     }
 }
 
 // Checks a log whose schedule is not too long, with the bytes of its numbers.
-fn check_log<R: Read, W: Write, E: Write>(
+fn check_log<R: Read + Drop, E: Write + Drop>(
     file: &[u8],
     bytes: &[u8],
-    report: &mut R,
-    output: &mut W,
-    errors: &mut E,
-) {
+    report: &mut Stream<'_, R, E>,
+) -> Result<bool, Unread> {
     let mut list = [0u64; 4096];
     let mut order = [0usize; 32];
     let mut numbers = [[0u32; 32]; 2];
@@ -113,6 +74,7 @@ fn check_log<R: Read, W: Write, E: Write>(
     let mut control = [[0u8; 32]; 2];
     let mut results = [[[0u32; 32]; 2]; 32];
     let mut lines = [0u8; logs::ROOM];
+    let mut part = [0u8; PART];
     match logs::start(
         file,
         bytes,
@@ -124,10 +86,9 @@ fn check_log<R: Read, W: Write, E: Write>(
         &mut results,
         &mut lines,
     ) {
-        Begun::Refused(refusal) => refuse(refusal, output, errors),
+        Begun::Refused(refusal) => Err(Unread::Refused(refusal)),
         Begun::Running(check) => {
-            let mut part = [0u8; PART];
-            check_report(
+            let right = check_report(
                 check,
                 file,
                 &list,
@@ -139,83 +100,55 @@ fn check_log<R: Read, W: Write, E: Write>(
                 &mut results,
                 &mut lines,
                 &mut part,
-                output,
-                errors,
-            );
+            )?;
+            Ok(right)
         }
     }
 }
 
-// Reads the numbers, and then checks the log.
-fn read_numbers<N: Read, R: Read, W: Write, E: Write>(
-    file: &[u8],
-    numbers: &mut N,
-    report: &mut R,
-    output: &mut W,
-    errors: &mut E,
-) {
+// Reads the schedule, which may be refused, then the numbers, and the report.
+fn check_files<S: Read + Drop, N: Read + Drop, R: Read + Drop, E: Write + Drop>(
+    schedule: &mut Stream<'_, S, E>,
+    numbers: &mut Stream<'_, N, E>,
+    report: &mut Stream<'_, R, E>,
+) -> Result<bool, Unread> {
+    let mut part = [0u8; intake::ROOM];
     let mut bytes = [0u8; NUMBERS];
-    let r = streams::read_input(
-        numbers,
-        &mut bytes,
-        errors,
-        b"check_log: the numbers could not be read\n",
-    );
-    if r.failed {
-        return;
-    }
-    let k = r.count;
-    check_log(file, &bytes[..k], report, output, errors);
+    let count = intake::read_schedule(schedule, &mut part)?;
+    let k = numbers.read_full(&mut bytes)?;
+    check_log(&part[..count], &bytes[..k], report)
 }
 
-// Reads the schedule, which may be refused, and then the numbers.
-fn read_schedule<S: Read, N: Read, R: Read, W: Write, E: Write>(
-    schedule: &mut S,
-    numbers: &mut N,
-    report: &mut R,
-    output: &mut W,
-    errors: &mut E,
-) {
-    let mut part = [0u8; intake::ROOM];
-    match intake::read_schedule(
-        schedule,
-        &mut part,
-        errors,
+// Opens the files, checks the log, and writes the answer.
+fn run(rt: &HostRuntime) -> Result<(), Failed> {
+    let mut schedule = streams::open_argument(
+        rt,
+        1,
         b"check_log: the schedule could not be read\n",
-    ) {
-        Intake::Failed => {}
-        Intake::Refused(refusal) => refuse(refusal, output, errors),
-        Intake::Whole(count) => read_numbers(&part[..count], numbers, report, output, errors),
-    }
+    )?;
+    let mut numbers = streams::open_argument(rt, 2, b"check_log: the numbers could not be read\n")?;
+    let mut report = streams::open_argument(rt, 3, b"check_log: the report could not be read\n")?;
+    let mut output = Stream {
+        stream: rt.stdout(),
+        errors: rt.stderr(),
+        complaint: b"check_log: the answer could not be written\n",
+    };
+    let verdict = match check_files(&mut schedule, &mut numbers, &mut report) {
+        Ok(right) => Verdict {
+            refusal: Refusal::Accepted,
+            right,
+        },
+        Err(Unread::Refused(refusal)) => Verdict {
+            refusal,
+            right: false,
+        },
+        Err(Unread::Failed) => return Err(Failed),
+    };
+    let mut out = [0u8; 29];
+    let k = logs::print_verdict(verdict, &mut out);
+    output.write_all(&out[..k])
 }
 
 fn main(rt: HostRuntime) {
-    let Opened::File(mut schedule) = streams::open_argument(
-        &rt,
-        1,
-        b"check_log: the schedule could not be read\n",
-    ) else {
-        return;
-    };
-    let Opened::File(mut numbers) = streams::open_argument(
-        &rt,
-        2,
-        b"check_log: the numbers could not be read\n",
-    ) else {
-        return;
-    };
-    let Opened::File(mut report) = streams::open_argument(
-        &rt,
-        3,
-        b"check_log: the report could not be read\n",
-    ) else {
-        return;
-    };
-    read_schedule(
-        &mut schedule,
-        &mut numbers,
-        &mut report,
-        &mut rt.stdout(),
-        &mut rt.stderr(),
-    );
+    let _ = run(&rt);
 }

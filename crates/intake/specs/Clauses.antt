@@ -1,43 +1,37 @@
 -- A schedule that is only read, part by part, and what is known of one that was read (02, Cards 6 and 7).
-use Rattle.std.specs.Prelude.{ℕ, ◌+◌, ◌-◌, ◌*◌, ◌≤◌, ◌<◌, ◌≡◌, ◌≢◌, ◌⊎◌, Bool, true, false, [], ◌++◌, length, take}
+use Rattle.std.specs.Prelude.{ℕ, ◌+◌, ◌-◌, ◌*◌, ◌≤◌, ◌<◌, ◌≡◌, ◌⊎◌, [], ◌++◌, length, take, Option, Some, None, Result, Ok, Err}
 use mathlib.Core.List as Lists
-use Rattle.moves.specs.Moves.{refusal_number}
 use Rattle.moves.specs.declared.Refusal.{Refusal}
-use Rattle.moves.specs.declared.Refusal.TheVariants.{Accepted}
 use Rattle.schedule.specs.Files.{pieces, lines_of}
 use Rattle.schedule.specs.Demand.{step_calls, ending}
 use Rattle.schedule.specs.Numbers.{surveyed, reading_refusal}
-use Rattle.intake.specs.declared.Reading.{Reading}
-use Rattle.intake.specs.declared.Reading.TheVariants.{Start, Lines}
-use Rattle.intake.specs.declared.Reading.TheVariants as Readings
-use Rattle.intake.specs.declared.Intake.{Intake}
-use Rattle.intake.specs.declared.Intake.TheVariants.{Failed, Refused, Whole}
+use Rattle.intake.specs.declared.Unread.{Unread}
+use Rattle.intake.specs.declared.Unread.TheVariants.{Failed, Refused}
 use Rattle.simulation.specs.Calls.{original}
+
+-- how far a file is read, of which no line is run: its header is still to come; so many lines are read, the header among them, and none is refused; or it is
+-- refused, whatever follows
+abbrev pub Reading : Type 0
+Reading = Result (Option ℕ) Refusal
 
 -- WHAT READING TELLS of a file that is read so far, if these bytes are all that is still to come of it; from the start on, that is what Card 7 tells of a file.
 -- Behind `lines` lines, the header among them, it is their final refusal, or 16.
-abbrev pub ahead_read : Reading → Lists.List ℕ → Refusal
-ahead_read Start bs = reading_refusal bs
-ahead_read (Lines lines) bs = surveyed (ending lines (lines_of bs)) (lines - 1 + length (step_calls original lines (lines_of bs))) Accepted
-ahead_read (Readings.Refused r) bs = r
-
--- nothing that follows changes it
-abbrev pub is_settled : Reading → Bool
-is_settled Start = false
-is_settled (Lines lines) = false
-is_settled (Readings.Refused r) = true
+abbrev pub ahead_read : Reading → Lists.List ℕ → Option Refusal
+ahead_read (Ok None) bs = reading_refusal bs
+ahead_read (Ok (Some lines)) bs = surveyed (ending lines (lines_of bs)) (lines - 1 + length (step_calls original lines (lines_of bs))) None
+ahead_read (Err r) bs = Some r
 
 -- no more lines are counted than a file can have
 abbrev pub Within : Reading → Type 0
-Within Start = Unit {0}
-Within (Lines lines) = (1 ≤ lines) × (lines ≤ 1000001)
-Within (Readings.Refused r) = Unit {0}
+Within (Ok None) = Unit {0}
+Within (Ok (Some lines)) = (1 ≤ lines) × (lines ≤ 1000001)
+Within (Err r) = Unit {0}
 
 -- how many may still be
 abbrev pub lines_left : Reading → ℕ
-lines_left Start = 1000002
-lines_left (Lines lines) = 1000002 - lines
-lines_left (Readings.Refused r) = 0
+lines_left (Ok None) = 1000002
+lines_left (Ok (Some lines)) = 1000002 - lines
+lines_left (Err r) = 0
 
 -- a part of whole lines, or all that is left
 abbrev pub Cut : Lists.List ℕ → Lists.List ℕ → Type 0
@@ -58,18 +52,17 @@ pub record TooLong (part : Lists.List ℕ) (r : Refusal) : Type 0 where
   pub count : ℕ
   pub inside : count ≤ length part
   pub long : 73764 ≤ length before + count
-  pub refusal : r ≡ reading_refusal (before ++ take count part)
-  pub refused : refusal_number r ≢ 0
-  pub ends : (count < length part) ⊎ ((more : Lists.List ℕ) → reading_refusal ((before ++ take count part) ++ more) ≡ r)
+  pub refusal : Some r ≡ reading_refusal (before ++ take count part)
+  pub ends : (count < length part) ⊎ ((more : Lists.List ℕ) → reading_refusal ((before ++ take count part) ++ more) ≡ Some r)
 
 -- nothing is known where a read failed; all of a file that leaves room in the buffer is at its front
-abbrev pub Taken : Lists.List ℕ → Intake → Type 0
-Taken part Failed = Unit {0}
-Taken part (Refused r) = TooLong part r
-Taken part (Whole count) = count < length part
+abbrev pub Taken : Lists.List ℕ → Result ℕ Unread → Type 0
+Taken part (Ok count) = count < length part
+Taken part (Err Failed) = Unit {0}
+Taken part (Err (Refused r)) = TooLong part r
 
 -- what is told of a file of these bytes; all of one that leaves room in the buffer stands at its front
-abbrev pub Tells : Lists.List ℕ → Lists.List ℕ → Intake → Type 0
-Tells bs part Failed = Unit {0}
-Tells bs part (Refused r) = r ≡ reading_refusal bs
-Tells bs part (Whole count) = bs ≡ take count part
+abbrev pub Tells : Lists.List ℕ → Lists.List ℕ → Result ℕ Unread → Type 0
+Tells bs part (Ok count) = bs ≡ take count part
+Tells bs part (Err Failed) = Unit {0}
+Tells bs part (Err (Refused r)) = Some r ≡ reading_refusal bs

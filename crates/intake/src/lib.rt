@@ -2,144 +2,119 @@
 // functions of its bytes, and `read_schedule` tells that of the bytes of its reader, where they are known.
 #![tactic(auto)]
 
-ghost use Rattle.std.specs.Prelude.{◌≡◌, [], ◌++◌, length, IfSome};
-ghost use Rattle.intake.specs.Clauses.{ahead_read, Within, ReadsPart, is_settled, Taken, Tells};
-ghost use Rattle.intake.specs.declared.Reading.TheVariants.{Start, Lines};
+ghost use Rattle.std.specs.Prelude.{◌≡◌, [], ◌++◌, length, Some, None, Ok, IfSome};
+ghost use Rattle.intake.specs.Clauses.{ahead_read, Within, ReadsPart, Taken, Tells};
+ghost use Rattle.intake.specs.declared.Unread.TheVariants.{Failed, Refused};
 
 use moves::Refusal;
-use schedule::Header;
 use std::io::{Read, Write};
+use streams::Stream;
 
 // The bytes of a header and 4,097 step lines, one more than are served: a file that leaves some of them is whole there, and any other is too long.
 pub const ROOM: usize = 73764;
 
-// How far a file is read, of which no line is run: its header is still to come; so many lines are read, the header among them, and none is refused; or it is
-// refused, whatever follows.
-#[derive(Clone, Copy)]
-pub enum Reading {
-    Start,
-    Lines(u32),
-    Refused(Refusal),
-}
-
 // Reads a part of a file behind `lines` lines.
-fn read_lines(lines: u32, part: &[u8]) -> Reading
-    requires { Within (Lines lines) }
-    ensures { ReadsPart (Lines lines) part.now result }
+fn read_lines(lines: u32, part: &[u8]) -> Result<Option<u32>, Refusal>
+    requires { Within (Ok (Some lines)) }
+    ensures { ReadsPart (Ok (Some lines)) part.now result }
 {
     let s = schedule::survey_lines(lines, part);
-    let refusal = s.refusal;
-    if refusal.refuses() {
-        return Reading::Refused(refusal);
+    if let Some(refusal) = s.refusal {
+        return Err(refusal);
     }
     let read = lines + s.steps;
-    Reading::Lines(read)
+    Ok(Some(read))
 }
 
 // Reads the first part of a file.
-fn read_first(part: &[u8]) -> Reading
-    ensures { ReadsPart Start part.now result }
+fn read_first(part: &[u8]) -> Result<Option<u32>, Refusal>
+    ensures { ReadsPart (Ok None) part.now result }
 {
-    if part.len() == 0 {
-        return Reading::Start;
+    if part.is_empty() {
+        return Ok(None);
     }
     let header = schedule::line_at(part, 0);
-    match schedule::read_header(header) {
-        Header::Refused(refusal) => Reading::Refused(refusal),
-        Header::Stations(_) => read_lines(1, schedule::from(part, header.len())),
-    }
+    schedule::read_header(header)?;
+    read_lines(1, schedule::from(part, header.len()))
 }
 
-// Reads one part more of a file: whole lines, or all that is left of it.
-pub fn read_part(reading: Reading, part: &[u8]) -> Reading
-    requires { Within reading }
-    ensures { ReadsPart reading part.now result }
+// Reads one part more of a file, of which no line is run: whole lines, or all that is left of it. So many lines are read before it and behind it, the header
+// among them, or the header is still to come. An error is what is told of the file, whatever follows.
+pub fn read_part(lines: Option<u32>, part: &[u8]) -> Result<Option<u32>, Refusal>
+    requires { Within (Ok lines) }
+    ensures { ReadsPart (Ok lines) part.now result }
 {
-    match reading {
-        Reading::Start => read_first(part),
-        Reading::Lines(lines) => read_lines(lines, part),
-        Reading::Refused(refusal) => Reading::Refused(refusal),
-    }
-}
-
-// Whether nothing that follows can change what is told of the file.
-pub fn settled(reading: Reading) -> bool
-    ensures { result ≡ is_settled reading }
-{
-    match reading {
-        Reading::Start => false,
-        Reading::Lines(_) => false,
-        Reading::Refused(_) => true,
+    match lines {
+        None => read_first(part),
+        Some(lines) => read_lines(lines, part),
     }
 }
 
 // What is told of a file that ends here.
-pub fn told(reading: Reading) -> Refusal
-    ensures { result ≡ ahead_read reading [] }
+#[tactic(auto, using(crate::proofs::Parts::told_start, crate::proofs::Parts::told_lines))]
+pub fn told(lines: Option<u32>) -> Option<Refusal>
+    ensures { result ≡ ahead_read (Ok lines) [] }
 {
-    match reading {
-        Reading::Start => Refusal::IncompleteLine,
-        Reading::Lines(lines) => {
-            if 4097 < lines {
-                return Refusal::TooManySteps;
-            }
-            Refusal::Accepted
-        }
-        Reading::Refused(refusal) => refusal,
+    match lines {
+        None => Some(Refusal::IncompleteLine),
+        Some(lines) => (4097 < lines).then_some(Refusal::TooManySteps),
     }
 }
 
-// A schedule that was read: it could not be, it is refused, or so many bytes are all of it.
+// Why a schedule is not there to be served: it could not be read, or it is refused.
 #[derive(Clone, Copy)]
-pub enum Intake {
+pub enum Unread {
     Failed,
     Refused(Refusal),
-    Whole(usize),
+}
+
+impl From<streams::Failed> for Unread {
+    ghost from_gives = { λ _ e. e ≡ Failed };
+
+    fn from(_e: streams::Failed) -> Unread {
+        Unread::Failed
+    }
+}
+
+impl From<Refusal> for Unread {
+    ghost from_gives = { λ refusal e. e ≡ Refused refusal };
+
+    fn from(refusal: Refusal) -> Unread {
+        Unread::Refused(refusal)
+    }
 }
 
 // Reads on behind a full buffer, part after part, until the input ends or nothing that follows can change what is told.
-fn read_on<R: Read, E: Write>(
-    input: &mut R,
+fn read_on<R: Read + Drop, E: Write + Drop>(
+    input: &mut Stream<'_, R, E>,
     part: &mut [u8],
-    errors: &mut E,
-    complaint: &[u8],
-) -> Intake
+) -> Result<usize, Unread>
     requires { length part.old ≡ 73764 }
     ensures taken { Taken part.new result }
-    ensures told { IfSome (R.remaining input.old) (λ bs. Tells (part.old ++ bs) part.new result) }
+    ensures told { IfSome (R.remaining input.old.stream) (λ bs. Tells (part.old ++ bs) part.new result) }
 {
-    let mut reading = read_part(Reading::Start, part);
-    while !settled(reading) {
-        let r = streams::read_input(input, part, errors, complaint);
-        if r.failed {
-            return Intake::Failed;
-        }
-        let k = r.count;
-        reading = read_part(reading, &part[..k]);
+    let mut lines = read_part(None, part)?;
+    loop {
+        let k = input.read_full(part)?;
+        lines = read_part(lines, &part[..k])?;
         if k < part.len() {
-            return Intake::Refused(told(reading));
+            return Err(told(lines).unwrap().into());
         }
     }
-    Intake::Refused(told(reading))
 }
 
-// Reads a schedule, and no further than the part by which its refusal is known, if it is longer than the buffer; complains if it cannot be read.
-pub fn read_schedule<R: Read, E: Write>(
-    input: &mut R,
+// Reads a schedule, and hands back how many bytes at the front of the buffer are all of it. If it is longer than the buffer, it is read no further than the
+// part by which its refusal is known. Complains if it cannot be read.
+pub fn read_schedule<R: Read + Drop, E: Write + Drop>(
+    input: &mut Stream<'_, R, E>,
     part: &mut [u8; ROOM],
-    errors: &mut E,
-    complaint: &[u8],
-) -> Intake
+) -> Result<usize, Unread>
     ensures taken { Taken part.new result }
-    ensures told { IfSome (R.remaining input.old) (λ bs. Tells bs part.new result) }
+    ensures told { IfSome (R.remaining input.old.stream) (λ bs. Tells bs part.new result) }
 {
-    let r = streams::read_input(input, part, errors, complaint);
-    if r.failed {
-        return Intake::Failed;
-    }
-    let count = r.count;
+    let count = input.read_full(part)?;
     if count < part.len() {
-        return Intake::Whole(count);
+        return Ok(count);
     }
-    read_on(input, part, errors, complaint)
+    read_on(input, part)
 }

@@ -2,13 +2,11 @@
 use Rattle.std.specs.Prelude.{◌≡◌, ℕ, ◌≤◌, List, length, take, T}
 use Rattle.std.specs.Int.Signed.{non_neg}
 use Rattle.std.specs.Fd.{file_raw_fd}
-use Rattle.streams.specs.declared.Opened.{Opened}
-use Rattle.streams.specs.declared.Opened.TheVariants.{Missing, File}
+use Rattle.std.specs.declared.fs.File.{File}
 
--- a descriptor is not negative
-abbrev pub Descriptor : Opened → Type 0
-Descriptor Missing = Unit {0}
-Descriptor (File file) = T (non_neg (file_raw_fd file))
+-- a file's descriptor is not negative
+abbrev pub Descriptor : File → Type 0
+Descriptor file = T (non_neg (file_raw_fd file))
 
 -- so many bytes at the front of a buffer
 abbrev pub IsPrefixLen : ℕ → List ℕ → Type 0

@@ -4,9 +4,9 @@ use Rattle.unbounded.specs.Tables.{table}
 use Rattle.logs.specs.Clauses.{Checking, work_left}
 use Rattle.check_log.proofs.check_report.Given as goal
 
-abbrev pub invariant-loop-progress : goal.invariant-loop-progress
-invariant-loop-progress g l =
+abbrev pub invariant-loop-k : goal.invariant-loop-k
+invariant-loop-k g l =
     Checking l.progress (table l.progress.stations l.numbers l.jobs l.control l.results) l.order l.file l.list l.lines × (length l.part ≡ length l.initial.part)
 
-abbrev pub decreases-loop-progress : goal.decreases-loop-progress
-decreases-loop-progress g l = work_left l.progress l.file
+abbrev pub decreases-loop-k : goal.decreases-loop-k
+decreases-loop-k g l = work_left l.progress l.file

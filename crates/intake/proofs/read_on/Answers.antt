@@ -1,27 +1,36 @@
 -- What is told after each part, by the laws of Parts.
-use Rattle.std.proofs.Common.{sym, ◌∙◌}
-use Rattle.intake.proofs.Parts.{sofar_settled, sofar_ends, passed_first, passed_settled, passed_ends, passed_more}
+use Rattle.std.proofs.Common.{Err, sym, ◌∙◌}
+use Rattle.std.proofs.lemmas.Result.{err_from_is_err_and}
+use Rattle.intake.proofs.Parts.{sofar_told, sofar_ends, passed_first, passed_refused, passed_more, next_refused, next_told}
 use Rattle.intake.proofs.read_on.Goals as goal
 
-pub loop-input-init : goal.loop-input-init
-loop-input-init g c = passed_first c.requires c.read_part-reading.ensures _
+pub returns-in_err-lines-clause-told : goal.returns-in_err-lines-clause-told
+returns-in_err-lines-clause-told g c =
+    let p = err_from_is_err_and c.from_residual.result c.from_residual.ensures.1 in
+    rw (p.1, p.2) (passed_refused (passed_first {reading = Err c.in_err-lines.field-0.0} c.requires c.in_err-lines.ensures _))
+
+pub loop-k-init : goal.loop-k-init
+loop-k-init g c = passed_first c.requires c.in_ok-lines.ensures _
+
+pub returns-in_err-lines-2-clause-taken : goal.returns-in_err-lines-2-clause-taken
+returns-in_err-lines-2-clause-taken g c =
+    let p = err_from_is_err_and c.from_residual-in_err-lines-2.result c.from_residual-in_err-lines-2.ensures.1 in
+    rw (p.1, p.2) (next_refused c.loop-k.invariant _ _ c.in_ok-k.ensures.prefix_len.0 c.in_err-lines-2.ensures _ c.in_ok-k.ensures.bytes
+    (c.read_full.auto.buf ∙ c.loop-k.invariant.sofar.full))
+
+pub returns-in_err-lines-2-clause-told : goal.returns-in_err-lines-2-clause-told
+returns-in_err-lines-2-clause-told g c =
+    let p = err_from_is_err_and c.from_residual-in_err-lines-2.result c.from_residual-in_err-lines-2.ensures.1 in
+    rw (p.1, p.2) (next_told c.loop-k.invariant _ _ c.in_ok-k.ensures.prefix_len.0 c.in_err-lines-2.ensures _ c.in_ok-k.ensures.bytes
+    (c.read_full.auto.buf ∙ c.loop-k.invariant.sofar.full) c.in_ok-k.ensures.end)
+
+pub unwrap-requires : goal.unwrap-requires
+unwrap-requires g c = rw c.told.ensures (sofar_told c.loop-k.invariant.sofar _ _ c.in_ok-k.ensures.prefix_len.0 c.in_ok-lines-2.ensures)
 
 pub returns-then-k-part-clause-taken : goal.returns-then-k-part-clause-taken
-returns-then-k-part-clause-taken g c =
-    sofar_ends c.loop-input.invariant.sofar _ _ c.read_input-r.ensures.prefix_len.0 c.read_part-reading-in-loop-input.ensures c.if-k-part.true c.told.ensures
+returns-then-k-part-clause-taken g c = rw c.into.ensures (sofar_ends c.loop-k.invariant.sofar _ _ c.in_ok-k.ensures.prefix_len.0 c.in_ok-lines-2.ensures c.if-k-part.true (sym c.told.ensures ∙ c.unwrap.ensures))
 
-pub returns-then-k-part-clause-told : goal.returns-then-k-part-clause-told
-returns-then-k-part-clause-told g c =
-    passed_ends c.loop-input.invariant _ _ c.read_input-r.ensures.prefix_len.0 c.read_part-reading-in-loop-input.ensures _ (c.read_input-r.ensures.bytes c.if-r.false)
-    (c.read_input-r.ensures.end c.if-r.false c.if-k-part.true) c.told.ensures
-
-pub loop-input-preserved : goal.loop-input-preserved
-loop-input-preserved g c =
-    passed_more c.loop-input.invariant _ _ c.read_input-r.ensures.prefix_len.0 c.read_part-reading-in-loop-input.ensures _ (c.read_input-r.ensures.bytes c.if-r.false)
-    (c.read_input-r.auto.buf ∙ c.loop-input.invariant.sofar.full) c.if-k-part.false
-
-pub returns-clause-taken : goal.returns-clause-taken
-returns-clause-taken g c = sofar_settled c.loop-input.invariant.sofar (sym c.settled.ensures ∙ c.loop-input-test.false) c.told-2.ensures
-
-pub returns-clause-told : goal.returns-clause-told
-returns-clause-told g c = passed_settled c.loop-input.invariant (sym c.settled.ensures ∙ c.loop-input-test.false) c.told-2.ensures
+pub loop-k-preserved : goal.loop-k-preserved
+loop-k-preserved g c =
+    passed_more c.loop-k.invariant _ _ c.in_ok-k.ensures.prefix_len.0 c.in_ok-lines-2.ensures _ c.in_ok-k.ensures.bytes
+    (c.read_full.auto.buf ∙ c.loop-k.invariant.sofar.full) c.if-k-part.false

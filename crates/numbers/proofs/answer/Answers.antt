@@ -1,7 +1,8 @@
 use Rattle.numbers.proofs.Refusals.{refused_written}
 use Rattle.numbers.proofs.answer.Goals as goal
 
-pub returns-in-Refused : goal.returns-in-Refused
-returns-in-Refused g c =
-    λ yes. refused_written _ _ _ _ _ c.in-Refused.ensures.told c.in-Refused.ensures.taken.refused c.print_refusal-k.ensures.value c.print_refusal-k.ensures.out_after
-    (c.write.ensures yes)
+pub returns-in-Err-Refused : goal.returns-in-Err-Refused
+returns-in-Err-Refused g c =
+    let r = c.in-Err-Refused in
+    refused_written _ _ _ c.read_schedule.new.part r.field-0-is r.refusal-is r.ensures.told _ c.print_refusal-k.ensures.value c.print_refusal-k.ensures.out_after _
+    c.write_all-in-Err-Refused.ensures
