@@ -7,6 +7,7 @@ use mathlib.Core.Logic.{◌≢◌}
 use mathlib.Core.Bool.{Bool, true, false, cond}
 use mathlib.Core.List as Lists
 use mathlib.Core.List.{[], ◌∷◌}
+use Rattle.std.specs.Prelude.{Result, Ok, Err, IfErr}
 use lib.ListN.{get_or, take, set, replicate}
 use lib.Seq.{take_at}
 use borrow.Author.Tests.{ne_eqb}
@@ -23,19 +24,19 @@ use Rattle.simulation.specs.Machine.{Labelling, digits, stands, pending_after, L
 use Rattle.simulation.specs.Machine.{set_out, changed, stored, scan_of, Outcome, carry_out}
 use Rattle.simulation.proofs.Labellings.{here_yes}
 use Rattle.simulation.proofs.Scans.{scan_alike}
-use Rattle.moves.specs.Moves.{refusal_number, move_of}
+use Rattle.moves.specs.Moves.{move_of}
 use Rattle.moves.proofs.MoveLaws.{by_move}
 use Rattle.moves.specs.declared.Move.{Move}
 use Rattle.moves.specs.declared.Move.TheVariants as Moves
-use Rattle.moves.specs.declared.Move.TheVariants.{Refused, BeginLabel, SnapLabel, SnapScan, EndLabel, EndScan, LeaveService, ReturnToService}
+use Rattle.moves.specs.declared.Move.TheVariants.{BeginLabel, SnapLabel, SnapScan, EndLabel, EndScan, LeaveService, ReturnToService}
 use Rattle.moves.specs.declared.Refusal.{Refusal}
-use Rattle.moves.specs.declared.Refusal.TheVariants.{Accepted}
 use Rattle.arrays.specs.Arrays.{Rows, Planes, Arrays, arrays, cell, planes, phase_number, out_number, result_rows, entries_in, rest_in, rest_of, labels_in}
 use Rattle.arrays.specs.Arrays.{jobs_of, control_of, results_of, labels_of, arrays_of, Holds}
+use Rattle.arrays.specs.WellFormed.{well_formed}
 use Rattle.arrays.specs.Sizes.{Shaped}
 use Rattle.arrays.proofs.Passed.{passed}
 use Rattle.arrays.proofs.Results.{station_most}
-use Rattle.arrays.proofs.States.{labels_back, passed_holds}
+use Rattle.arrays.proofs.States.{labels_back, passed_holds, written_held}
 use Rattle.engine.specs.Scans.{found, scan_rows}
 use Rattle.engine.proofs.Scanned.{put}
 use Rattle.engine.proofs.Served.{orderly, order_long, order_inside}
@@ -112,7 +113,7 @@ module _ {n : ℕ} {l : Planes} {m : Move} {k z : ℕ} (s : PreparedLabels n l m
 
 -- THE REST
 
-module _ {n : ℕ} {jobs control : Rows} {results : Planes} {x : Task} {order : Lists.List ℕ} (s : PreparedRest n jobs control results x order) where
+module _ {n : ℕ} {jobs control : Rows} {results : Planes} {x : Task} {order : Lists.List ℕ} (s : PreparedRest n jobs control results (Ok x) order) where
   abbrev o : Rest
   o = rest_in n jobs control results
 
@@ -120,7 +121,7 @@ module _ {n : ℕ} {jobs control : Rows} {results : Planes} {x : Task} {order : 
   k = x.place
 
   place_low : k < 32
-  place_low = omega (arith, s.inside, s.high)
+  place_low = omega (arith, s.task.inside, s.high)
 
   -- JOBS, after a change of the record of k
 
@@ -189,34 +190,27 @@ module _ {n : ℕ} {jobs control : Rows} {results : Planes} {x : Task} {order : 
   abbrev After : Move → Outcome
   After m = carry_out original (take n order) o (move_of k x.job m)
 
-  carried : {m : Move} {j c : Rows} {r : Planes} {h h' : Handed} → x.action ≡ m → h ≡ h' → Holds (After m).rest j c r
-      → (refusal_number h'.refusal ≡ (After m).refusal) × (h'.place ≡ k) × (h'.entries ≡ hands_out x.shown m) → (After m).handed ≡ entries_in h'.entries (get_or r k [])
-      → Named h'.entries (get_or r k []) → CarriesRest (rest_after n jobs control results x order) x j c r h
-  carried {m} {j} {c} {r} e d f g u v =
-      let t : After m ≡ rest_after n jobs control results x order = ap After (sym e) in
-      subst (CarriesRest (rest_after n jobs control results x order) x j c r) (sym d) (record {
+  carried : {m : Move} {j c : Rows} {r : Planes} {e : ℕ} → x.action ≡ m → Holds (After m).rest j c r → 0 ≡ (After m).refusal → e ≡ hands_out x.shown m
+      → (After m).handed ≡ entries_in e (get_or r k []) → Named e (get_or r k [])
+      → CarriesRest (rest_after n jobs control results (Ok x) order) (Ok x) j c r (Ok (record { place = k; entries = e }))
+  carried {m} {j} {c} {r} a f g d u v =
+      let t : After m ≡ rest_after n jobs control results (Ok x) order = ap After (sym a) in
+      record {
         holds = subst (λ (y : Outcome). Holds y.rest j c r) t f;
-        number = g.0 ∙ ap (λ (y : Outcome). y.refusal) t;
-        place = g.1;
-        entries = g.2 ∙ ap (hands_out x.shown) (sym e);
+        number = g ∙ ap (λ (y : Outcome). y.refusal) t;
+        told = ap (λ i. Ok (record { place = k; entries = i })) (d ∙ ap (hands_out x.shown) (sym a));
         handed = sym (ap (λ (y : Outcome). y.handed) t) ∙ u;
         named = v;
-      })
+      }
 
   -- the move m is served, these arrays are left, and nothing is handed out
   abbrev Accepts : Move → Rows → Rows → Planes → Type 0
-  Accepts m j c r = (h : Handed) → x.action ≡ m → h ≡ record { refusal = Accepted; place = k; entries = 0 }
-      → CarriesRest (rest_after n jobs control results x order) x j c r h
+  Accepts m j c r = x.action ≡ m → CarriesRest (rest_after n jobs control results (Ok x) order) (Ok x) j c r (Ok (record { place = k; entries = 0 }))
 
   quiet : {m : Move} {j c : Rows} {r : Planes} → 0 ≡ (After m).refusal → (After m).handed ≡ [] → 0 ≡ hands_out x.shown m → Holds (After m).rest j c r
       → Accepts m j c r
   unfolding tabulate
-  quiet a u b f h e d = carried e d f (a, refl, b) u (λ p l. absurd (omega arith))
-
-  pub refused : {h : Handed} {f : Refusal} → x.action ≡ Refused f → h ≡ record { refusal = f; place = k; entries = 0 }
-      → CarriesRest (rest_after n jobs control results x order) x jobs control results h
-  unfolding carry_out tabulate
-  refused e d = carried e d s.holds (refl, refl, refl) refl (λ p l. absurd (omega arith))
+  quiet a u b f e = carried e f a b u (λ p l. absurd (omega arith))
 
   pub begins_label : Accepts BeginLabel (put jobs 1 k x.job) (put control 0 k 1) results
   unfolding carry_out
@@ -255,62 +249,86 @@ module _ {n : ℕ} {jobs control : Rows} {results : Planes} {x : Task} {order : 
   unfolding carry_out
   returns_to_service = quiet refl refl refl (serviced false)
 
-  pub ends_scan : {h : Handed} → x.action ≡ EndScan → h ≡ record { refusal = Accepted; place = k; entries = x.shown }
-      → CarriesRest (rest_after n jobs control results x order) x jobs (put control 0 k 0) results h
+  pub ends_scan : x.action ≡ EndScan
+      → CarriesRest (rest_after n jobs control results (Ok x) order) (Ok x) jobs (put control 0 k 0) results (Ok (record { place = k; entries = x.shown }))
   unfolding carry_out
-  ends_scan e d = carried e d (rephased Idle) (refl, refl, refl)
-      (ap o.result (div-one k) ∙ ap (λ j. entries_in j (get_or results k [])) (sym (s.is_shown e))) (s.named e)
+  ends_scan e = carried e (rephased Idle) refl refl
+      (ap o.result (div-one k) ∙ ap (λ j. entries_in j (get_or results k [])) (sym (s.task.is_shown e))) (s.task.named e)
+
+-- a refused call is passed on
+pub refused : {n : ℕ} {jobs control : Rows} {results : Planes} {f : Refusal} {order : Lists.List ℕ} → PreparedRest n jobs control results (Err f) order
+    → CarriesRest (rest_after n jobs control results (Err f) order) (Err f) jobs control results (Err f)
+unfolding carry_out
+refused s = record { holds = s.holds; number = refl; told = refl; handed = refl; named = tt }
 
 -- BOTH, on a well-formed table
+
+-- what is accepted is not refused
+none_refused : {A : Type 0} (P : Refusal → Type 0) (r : Result A Refusal) {h : A} → r ≡ Ok h → IfErr r P
+none_refused P (Ok x) e = tt
+none_refused P (Err f) e = absurd (cc)
 
 -- a move that is no snap for a scan asks for no order
 order_unused : (order order' : Lists.List ℕ) (o : Rest) (k job : ℕ) (m : Move) → (m ≡ SnapScan → order ≡ order')
     → carry_out original order o (move_of k job m) ≡ carry_out original order' o (move_of k job m)
 unfolding carry_out
 order_unused order order' o k job = by_move (λ m. (m ≡ SnapScan → order ≡ order') → carry_out original order o (move_of k job m) ≡ carry_out original order' o (move_of k job m))
-    (λ x f. refl) (λ f. refl) (λ f. refl) (λ f. ap (λ l. carry_out original l o (move_of k job SnapScan)) (f refl)) (λ f. refl) (λ f. refl) (λ f. refl) (λ f. refl)
+    (λ f. refl) (λ f. refl) (λ f. ap (λ l. carry_out original l o (move_of k job SnapScan)) (f refl)) (λ f. refl) (λ f. refl) (λ f. refl) (λ f. refl)
     (λ f. refl)
 
-module _ {a : Arrays} {x : Task} {order : Lists.List ℕ} (s : Prepared a x order) (g : Shaped a) where
+module _ {a : Arrays} {x : Task} {order : Lists.List ℕ} (s : Prepared a (Ok x) order) (g : Shaped a) where
   abbrev count : ℕ
   count = a.count
 
   pub labels_prepared : PreparedLabels count a.labels x.action x.place x.newest
-  labels_prepared = record { exact = sym (labels_back a g s.passed); orderly = orderly a s.passed; inside = s.inside; is_newest = s.is_newest }
+  labels_prepared = record {
+    exact = sym (labels_back a g s.passed);
+    orderly = orderly a s.passed;
+    inside = s.task.inside;
+    is_newest = s.task.is_newest;
+  }
 
-  pub rest_prepared : PreparedRest count a.jobs a.control a.results x order
+  pub rest_prepared : PreparedRest count a.jobs a.control a.results (Ok x) order
   rest_prepared = record {
     holds = passed_holds a g s.passed;
     high = s.high;
-    inside = s.inside;
-    job_fits = s.job_fits;
-    listed = λ e. (order_long s e, order_inside s e);
-    is_shown = s.is_shown;
-    named = λ e p h. omega (
-      arith,
-      station_most count (get_or a.results x.place []) ((passed a s.passed).each x.place s.inside).result p (omega (arith, s.is_shown e)),
-      s.high,
-    );
+    task = record {
+      inside = s.task.inside;
+      job_fits = s.task.job_fits;
+      listed = λ e. (order_long s.task e, order_inside s.high s.task e);
+      is_shown = s.task.is_shown;
+      named = λ e p h. omega (
+        arith,
+        station_most count (get_or a.results x.place []) ((passed a s.passed).each x.place s.task.inside).result p (omega (arith, s.task.is_shown e)),
+        s.high,
+      );
+    };
   }
 
   -- the order that a scan is given is that of the labels
   same_order : x.action ≡ SnapScan → take count order ≡ ordered count (stands (digits original count) (labels_in a.labels))
   same_order e = let b = stands (digits original count) (labels_in a.labels) in
-      ap (take count) (s.is_order e) ∙ take_at (ordered count b) (replicate (32 - count) 0) count (ordered_length b count)
+      ap (take count) (s.task.is_order e) ∙ take_at (ordered count b) (replicate (32 - count) 0) count (ordered_length b count)
 
-  pub carries : {l : Planes} {j c : Rows} {r : Planes} {h : Handed}
+  pub carries : {l : Planes} {j c : Rows} {r : Planes} {h : Result Handed Refusal}
       → ((job : ℕ) → l ≡ labels_of (relabelled count (digits original count) (labels_in a.labels) (label_step (move_of x.place job x.action))))
-      → CarriesRest (rest_after count a.jobs a.control a.results x order) x j c r h → Carries a x (arrays count l j c r) h
+      → CarriesRest (rest_after count a.jobs a.control a.results (Ok x) order) (Ok x) j c r h → Carries a (Ok x) (arrays count l j c r) h
   unfolding arrays_of
   carries {l} {j} {c} {r} {h} labelled f =
       let t = order_unused (take count order) (ordered count (stands (digits original count) (labels_in a.labels))) (rest_of a) x.place x.job x.action same_order in
-      let held = subst (λ (y : Outcome). Holds y.rest j c r) t f.holds in (
-        record {
+      let held = subst (λ (y : Outcome). Holds y.rest j c r) t f.holds in record {
+        performed = record {
           table = λ y. arrays count (labelled x.job y) (held.jobs y) (held.control y) (held.results y);
           number = f.number ∙ ap (λ (y : Outcome). y.refusal) t;
-          place = f.place;
           handed = sym (ap (λ (y : Outcome). y.handed) t) ∙ f.handed;
-        },
-        f.entries,
-        f.named,
-      )
+        };
+        told = f.told;
+        named = f.named;
+        kept = none_refused _ h f.told;
+      }
+
+-- a refused call, on a well-formed table
+pub carries_none : {a : Arrays} {f : Refusal} → well_formed a ≡ true → Shaped a → Carries a (Err f) a (Err f)
+unfolding carry_out relabelled
+carries_none {a} e g =
+    record { performed = record { table = sym (written_held a g e); number = refl; handed = refl }; told = refl; named = tt; kept = refl }

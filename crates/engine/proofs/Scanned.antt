@@ -5,12 +5,13 @@ use native.Mathlib.Omega.{arith}
 use native.Mathlib.Decide.{dec_lt}
 use mathlib.Core.Path.{◌≡◌, refl, sym, ap, ap₂, ◌∙◌}
 use mathlib.Core.Logic.{◌≢◌, by_cases}
-use mathlib.Core.Bool.{Bool, true, false, ◌&&◌, not-not}
+use mathlib.Core.Bool.{Bool, true, false, ◌&&◌}
 use mathlib.Core.List as Lists
 use mathlib.Core.List.{[], ◌∷◌, ◌++◌, map, map-append, append-nil}
 use lib.ListN.{length, get_or, take, set, replicate, length-append, get_or-append, get_or-eq_default}
 use lib.Seq.{take-suc, get_or_at}
-use lib.Dec.{eqb}
+use borrow.Author.Tests.{eq-eqb, ne_eqb}
+use Rattle.std.proofs.lemmas.List.{take-take}
 use Rattle.basics.specs.Tests.{passing, tabulate}
 use Rattle.basics.proofs.Facts.{replicate_tabulate, set_tabulate}
 use Rattle.basics.proofs.Passing.{passing_yes, passing_no, passing_append}
@@ -40,8 +41,19 @@ row_more f l e k q h = set_tabulate 32 k (f e) _ _ h (ap f (sym at_end)) (λ p _
         ∙ sym (get_or-eq_default l (entry 0 0) (omega arith)))
 
 -- what the code asks of a process
-pub found_shows : (jobs service : Lists.List ℕ) (i : ℕ) {b : Bool} → (has_job (get_or jobs i 0) && eqb (get_or service i 0) 0) ≡ b → shows (found jobs service i) ≡ b
-found_shows jobs service i e = ap (λ x. has_job (get_or jobs i 0) && x) (not-not (eqb (get_or service i 0) 0)) ∙ e
+module _ (jobs service : Lists.List ℕ) (i : ℕ) where
+  pub found_yes : get_or jobs i 0 ≢ 0 → get_or service i 0 ≡ 0 → shows (found jobs service i) ≡ true
+  found_yes d e = rw (ne_eqb _ 0 d, eq-eqb _ 0 e) refl
+
+  pub found_idle : get_or jobs i 0 ≡ 0 → shows (found jobs service i) ≡ false
+  found_idle e = rw (eq-eqb _ 0 e) refl
+
+  pub found_out : get_or service i 0 ≢ 0 → shows (found jobs service i) ≡ false
+  found_out d = rw (ne_eqb _ 0 d) (go (has_job (get_or jobs i 0)))
+    where
+      go : (b : Bool) → (b && false) ≡ false
+      go true = refl
+      go false = refl
 
 -- the next station of the order
 module _ (order : Lists.List ℕ) (process : ℕ → Process) (p : ℕ) (h : p < length order) where
@@ -101,3 +113,9 @@ module _ (order : Lists.List ℕ) (process : ℕ → Process) where
     struck_next z er ek =
         let w = sym (without_this order process p h z) in
         record { count = ek ∙ f.count ∙ ap length w; held = er ∙ f.held ∙ ap result_rows w }
+
+-- the scan of all n stations
+pub all_scanned : (n : ℕ) {p k : ℕ} (order : Lists.List ℕ) {process : ℕ → Process} {rows : Rows} → Filled (take n order) process p k rows → p ≡ n
+    → rows ≡ scan_rows n order process
+all_scanned n order {process} f e =
+    f.held ∙ ap (λ l. result_rows (scan_of process l)) (ap (λ m. take m (take n order)) e ∙ take-take n n order (omega arith))

@@ -9,15 +9,14 @@ ghost use Rattle.simulation.specs.Machine.{digits, label_step, relabelled};
 ghost use Rattle.transition.specs.Forms.{over};
 ghost use Rattle.transition.specs.Questions.{Tells};
 ghost use Rattle.transition.specs.Sequences.{Steps};
-ghost use Rattle.moves.specs.Moves.{room_of, refusal_number, move_of, call_of};
+ghost use Rattle.moves.specs.Moves.{room_of, told_number, told_count, move_of, call_of};
 ghost use Rattle.moves.specs.declared.Move.TheVariants.{SnapLabel, SnapScan};
-ghost use Rattle.moves.specs.declared.Refusal.TheVariants.{Accepted};
-ghost use Rattle.arrays.specs.Arrays.{arrays, entries_in, shown_in, labels_in, labels_of};
+ghost use Rattle.arrays.specs.Arrays.{arrays, entries_in, labels_in, labels_of};
 ghost use Rattle.arrays.specs.WellFormed.{well_formed};
 ghost use Rattle.arrays.specs.Form.{lent};
 ghost use Rattle.engine.specs.Scans.{order_of, found, scan_rows};
 ghost use Rattle.engine.specs.Clauses.{Prepared, PreparedRest, PreparedLabels, rest_after, CarriesRest};
-ghost use Rattle.engine.specs.Clauses.{due, Named, Carries, Judges, Hands, row_of, record_of};
+ghost use Rattle.engine.specs.Clauses.{Named, Carries, Judges, Hands, row_of, record_of};
 
 use arrays::{
     CURRENT, Control, END_LABEL, END_SCAN, IDLE, IN_SERVICE, Jobs, Labels, OUT_OF_SERVICE, PENDING,
@@ -30,13 +29,6 @@ const PHASE: usize = 0;
 
 const SERVICE: usize = 1;
 
-// What a caller is told: the refusal, and how many bytes or records of report were written.
-#[derive(Clone, Copy)]
-pub struct Reply {
-    pub refusal: Refusal,
-    pub written: usize,
-}
-
 // A call that has been judged: its move, the place of its station, its job, the newest station, and how many entries the end of a scan hands out.
 #[derive(Clone, Copy)]
 pub struct Task {
@@ -47,10 +39,9 @@ pub struct Task {
     pub shown: usize,
 }
 
-// What a call hands out, before it is written anywhere: its refusal, and so many entries of the scan result at a place.
+// What an accepted call hands out, before it is written anywhere: so many entries of the scan result at a place.
 #[derive(Clone, Copy)]
 pub struct Handed {
-    pub refusal: Refusal,
     pub place: usize,
     pub entries: usize,
 }
@@ -68,17 +59,14 @@ fn scan_result(
     ensures { rows.new ≡ scan_rows n order.now (found jobs.now service.now) }
 {
     *rows = [[0u32; 32]; 2];
-    let mut k: usize = 0;
-    let mut p: usize = 0;
-    while p < n {
-        let i = order[p];
+    let mut k = 0;
+    for &i in &order[..n] {
         let job = jobs[i];
-        if (job != 0) & (service[i] == IN_SERVICE) {
+        if job != 0 && service[i] == IN_SERVICE {
             rows[0][k] = (i + 1) as u32;
             rows[1][k] = job;
             k += 1;
         }
-        p += 1;
     }
 }
 
@@ -95,8 +83,7 @@ pub fn write_result(rows: &[[u32; 32]; 2], k: usize, line: u64, out: &mut [u8]) 
         return 0;
     }
     columns::write_head(&mut out[0..11], line, 0);
-    let mut p = 0;
-    while p < k {
+    for p in 0..k {
         let at = p * 29;
         let head = columns::head_of(out);
         columns::write_scan_line(
@@ -106,33 +93,19 @@ pub fn write_result(rows: &[[u32; 32]; 2], k: usize, line: u64, out: &mut [u8]) 
             rows[0][p],
             rows[1][p],
         );
-        p += 1;
     }
     k * 29
 }
 
 // Writes the first k entries of a scan result to the first records of a panel; a record is place, station and job.
+#[tactic(auto, using(crate::proofs::Reports::one_record_more), unfolding(simulation::specs::Calls::panel_records, basics::specs::Tests::tabulate))]
 fn fill(rows: &[[u32; 32]; 2], k: usize, panel: &mut [[u32; 3]])
     requires k_bound { k ≤ 32 }
     requires k_in_bounds { k ≤ length panel.old }
     ensures { panel.new ≡ over (map row_of (panel_records 1 (entries_in k rows.now))) panel.old }
 {
-    let mut i: usize = 0;
-    while i < k {
-        let record = [(i + 1) as u32, rows[0][i], rows[1][i]];
-        panel[i] = record;
-        i += 1;
-    }
-}
-
-// A call that is served, with so many entries of the result at its place.
-fn accepted(place: usize, entries: usize) -> Handed
-    ensures { result ≡ record { refusal = Accepted; place = place; entries = entries } }
-{
-    Handed {
-        refusal: Refusal::Accepted,
-        place,
-        entries,
+    for i in 0..k {
+        panel[i] = [(i + 1) as u32, rows[0][i], rows[1][i]];
     }
 }
 
@@ -153,35 +126,31 @@ fn relabel(m: Move, place: usize, z: usize, n: usize, labels: &mut Labels)
     }
 }
 
-// Carries out a task on what a table of n stations holds beside its labels, whatever these are; the stations stand in this order.
+// Carries out a judged call on what a table of n stations holds beside its labels, whatever these are; the stations stand in this order. A refused one is
+// passed on, and changes nothing.
 pub fn carry_rest(
     n: usize,
-    task: Task,
+    task: Result<Task, Refusal>,
     order: &[usize; 32],
     jobs: &mut Jobs,
     control: &mut Control,
     results: &mut Results,
-) -> Handed
+) -> Result<Handed, Refusal>
     requires { PreparedRest n jobs.old control.old results.old task order.now }
     ensures { CarriesRest (rest_after n jobs.old control.old results.old task order.now) task
         jobs.new control.new results.new result }
 {
-    let m = task.action;
+    let task = task?;
     let place = task.place;
-    match m {
-        Move::Refused(refusal) => Handed {
-            refusal,
-            place,
-            entries: 0,
-        },
+    match task.action {
         Move::BeginLabel => {
             jobs[PENDING][place] = task.job as u32;
             control[PHASE][place] = SNAP;
-            accepted(place, 0)
+            Ok(Handed { place, entries: 0 })
         }
         Move::SnapLabel => {
             control[PHASE][place] = UPDATE;
-            accepted(place, 0)
+            Ok(Handed { place, entries: 0 })
         }
         Move::SnapScan => {
             scan_result(
@@ -192,63 +161,53 @@ pub fn carry_rest(
                 &mut results[place],
             );
             control[PHASE][place] = END_SCAN;
-            accepted(place, 0)
+            Ok(Handed { place, entries: 0 })
         }
         Move::Update => {
             jobs[CURRENT][place] = jobs[PENDING][place];
             control[PHASE][place] = END_LABEL;
-            accepted(place, 0)
+            Ok(Handed { place, entries: 0 })
         }
         Move::EndLabel => {
             control[PHASE][place] = IDLE; // pending label and job stay
-            accepted(place, 0)
+            Ok(Handed { place, entries: 0 })
         }
         Move::EndScan => {
             control[PHASE][place] = IDLE; // the result stays
-            accepted(place, task.shown)
+            Ok(Handed {
+                place,
+                entries: task.shown,
+            })
         }
         Move::LeaveService => {
             control[SERVICE][place] = OUT_OF_SERVICE;
-            accepted(place, 0)
+            Ok(Handed { place, entries: 0 })
         }
         Move::ReturnToService => {
             control[SERVICE][place] = IN_SERVICE;
-            accepted(place, 0)
+            Ok(Handed { place, entries: 0 })
         }
     }
 }
 
-// Carries out a task on a well-formed table of n stations with this scan order.
+// Carries out a judged call on a well-formed table of n stations with this scan order.
 pub fn carry_out(
     n: usize,
-    task: Task,
+    task: Result<Task, Refusal>,
     order: &[usize; 32],
     labels: &mut Labels,
     jobs: &mut Jobs,
     control: &mut Control,
     results: &mut Results,
-) -> Handed
+) -> Result<Handed, Refusal>
     requires { Prepared (arrays n labels.old jobs.old control.old results.old) task order.now }
     ensures { Carries (arrays n labels.old jobs.old control.old results.old) task
         (arrays n labels.new jobs.new control.new results.new) result }
 {
     arrays::shaped(*labels, *jobs, *control, *results);
-    let h = carry_rest(n, task, order, jobs, control, results);
-    let m = task.action;
-    relabel(m, task.place, task.newest, n, labels);
-    h
-}
-
-// How many entries a station whose phase has this number may hand out: none but at the end of a scan.
-fn due_entries(phase: u8, n: usize, stations: &[u32; 32]) -> usize
-    requires { n ≤ 32 }
-    ensures { result ≡ due phase (shown_in n stations.now) }
-{
-    if phase == END_SCAN {
-        arrays::shown_in(n, stations)
-    } else {
-        0
-    }
+    let task = task?;
+    relabel(task.action, task.place, task.newest, n, labels);
+    carry_rest(n, Ok(task), order, jobs, control, results)
 }
 
 // Judges a call on a table of n stations with what is lent for its report; `top` is the newest station, as far as it is known.
@@ -259,25 +218,30 @@ pub fn judge(
     results: &Results,
     room: Room,
     top: usize,
-) -> Task
+) -> Result<Task, Refusal>
     requires { (2 ≤ n) × (n ≤ 32) }
     ensures { Judges n control.now results.now q (room_of room) top result }
 {
-    let station = q.station;
-    let job = q.job;
-    let place = moves::place_of(station, n);
+    let place = moves::place_of(q.station, n);
     let number = control[PHASE][place];
-    let phase = arrays::phase_of(number);
-    let out = arrays::is_out(control[SERVICE][place]);
-    let shown = due_entries(number, n, &results[place][0]);
-    let own = Standing { phase, out, shown };
-    Task {
-        action: moves::judge(n, own, q.code, station, job, room),
+    let shown = if number == END_SCAN {
+        arrays::shown_in(n, &results[place][0])
+    } else {
+        0
+    };
+    let own = Standing {
+        phase: arrays::phase_of(number),
+        out: arrays::is_out(control[SERVICE][place]),
+        shown,
+    };
+    let action = moves::judge(n, own, q.code, q.station, q.job, room)?;
+    Ok(Task {
+        action,
         place,
-        job,
+        job: q.job,
         newest: top,
         shown,
-    }
+    })
 }
 
 // The newest station, for a move that asks for it; else 0.
@@ -287,10 +251,7 @@ fn newest_for(m: Move, rows: &[[u8; 31]; 32], n: usize) -> usize
     ensures value_2 { m ≢ SnapLabel → result ≡ 0 }
 {
     match m {
-        Move::SnapLabel => {
-            let top = rows::order::newest(rows, n);
-            top.station
-        }
+        Move::SnapLabel => rows::order::newest(rows, n).station,
         _ => 0,
     }
 }
@@ -316,16 +277,16 @@ fn serve(
     jobs: &mut Jobs,
     control: &mut Control,
     results: &mut Results,
-) -> Handed
+) -> Result<Handed, Refusal>
     requires { well_formed (arrays n labels.old jobs.old control.old results.old) ≡ true }
     ensures { Hands (arrays n labels.old jobs.old control.old results.old)
         (call_of request (room_of room)) (arrays n labels.new jobs.new control.new results.new) result }
 {
-    let mut task = judge(n, request, control, results, room, 0);
-    let m = task.action;
-    task.newest = newest_for(m, &labels[CURRENT], n);
-    let order = order_for(m, &labels[CURRENT], n);
-    carry_out(n, task, &order, labels, jobs, control, results)
+    arrays::shaped(*labels, *jobs, *control, *results);
+    let mut task = judge(n, request, control, results, room, 0)?;
+    task.newest = newest_for(task.action, &labels[CURRENT], n);
+    let order = order_for(task.action, &labels[CURRENT], n);
+    carry_out(n, Ok(task), &order, labels, jobs, control, results)
 }
 
 // A step call on a table of unknown content, up to what is written of it: 13 is judged first, on all that is lent. A refused call changes nothing.
@@ -337,16 +298,12 @@ pub fn perform(
     jobs: &mut Jobs,
     control: &mut Control,
     results: &mut Results,
-) -> Handed
+) -> Result<Handed, Refusal>
     ensures { Hands (arrays count labels.old jobs.old control.old results.old)
         (call_of request (room_of room)) (arrays count labels.new jobs.new control.new results.new) result }
 {
     if !well_formed::well_formed(count, labels, jobs, control, results) {
-        return Handed {
-            refusal: Refusal::IllFormedTable,
-            place: 0,
-            entries: 0,
-        };
+        return Err(Refusal::IllFormedTable);
     }
     serve(
         count as usize,
@@ -359,7 +316,7 @@ pub fn perform(
     )
 }
 
-// A step call with a report buffer. `shaped` tells the lengths of the arrays, by which those that a refused call leaves are the ones that it got.
+// A step call with a report buffer: how many bytes of it are written.
 pub fn step(
     count: u64,
     request: Request,
@@ -368,22 +325,19 @@ pub fn step(
     control: &mut Control,
     results: &mut Results,
     report: &mut [u8],
-) -> Reply
+) -> Result<usize, Refusal>
     ensures { Steps lent (arrays count labels.old jobs.old control.old results.old)
         (call_of request (Buffer (length report.old))) (Bytes report.old)
         (arrays count labels.new jobs.new control.new results.new)
-        (refusal_number result.refusal) result.written (Bytes report.new) }
+        (told_number result) (told_count result) (Bytes report.new) }
 {
-    arrays::shaped(*labels, *jobs, *control, *results);
     let room = Room::Buffer(report.len());
-    let h = perform(count, request, room, labels, jobs, control, results);
-    let refusal = h.refusal;
-    let place = h.place;
-    let written = write_result(&results[place], h.entries, request.line, report);
-    Reply { refusal, written }
+    let handed = perform(count, request, room, labels, jobs, control, results)?;
+    let rows = &results[handed.place];
+    Ok(write_result(rows, handed.entries, request.line, report))
 }
 
-// A step call with a panel; `written` counts its records.
+// A step call with a panel: how many records of it are written.
 pub fn step_shown(
     count: u64,
     request: Request,
@@ -392,30 +346,16 @@ pub fn step_shown(
     control: &mut Control,
     results: &mut Results,
     panel: &mut [[u32; 3]],
-) -> Reply
+) -> Result<usize, Refusal>
     ensures { Steps lent (arrays count labels.old jobs.old control.old results.old)
         (call_of request (Panel (length panel.old))) (Records (map record_of panel.old))
         (arrays count labels.new jobs.new control.new results.new)
-        (refusal_number result.refusal) result.written (Records (map record_of panel.new)) }
+        (told_number result) (told_count result) (Records (map record_of panel.new)) }
 {
-    arrays::shaped(*labels, *jobs, *control, *results);
     let room = Room::Panel(panel.len());
-    let h = perform(count, request, room, labels, jobs, control, results);
-    let refusal = h.refusal;
-    let place = h.place;
-    fill(&results[place], h.entries, panel);
-    let shown = h.entries;
-    Reply {
-        refusal,
-        written: shown,
-    }
-}
-
-// What is told of a table: the refusal, and how many stations have the newest's label; none if it is refused.
-#[derive(Clone, Copy)]
-pub struct Holders {
-    pub refusal: Refusal,
-    pub stations: usize,
+    let handed = perform(count, request, room, labels, jobs, control, results)?;
+    fill(&results[handed.place], handed.entries, panel);
+    Ok(handed.entries)
 }
 
 // How many stations of a table of unknown content have the newest's label. 13 is judged first, on all that is lent.
@@ -425,19 +365,12 @@ pub fn top_holders(
     jobs: &Jobs,
     control: &Control,
     results: &Results,
-) -> Holders
+) -> Result<usize, Refusal>
     ensures { Tells lent (arrays count labels.now jobs.now control.now results.now)
-        (refusal_number result.refusal) result.stations }
+        (told_number result) (told_count result) }
 {
-    if well_formed::well_formed(count, labels, jobs, control, results) {
-        let top = rows::order::newest(&labels[CURRENT], count as usize);
-        return Holders {
-            refusal: Refusal::Accepted,
-            stations: top.holders,
-        };
+    if !well_formed::well_formed(count, labels, jobs, control, results) {
+        return Err(Refusal::IllFormedTable);
     }
-    Holders {
-        refusal: Refusal::IllFormedTable,
-        stations: 0,
-    }
+    Ok(rows::order::newest(&labels[CURRENT], count as usize).holders)
 }

@@ -1,9 +1,9 @@
 // What a step call amounts to, and its refusal.
 #![tactic(auto)]
 
-ghost use Rattle.std.specs.Prelude.{◌≡◌, true, not, ℕ, ◌-◌, ◌≤◌, eqb};
-ghost use Rattle.simulation.specs.Calls.{refused, unless, job_fits, not_due, needs_service, by_service, holds, original, by_phase, judge_in};
-ghost use Rattle.moves.specs.Moves.{phase_of, room_of, standing_of, refusal_number, move_of, called, directly, place_of};
+ghost use Rattle.std.specs.Prelude.{◌≡◌, true, ℕ, ◌-◌, ◌≤◌};
+ghost use Rattle.simulation.specs.Calls.{unless, job_fits, not_due, needs_service, by_service, holds, original, by_phase, judge_in};
+ghost use Rattle.moves.specs.Moves.{phase_of, room_of, standing_of, refusal_number, final_number, step_code, Decodes, judged_of, called, directly, place_of};
 
 // What a process is doing: it takes a label, or it scans (document 01: mark, list).
 #[derive(Clone, Copy)]
@@ -29,62 +29,72 @@ pub enum Room {
     Panel(usize),
 }
 
-// Why a call is turned down, in the order of the documents' numbers, of which those from 14 on are document 02's; `Accepted` is 0. Document 01's trade
-// words stand beside the names.
-#[derive(Clone, Copy)]
+// Why a call is turned down, by the documents' number, of which those from 14 on are document 02's. Document 01's trade words stand beside the names.
+#[derive(Clone, Copy, PartialEq, Eq)]
 pub enum Refusal {
-    Accepted,
-    StationCount, // 1, bad crew
-    UnknownStation, // 2, stranger
-    Busy, // 3
-    NoSnapDue, // 4, no look due
-    NoUpdateDue, // 5, no write due
-    NothingToEnd, // 6
-    NoRoom, // 7, short paper
-    IncompleteLine, // 8, torn line
-    MalformedColumn, // 9, bad column
-    UnknownStep, // 10
-    JobOutOfRange, // 11, bad job
-    TooManyLines, // 12, full sheet
-    IllFormedTable, // 13, spoiled table
-    OutOfService, // 14
-    InService, // 15
-    TooManySteps, // 16
-    ListTooShort, // 17
+    StationCount = 1, // bad crew
+    UnknownStation = 2, // stranger
+    Busy = 3,
+    NoSnapDue = 4, // no look due
+    NoUpdateDue = 5, // no write due
+    NothingToEnd = 6,
+    NoRoom = 7, // short paper
+    IncompleteLine = 8, // torn line
+    MalformedColumn = 9, // bad column
+    UnknownStep = 10,
+    JobOutOfRange = 11, // bad job
+    TooManyLines = 12, // full sheet
+    IllFormedTable = 13, // spoiled table
+    OutOfService = 14,
+    InService = 15,
+    TooManySteps = 16,
+    ListTooShort = 17,
 }
 
-impl Refusal {
-    // The documents' number.
-    pub fn number(self) -> u64
-        ensures { result ≡ refusal_number self }
-    {
-        match self {
-            Refusal::Accepted => 0,
-            Refusal::StationCount => 1,
-            Refusal::UnknownStation => 2,
-            Refusal::Busy => 3,
-            Refusal::NoSnapDue => 4,
-            Refusal::NoUpdateDue => 5,
-            Refusal::NothingToEnd => 6,
-            Refusal::NoRoom => 7,
-            Refusal::IncompleteLine => 8,
-            Refusal::MalformedColumn => 9,
-            Refusal::UnknownStep => 10,
-            Refusal::JobOutOfRange => 11,
-            Refusal::TooManyLines => 12,
-            Refusal::IllFormedTable => 13,
-            Refusal::OutOfService => 14,
-            Refusal::InService => 15,
-            Refusal::TooManySteps => 16,
-            Refusal::ListTooShort => 17,
-        }
-    }
+// The documents' number.
+impl From<Refusal> for u64 {
+    ghost from_gives = { λ refusal n. n ≡ refusal_number refusal };
 
-    // Whether it is one: all are but `Accepted`.
-    pub fn refuses(self) -> bool
-        ensures { result ≡ not (eqb (refusal_number self) 0) }
-    {
-        self.number() != 0
+    fn from(refusal: Refusal) -> u64 {
+        refusal as u64
+    }
+}
+
+// The documents' number, 0 where there is none.
+pub fn number_of(refusal: Option<Refusal>) -> u64
+    ensures { result ≡ final_number refusal }
+{
+    refusal.map_or(0, u64::from)
+}
+
+// What a station may be told to do, in the order of the documents' codes, from 1.
+#[derive(Clone, Copy, PartialEq, Eq)]
+pub enum Step {
+    BeginLabel = 1,
+    Scan = 2,
+    Snap = 3,
+    Update = 4,
+    End = 5,
+    LeaveService = 6,
+    ReturnToService = 7,
+}
+
+impl TryFrom<u64> for Step {
+    type Error = Refusal;
+
+    ghost try_from_gives = { Decodes };
+
+    fn try_from(code: u64) -> Result<Self, Refusal> {
+        match code {
+            1 => Ok(Step::BeginLabel),
+            2 => Ok(Step::Scan),
+            3 => Ok(Step::Snap),
+            4 => Ok(Step::Update),
+            5 => Ok(Step::End),
+            6 => Ok(Step::LeaveService),
+            7 => Ok(Step::ReturnToService),
+            _ => Err(Refusal::UnknownStep),
+        }
     }
 }
 
@@ -109,10 +119,9 @@ pub fn direct(code: u64, station: u64, job: u64) -> Request
     }
 }
 
-// What a call amounts to; a scan's begin is part of its snap.
-#[derive(Clone, Copy)]
+// What an accepted call amounts to; a scan's begin is part of its snap.
+#[derive(Clone, Copy, PartialEq, Eq)]
 pub enum Move {
-    Refused(Refusal),
     BeginLabel,
     SnapLabel,
     SnapScan,
@@ -143,143 +152,108 @@ fn room_for(shown: usize, room: Room) -> bool
 }
 
 // The refusal of a step that is not due.
-fn not_due(code: u64) -> Move
-    ensures { (k job : ℕ) → move_of k job result ≡ refused (not_due code) }
+fn not_due(step: Step) -> Refusal
+    ensures { refusal_number result ≡ not_due (step_code step) }
 {
-    if code == 3 {
-        return Move::Refused(Refusal::NoSnapDue);
+    match step {
+        Step::Snap => Refusal::NoSnapDue,
+        Step::Update => Refusal::NoUpdateDue,
+        Step::End => Refusal::NothingToEnd,
+        _ => Refusal::Busy,
     }
-    if code == 4 {
-        return Move::Refused(Refusal::NoUpdateDue);
-    }
-    if code == 5 {
-        return Move::Refused(Refusal::NothingToEnd);
-    }
-    Move::Refused(Refusal::Busy)
 }
 
-// What a known step with a fitting job amounts to, by the phase of its station and how many stations its scan result shows.
-fn by_phase(shown: usize, code: u64, room: Room, p: Phase) -> Move
+// What a step with a fitting job amounts to, by the phase of its station and how many stations its scan result shows.
+#[tactic(auto, unfolding(simulation::specs::Calls::unless))]
+fn by_phase(shown: usize, step: Step, room: Room, p: Phase) -> Result<Move, Refusal>
     requires { shown ≤ 32 }
-    ensures { (line station job : ℕ) → move_of (station - 1) job result ≡ by_phase original true shown (called line code station job (room_of room)) (phase_of p) }
+    ensures { (line station job : ℕ) → judged_of (station - 1) job result
+        ≡ by_phase original true shown (called line (step_code step) station job (room_of room)) (phase_of p) }
 {
-    match p {
-        Phase::Idle => {
-            if code == 1 {
-                return Move::BeginLabel;
+    match (p, step) {
+        (Phase::Idle, Step::BeginLabel) => Ok(Move::BeginLabel),
+        (Phase::Idle, Step::Scan) => Ok(Move::SnapScan),
+        (Phase::Idle, Step::LeaveService) => Ok(Move::LeaveService),
+        (Phase::Idle, Step::ReturnToService) => Ok(Move::ReturnToService),
+        (Phase::Snap, Step::Snap) => Ok(Move::SnapLabel),
+        (Phase::Update, Step::Update) => Ok(Move::Update),
+        (Phase::End(Operation::Label), Step::End) => Ok(Move::EndLabel),
+        (Phase::End(Operation::Scan), Step::End) => {
+            if room_for(shown, room) {
+                Ok(Move::EndScan)
+            } else {
+                Err(Refusal::NoRoom)
             }
-            if code == 2 {
-                return Move::SnapScan;
-            }
-            if code == 6 {
-                return Move::LeaveService;
-            }
-            if code == 7 {
-                return Move::ReturnToService;
-            }
-            not_due(code)
         }
-        Phase::Snap => {
-            if code == 3 {
-                return Move::SnapLabel;
-            }
-            not_due(code)
-        }
-        Phase::Update => {
-            if code == 4 {
-                return Move::Update;
-            }
-            not_due(code)
-        }
-        Phase::End(o) => match o {
-            Operation::Label => {
-                if code == 5 {
-                    return Move::EndLabel;
-                }
-                not_due(code)
-            }
-            Operation::Scan => {
-                if code != 5 {
-                    return not_due(code);
-                }
-                if room_for(shown, room) {
-                    Move::EndScan
-                } else {
-                    Move::Refused(Refusal::NoRoom)
-                }
-            }
-        },
+        _ => Err(not_due(step)),
     }
 }
 
 // Whether a step is one that only a station in service takes.
-fn needs_service(code: u64) -> bool
-    ensures { result ≡ needs_service code }
+fn needs_service(step: Step) -> bool
+    ensures { result ≡ needs_service (step_code step) }
 {
-    (code == 1) | (code == 2) | (code == 6)
+    matches!(step, Step::BeginLabel | Step::Scan | Step::LeaveService)
 }
 
-// What a known step with a fitting job amounts to: whether its station is out of service is judged first, and then the phase.
-fn by_service(own: Standing, code: u64, room: Room) -> Move
-    requires { own.shown ≤ 32 }
-    ensures { (line station job : ℕ) → move_of (station - 1) job result ≡ by_service own.out code
-        (by_phase original true own.shown (called line code station job (room_of room)) (phase_of own.phase)) }
-{
-    let phase = own.phase;
-    if own.out {
-        if needs_service(code) {
-            return Move::Refused(Refusal::OutOfService);
-        }
-        return by_phase(own.shown, code, room, phase);
-    }
-    if code == 7 {
-        return Move::Refused(Refusal::InService);
-    }
-    by_phase(own.shown, code, room, phase)
-}
-
-// What a known step of one of n stations amounts to: its job is judged first.
+// What a step with a fitting job amounts to: whether its station is out of service is judged first, and then the phase.
 #[tactic(auto, unfolding(simulation::specs::Calls::unless))]
-fn by_code(own: Standing, code: u64, job: u64, room: Room) -> Move
+fn by_service(own: Standing, step: Step, room: Room) -> Result<Move, Refusal>
     requires { own.shown ≤ 32 }
-    ensures { (line station : ℕ) → move_of (station - 1) job result ≡ unless (job_fits code job) 11 (by_service own.out code
-        (by_phase original true own.shown (called line code station job (room_of room)) (phase_of own.phase))) }
+    ensures { (line station job : ℕ) → judged_of (station - 1) job result ≡ by_service own.out (step_code step)
+        (by_phase original true own.shown (called line (step_code step) station job (room_of room)) (phase_of own.phase)) }
 {
-    if code == 1 {
-        if job < 1 {
-            return Move::Refused(Refusal::JobOutOfRange);
-        }
-        if 4294967295 < job {
-            return Move::Refused(Refusal::JobOutOfRange);
-        }
-        return by_service(own, code, room);
+    if own.out && needs_service(step) {
+        return Err(Refusal::OutOfService);
     }
-    if job != 0 {
-        return Move::Refused(Refusal::JobOutOfRange);
+    if !own.out && step == Step::ReturnToService {
+        return Err(Refusal::InService);
     }
-    by_service(own, code, room)
+    by_phase(own.shown, step, room, own.phase)
+}
+
+// Whether a step takes this job.
+fn job_fits(step: Step, job: u64) -> bool
+    ensures { result ≡ job_fits (step_code step) job }
+{
+    match step {
+        Step::BeginLabel => 1 <= job && job <= 4294967295,
+        _ => job == 0,
+    }
+}
+
+// What a step of one of n stations amounts to: its job is judged first.
+#[tactic(auto, unfolding(simulation::specs::Calls::unless))]
+fn by_code(own: Standing, step: Step, job: u64, room: Room) -> Result<Move, Refusal>
+    requires { own.shown ≤ 32 }
+    ensures { (line station : ℕ) → judged_of (station - 1) job result ≡ unless (job_fits (step_code step) job) 11 (by_service own.out (step_code step)
+        (by_phase original true own.shown (called line (step_code step) station job (room_of room)) (phase_of own.phase))) }
+{
+    if !job_fits(step, job) {
+        return Err(Refusal::JobOutOfRange);
+    }
+    by_service(own, step, room)
 }
 
 // What a call amounts to for a station of n with this standing.
 #[tactic(auto, unfolding(simulation::specs::Calls::unless, simulation::specs::Calls::judge_in))]
-pub fn judge(n: usize, own: Standing, code: u64, station: u64, job: u64, room: Room) -> Move
+pub fn judge(
+    n: usize,
+    own: Standing,
+    code: u64,
+    station: u64,
+    job: u64,
+    room: Room,
+) -> Result<Move, Refusal>
     requires { own.shown ≤ 32 }
-    ensures { (line : ℕ) → move_of (place_of n station) job result
+    ensures { (line : ℕ) → judged_of (place_of n station) job result
         ≡ judge_in original n (standing_of own) (called line code station job (room_of room)) }
 {
-    if code < 1 {
-        return Move::Refused(Refusal::UnknownStep);
+    let step = Step::try_from(code)?;
+    if station < 1 || (n as u64) < station {
+        return Err(Refusal::UnknownStation);
     }
-    if 7 < code {
-        return Move::Refused(Refusal::UnknownStep);
-    }
-    if station < 1 {
-        return Move::Refused(Refusal::UnknownStation);
-    }
-    if (n as u64) < station {
-        return Move::Refused(Refusal::UnknownStation);
-    }
-    by_code(own, code, job, room)
+    by_code(own, step, job, room)
 }
 
 // The place of a station of n, from 0; that of the first if there is no such station.
@@ -287,10 +261,7 @@ pub fn place_of(station: u64, n: usize) -> usize
     requires { 1 ≤ n }
     ensures { result ≡ place_of n station }
 {
-    if station < 1 {
-        return 0;
-    }
-    if (n as u64) < station {
+    if station < 1 || (n as u64) < station {
         return 0;
     }
     (station - 1) as usize

@@ -1,4 +1,5 @@
 -- Numbers read back from lines of 12 bytes each.
+use Rattle.std.proofs.Common.{Option, Some, None}
 use Prim.Native.Nat.{ℕ, zero, suc, ◌+◌, ◌-◌, ◌*◌, ◌≤◌, ◌<◌, ◌^◌}
 use native.Mathlib.Omega.{arith}
 use mathlib.Core.Path.{◌≡◌, refl, sym, ap, ap₂, subst, ◌∙◌}
@@ -12,8 +13,6 @@ use borrow.Author.Tests.{eqb-true, eq-eqb, ne_eqb, ltb-true, ltb-false}
 use Rattle.basics.proofs.Filled.{taken_more}
 use Rattle.columns.specs.Columns.{column}
 use Rattle.columns.specs.Reading.{column_read}
-use Rattle.columns.specs.declared.Column.{Column}
-use Rattle.columns.specs.declared.Column.TheVariants.{Value, Bad}
 use Rattle.columns.proofs.ColumnLaws.{length_column, bad_value, column_iff}
 use Rattle.number_lines.specs.Lines.{number_line, number_lines, NumberLine, NumberLines, number_read, lines_read, NumbersRead}
 use Rattle.number_lines.proofs.Printing.{length_number, length_numbers}
@@ -21,11 +20,11 @@ use Rattle.number_lines.proofs.Printing.{length_number, length_numbers}
 -- ONE LINE
 
 -- bytes that do not reach to a line's end, or do not end it
-pub line_short : (bs : List ℕ) → length bs < 12 → number_read bs ≡ Bad
+pub line_short : (bs : List ℕ) → length bs < 12 → number_read bs ≡ None
 unfolding number_read
 line_short bs h = rw (get_or-eq_default bs 0 {n = 11} (omega arith)) refl
 
-pub line_no_end : (bs : List ℕ) → (get_or bs 11 0 ≡ 10 → ⊥) → number_read bs ≡ Bad
+pub line_no_end : (bs : List ℕ) → (get_or bs 11 0 ≡ 10 → ⊥) → number_read bs ≡ None
 unfolding number_read
 line_no_end bs d = rw (ne_eqb (get_or bs 11 0) 10 d) refl
 
@@ -34,7 +33,7 @@ unfolding number_read
 line_end bs e = rw (eq-eqb (get_or bs 11 0) 10 e) refl
 
 -- what is read is a whole line
-pub line_long : (bs : List ℕ) (v : ℕ) → number_read bs ≡ Value v → 12 ≤ length bs
+pub line_long : (bs : List ℕ) (v : ℕ) → number_read bs ≡ Some v → 12 ≤ length bs
 line_long bs v e = go (ltb (length bs) 12) refl
   where
     go : (b : Bool) → ltb (length bs) 12 ≡ b → 12 ≤ length bs
@@ -43,7 +42,7 @@ line_long bs v e = go (ltb (length bs) 12) refl
 
 -- a number is read exactly where its line stands at the front
 module _ (bs : List ℕ) (v : ℕ) where
-  read_line : number_read bs ≡ Value v → NumberLine (take 12 bs) v
+  read_line : number_read bs ≡ Some v → NumberLine (take 12 bs) v
   unfolding number_read number_line
   read_line e = go (eqb (get_or bs 11 0) 10) refl e
     where
@@ -53,14 +52,14 @@ module _ (bs : List ℕ) (v : ℕ) where
       wide : length (take 11 bs) ≡ 11
       wide = length-take-le 11 bs (omega (arith, long))
 
-      go : (b : Bool) → eqb (get_or bs 11 0) 10 ≡ b → cond b (column_read (take 11 bs)) Bad ≡ Value v → NumberLine (take 12 bs) v
+      go : (b : Bool) → eqb (get_or bs 11 0) 10 ≡ b → cond b (column_read (take 11 bs)) None ≡ Some v → NumberLine (take 12 bs) v
       go true t k = let f = (column_iff (take 11 bs) v (omega (arith, wide))).0 k in record {
         line = take-suc bs 11 0 (omega (arith, long)) ∙ ap₂ (λ x y. x ++ (y ∷ [])) (f.0 ∙ ap (λ w. column w v) wide) (eqb-true (get_or bs 11 0) 10 t);
         fits = (rw wide at f).1;
       }
       go false t k = absurd (bad_value k)
 
-  line_read : NumberLine (take 12 bs) v → number_read bs ≡ Value v
+  line_read : NumberLine (take 12 bs) v → number_read bs ≡ Some v
   unfolding number_line
   line_read f = line_end bs ends ∙ (column_iff (take 11 bs) v (omega (arith, wide))).1 (rw wide (front, f.fits))
     where
@@ -73,7 +72,7 @@ module _ (bs : List ℕ) (v : ℕ) where
       wide : length (take 11 bs) ≡ 11
       wide = ap length front ∙ length_column 11 v
 
-  pub line_iff : (number_read bs ≡ Value v) ↔ NumberLine (take 12 bs) v
+  pub line_iff : (number_read bs ≡ Some v) ↔ NumberLine (take 12 bs) v
   line_iff = (read_line, line_read)
 
 -- SEVERAL LINES
@@ -81,14 +80,14 @@ pub lines_none : (bs : List ℕ) → lines_read 0 bs ≡ []
 unfolding lines_read
 lines_none bs = refl
 
-pub lines_bad : (k : ℕ) (bs : List ℕ) → number_read bs ≡ Bad → lines_read k bs ≡ []
+pub lines_bad : (k : ℕ) (bs : List ℕ) → number_read bs ≡ None → lines_read k bs ≡ []
 unfolding lines_read
 lines_bad zero bs e = refl
-lines_bad (suc k) bs e = ap (λ (r : Column). elim r [ Value v ↦ v ∷ lines_read k (drop 12 bs) | Bad ↦ [] ]) e
+lines_bad (suc k) bs e = ap (λ (r : Option ℕ). elim r [ Some v ↦ v ∷ lines_read k (drop 12 bs) | None ↦ [] ]) e
 
-pub lines_more : (k : ℕ) (bs : List ℕ) (v : ℕ) → number_read bs ≡ Value v → lines_read (suc k) bs ≡ v ∷ lines_read k (drop 12 bs)
+pub lines_more : (k : ℕ) (bs : List ℕ) (v : ℕ) → number_read bs ≡ Some v → lines_read (suc k) bs ≡ v ∷ lines_read k (drop 12 bs)
 unfolding lines_read
-lines_more k bs v e = ap (λ (r : Column). elim r [ Value v ↦ v ∷ lines_read k (drop 12 bs) | Bad ↦ [] ]) e
+lines_more k bs v e = ap (λ (r : Option ℕ). elim r [ Some v ↦ v ∷ lines_read k (drop 12 bs) | None ↦ [] ]) e
 
 -- THE LOOP: `count` numbers are read, and all that are to be read are these and those of the bytes from `at` on; the rest of the list is the old one
 pub record ReadSoFar (bs list₀ list : List ℕ) (count at : ℕ) : Type 0 where
@@ -111,11 +110,11 @@ read_start bs list = record {
 
 module _ {bs list₀ list : List ℕ} {count at : ℕ} (f : ReadSoFar bs list₀ list count at) where
   -- the line that is read lies within the bytes
-  pub read_within : (v : ℕ) → number_read (drop at bs) ≡ Value v → at + 12 ≤ length bs
+  pub read_within : (v : ℕ) → number_read (drop at bs) ≡ Some v → at + 12 ≤ length bs
   read_within v e = omega (arith, line_long (drop at bs) v e, length-drop at bs, f.within)
 
   -- one line more
-  pub read_more : (v : ℕ) → count < length list₀ → number_read (drop at bs) ≡ Value v → ReadSoFar bs list₀ (set list count v) (count + 1) (at + 12)
+  pub read_more : (v : ℕ) → count < length list₀ → number_read (drop at bs) ≡ Some v → ReadSoFar bs list₀ (set list count v) (count + 1) (at + 12)
   read_more v h e = record {
     size = length-set list count v ∙ f.size;
     room = omega arith;
@@ -155,7 +154,7 @@ module _ {bs list₀ list : List ℕ} {count at : ℕ} (f : ReadSoFar bs list₀
     pub read_full : length list₀ ≤ count → NumbersRead bs list₀ all k list
     read_full h = read_end (let none : length list₀ - count ≡ 0 = omega arith in ap (λ k. lines_read k (drop at bs)) none ∙ lines_none (drop at bs))
 
-    pub read_bad : number_read (drop at bs) ≡ Bad → NumbersRead bs list₀ all k list
+    pub read_bad : number_read (drop at bs) ≡ None → NumbersRead bs list₀ all k list
     read_bad e = read_end (lines_bad (length list₀ - count) (drop at bs) e)
 
 -- WHAT READING SAYS OF THE BYTES
@@ -174,10 +173,10 @@ unfolding number_lines
 lines_front zero bs = rw (lines_none bs) (record { lines = refl; fit = none_fit })
 lines_front (suc k) bs = go (lines_front k (drop 12 bs)) (number_read bs) refl
   where
-    go : NumberLines (take (length (lines_read k (drop 12 bs)) * 12) (drop 12 bs)) (lines_read k (drop 12 bs)) → (r : Column) → number_read bs ≡ r
+    go : NumberLines (take (length (lines_read k (drop 12 bs)) * 12) (drop 12 bs)) (lines_read k (drop 12 bs)) → (r : Option ℕ) → number_read bs ≡ r
         → NumberLines (take (length (lines_read (suc k) bs) * 12) bs) (lines_read (suc k) bs)
-    go later Bad e = rw (lines_bad (suc k) bs e) (record { lines = refl; fit = none_fit })
-    go later (Value v) e =
+    go later None e = rw (lines_bad (suc k) bs e) (record { lines = refl; fit = none_fit })
+    go later (Some v) e =
         let rest = lines_read k (drop 12 bs) in
         let here = (line_iff bs v).0 e in
         let split : suc (length rest) * 12 ≡ 12 + length rest * 12 = omega arith in

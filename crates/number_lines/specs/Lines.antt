@@ -1,9 +1,7 @@
 -- Numbers on lines of their own: the form in which the programs print them and read them back (02, Cards 6 and 7, leave it open).
-use Rattle.std.specs.Prelude.{ℕ, zero, suc, ◌*◌, ◌≤◌, ◌<◌, ◌^◌, ◌≡◌, Bool, cond, List, [], ◌∷◌, ◌++◌, length, get_or, take, drop, eqb}
+use Rattle.std.specs.Prelude.{ℕ, zero, suc, ◌*◌, ◌≤◌, ◌<◌, ◌^◌, ◌≡◌, Bool, cond, List, [], ◌∷◌, ◌++◌, length, get_or, take, drop, eqb, Option, Some, None}
 use Rattle.columns.specs.Columns.{column}
 use Rattle.columns.specs.Reading.{column_read}
-use Rattle.columns.specs.declared.Column.{Column}
-use Rattle.columns.specs.declared.Column.TheVariants.{Value, Bad}
 
 -- a number as it is printed, at the right edge of 11 columns on a line of its own; and several
 unfoldable pub number_line : ℕ → List ℕ
@@ -22,15 +20,15 @@ pub record NumberLines (bs ns : List ℕ) : Type 0 where
   pub lines : bs ≡ number_lines ns
   pub fit : (i : ℕ) → get_or ns i 0 < 10 ^ 11
 
--- READING THEM BACK: the number on the line at the front of some bytes; `Bad` where they do not begin with the line of a number
+-- READING THEM BACK: the number on the line at the front of some bytes; `None` where they do not begin with the line of a number
 -- (proofs/Reading.antt: `line_iff`)
-unfoldable pub number_read : List ℕ → Column
-number_read bs = cond (eqb (get_or bs 11 0) 10) (column_read (take 11 bs)) Bad
+unfoldable pub number_read : List ℕ → Option ℕ
+number_read bs = cond (eqb (get_or bs 11 0) 10) (column_read (take 11 bs)) None
 
 -- the numbers of the lines at the front of some bytes, up to the first that is the line of no number, and no more than k
 unfoldable pub lines_read : ℕ → List ℕ → List ℕ
 lines_read zero bs = []
-lines_read (suc k) bs = elim (number_read bs) [ Value v ↦ v ∷ lines_read k (drop 12 bs) | Bad ↦ [] ]
+lines_read (suc k) bs = elim (number_read bs) [ Some v ↦ v ∷ lines_read k (drop 12 bs) | None ↦ [] ]
 
 -- what is handed back for bytes and a lent list: as many numbers are read as it has room for, and stand at its front. The bytes are whole if the lines of these
 -- numbers are all of them (proofs/Reading.antt: `read_whole`, `read_back`).

@@ -4,8 +4,6 @@
 ghost use Rattle.std.specs.Prelude.{◌≡◌, ◌++◌, ◌*◌, ◌≤◌, length, drop};
 ghost use Rattle.number_lines.specs.Lines.{number_line, number_lines, number_read, NumbersRead};
 
-use columns::Column;
-
 // Fills the 12 bytes of a line with a number.
 fn print_number(out: &mut [u8], v: u32)
     requires { length out.old ≡ 12 }
@@ -38,14 +36,14 @@ pub struct Read {
 }
 
 // Reads the line at the front of some bytes: a number in 11 columns, and byte 10.
-fn read_number(bytes: &[u8]) -> Column
+fn read_number(bytes: &[u8]) -> Option<u64>
     ensures { result ≡ number_read bytes.now }
 {
     if bytes.len() < 12 {
-        return Column::Bad;
+        return None;
     }
     if bytes[11] != 10 {
-        return Column::Bad;
+        return None;
     }
     columns::read_column(&bytes[0..11])
 }
@@ -58,7 +56,7 @@ pub fn read_numbers(bytes: &[u8], list: &mut [u64]) -> Read
     let mut count = 0;
     let mut at = 0;
     while count < list.len() {
-        let Column::Value(v) = read_number(&bytes[at..]) else {
+        let Some(v) = read_number(&bytes[at..]) else {
             break;
         };
         list[count] = v;

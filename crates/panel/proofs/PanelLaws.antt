@@ -1,13 +1,16 @@
 -- The panel filled from the entries that a call hands out holds the records of these entries.
-use Prim.Native.Nat.{ℕ, suc}
+use Prim.Native.Nat.{ℕ, suc, ◌+◌, ◌≤◌, ◌<◌}
+use native.Mathlib.Nat.{zero-add}
 use native.Mathlib.Numerals.{add-one}
+use native.Mathlib.Omega.{arith}
 use mathlib.Core.Path.{◌≡◌, refl, sym, ap, ap₂, subst, ◌∙◌}
-use mathlib.Core.List.{List, ◌++◌, map, map-append}
-use lib.ListN.{length, get_or, drop}
+use mathlib.Core.List.{List, [], ◌++◌, map, map-append}
+use lib.ListN.{length, get_or, set, take, drop}
+use Rattle.std.proofs.lemmas.List.{append-nil, drop_all, length-take-le}
 use borrow.Author.Tests.{leb-true}
 use Rattle.basics.specs.Tests.{tabulate}
 use Rattle.basics.proofs.Facts.{map_drop, length_tabulate, tabulate_same, map_tabulate}
-use Rattle.walks.proofs.PanelStep.{Hand, Filling}
+use Rattle.basics.proofs.Filled.{front_more}
 use Rattle.simulation.specs.Calls.{Call, Panel, panel_records, Report, Records, size, written}
 use Rattle.simulation.proofs.Reports.{records_tabulate, records_length}
 use Rattle.transition.specs.Forms.{Form, over, onto}
@@ -15,10 +18,25 @@ use Rattle.transition.specs.Sequences.{Steps}
 use Rattle.moves.specs.Moves.{called}
 use Rattle.table.specs.Tables.{blank, declared}
 use Rattle.table.specs.declared.Entry.{Entry}
-use Rattle.step.specs.Clauses.{first_entries, HandsEntries}
+use Rattle.step.specs.Clauses.{first_entries}
 use Rattle.panel.specs.declared.Record.{Record}
 use Rattle.panel.specs.Panels.{record_at, filled, declared_record, panel_of, Shows}
-use Rattle.panel.proofs.Types.{board}
+
+-- a loop fills it record by record
+pub filled_none : (es : List Entry) (ys : List Record) → ys ≡ filled es 0 ys
+unfolding tabulate
+filled_none es ys = refl
+
+pub filled_more : (es : List Entry) (i : ℕ) (ys xs : List Record) (r : Record) → xs ≡ filled es i ys → i < length ys → r ≡ record_at es i
+    → set xs i r ≡ filled es (i + 1) ys
+filled_more es i ys xs r e h is =
+    ap (λ l. set l i r) e ∙ front_more i 0 (record_at es) ys r h (is ∙ ap (record_at es) (sym (zero-add i))) ∙ ap (λ k. filled es k ys) (sym (add-one i))
+
+-- a loop over the first n has filled them; the others stay
+pub filled_front : (es : List Entry) (n : ℕ) (ys xs : List Record) → n ≤ length ys → xs ≡ filled es n (take n ys) → xs ++ drop n ys ≡ filled es n ys
+filled_front es n ys xs h e =
+    let none : drop n (take n ys) ≡ [] = drop_all n (take n ys) (omega (arith, length-take-le n ys)) in
+    ap (λ l. l ++ drop n ys) (e ∙ ap (λ l. tabulate n 0 (record_at es) ++ l) none ∙ append-nil (tabulate n 0 (record_at es)))
 
 filled_records : (es : List Entry) (n : ℕ) (ys : List Record)
     → over (panel_records 1 (first_entries n es)) (map declared_record ys) ≡ map declared_record (filled es n ys)
@@ -41,13 +59,3 @@ filled_step form {t} {t'} c {refusal} es k ys e s =
     ap (λ r. written c.line r (first_entries k es)) e in
     subst (λ (x : ℕ × Report). Steps form t c (panel_of ys) t' refusal x.0 x.1)
     (λ i. ((ap size is ∙ long) i, (ap (λ r. onto r (panel_of ys)) is ∙ ap Records (filled_records es k ys)) i)) s
-
--- what a call hands out before its panel is filled
-abbrev pub hands : Hand board
-hands t code station job k r = HandsEntries t (called 0 code station job (Panel k)) r
-
-pub filling : Filling board record_at hands Shows
-filling = record {
-  fits = λ ys {r} l. (l.short, leb-true r.outcome.reply.written (length ys) l.room);
-  shows = λ ys {r} l. filled_step declared _ r.entries r.outcome.reply.written ys refl (l.steps (panel_of ys));
-}

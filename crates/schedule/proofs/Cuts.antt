@@ -3,13 +3,12 @@ use Prim.Native.Nat.{ℕ, zero, suc, ◌+◌, ◌-◌, ◌*◌, ◌≤◌, ◌<�
 use native.Mathlib.Nat.{zero-add}
 use native.Mathlib.Omega.{arith}
 use mathlib.Core.Path.{◌≡◌, refl, sym, ap, ◌∙◌}
-use mathlib.Core.Bool.{Bool, true, false, cond, true≢false}
+use mathlib.Core.Bool.{Bool, true, false, cond}
 use mathlib.Core.List as Lists
 use mathlib.Core.List.{[], ◌∷◌, ◌++◌, append_assoc}
 use lib.ListN.{length, take, drop, length-append, length-drop}
 use lib.Seq.{take-append-le, drop-append-le, drop-drop}
-use borrow.Author.Tests.{eq-eqb}
-use Rattle.moves.specs.Moves.{refusal_number}
+use Rattle.moves.proofs.MoveLaws.{refuses_yes}
 use Rattle.schedule.specs.Tables.{Tables}
 use Rattle.schedule.specs.Sessions.{Session, is_final, Served, unmoved, serve_of}
 use Rattle.schedule.specs.Files.{cut, pieces, printed, behind, run_lines}
@@ -22,7 +21,7 @@ behind_twice a b o = ap (λ x. record { session = o.session; refusal = o.refusal
 
 module _ (T : Tables) where
   run_final : (s : Session T.Table) (ls : Lists.List (Lists.List ℕ)) → is_final s ≡ true → run_lines T s ls ≡ unmoved s
-  run_final s ls e = final_run T s ls (λ z. true≢false (sym e ∙ rw (eq-eqb (refusal_number s.refusal) 0 z) refl))
+  run_final s ls e = final_run T s ls (refuses_yes s.refusal e)
 
   -- the run of the lines ms behind an outcome
   abbrev pub run_further : Served T.Table → Lists.List (Lists.List ℕ) → Served T.Table

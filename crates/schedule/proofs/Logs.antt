@@ -1,4 +1,5 @@
 -- The numbers for a file and what its steps write are a right log; and its report without refusals is what they write (02, Card 7).
+use Rattle.std.specs.Prelude.{None, Result, Ok, Err}
 use Prim.Native.Nat.{ℕ, ◌+◌, ◌*◌, ◌≤◌, ◌<◌}
 use native.Mathlib.Omega.{arith}
 use mathlib.Core.Path.{◌≡◌, refl, sym, ap, ap₂, subst, ◌∙◌}
@@ -20,8 +21,8 @@ use Rattle.transition.specs.Logs.{lists, Right}
 use Rattle.transition.proofs.Written.{Sized}
 use Rattle.transition.proofs.Theorem.{Lawful, ReachedTable, table_fresh, table_count, table_refusals, table_step, step_report, step_kept, reached_held}
 use Rattle.transition.proofs.Logs.{numbers_few, report_half, logged}
-use Rattle.moves.specs.Moves.{refusal_number}
-use Rattle.moves.specs.declared.Refusal.TheVariants.{Accepted}
+use Rattle.moves.specs.Moves.{final_number}
+use Rattle.moves.specs.declared.Refusal.{Refusal}
 use Rattle.schedule.specs.Tables.{tables}
 use Rattle.schedule.specs.Lines.{next_line, header_read}
 use Rattle.schedule.specs.Files.{step_lines, refusal_line, printed, file_report}
@@ -34,8 +35,6 @@ use Rattle.schedule.proofs.FileTheorem.{lines_roomy, file_demand}
 use Rattle.schedule.proofs.Scans.{Strikes, strikes_none, strikes_append, strikes_all, strikes_line, strikes_lines}
 use Rattle.schedule.proofs.Surveys.{surveyed_none}
 use Rattle.schedule.specs.declared.Line.{Line}
-use Rattle.schedule.specs.declared.Line.TheVariants.{Step, Refused}
-use Rattle.schedule.specs.declared.Header.TheVariants.{Stations}
 
 -- RIGHT LOGS
 
@@ -45,16 +44,16 @@ unfolding step_calls
 calls_few B [] lines h = omega arith
 calls_few B (g ∷ gs) lines h = go (next_line lines g) refl (calls_few B gs (lines + 1))
   where
-    go : (w : Line) → next_line lines g ≡ w → (lines + 1 ≤ 1000001 → lines + 1 + length (step_calls B (lines + 1) gs) ≤ 1000001)
+    go : (w : Result Line Refusal) → next_line lines g ≡ w → (lines + 1 ≤ 1000001 → lines + 1 + length (step_calls B (lines + 1) gs) ≤ 1000001)
         → lines + length (call_then B lines w (step_calls B (lines + 1) gs)) ≤ 1000001
-    go (Refused r) e ih = omega arith
-    go (Step st k j) e ih = omega (arith, ih (omega (arith, next_within lines g st k j e)))
+    go (Err r) e ih = omega arith
+    go (Ok q) e ih = omega (arith, ih (omega (arith, next_within lines g q e)))
 
 pub file_log : {F : Form} {bs : Lists.List ℕ} {n : ℕ} {ns : Lists.List ℕ} → FileNumbers F bs n ns → Right F.board n (file_calls F.board bs) ns (file_lists F n bs)
 file_log {F} {bs} N = logged N.numbers (omega (arith, calls_few F.board (step_lines bs) 1 (omega arith)))
 
 -- on the original board: the numbers of every lawful form (02, Card 6) make a right log
-pub right_log : {F : Form} {bs : Lists.List ℕ} {n : ℕ} {ns : Lists.List ℕ} → F.board ≡ original → header_read original (take 18 bs) ≡ Stations n → FileNumbers F bs n ns
+pub right_log : {F : Form} {bs : Lists.List ℕ} {n : ℕ} {ns : Lists.List ℕ} → F.board ≡ original → header_read original (take 18 bs) ≡ Ok n → FileNumbers F bs n ns
     → RightLog bs ns (file_lists F n bs)
 right_log {F} {bs} {n} {ns} b e N =
     record { stations = n; header = e; log = subst (λ B. Right B n (file_calls B bs) ns (file_lists F n bs)) b (file_log N) }
@@ -64,10 +63,10 @@ pub log_short : {bs ns bytes : Lists.List ℕ} → RightLog bs ns bytes → (len
 log_short {bs} R = (numbers_few R.log, omega (arith, report_half 928 (lines_roomy original 1 (step_lines bs)) R.log))
 
 -- of a file that is not refused: 4,096 numbers at most, and 2,048 scan results of 32 report lines
-pub log_bounds : {bs ns bytes : Lists.List ℕ} → RightLog bs ns bytes → refusal_number (reading_refusal bs) ≡ 0 → (length ns ≤ 4096) × (length bytes ≤ 1900544)
+pub log_bounds : {bs ns bytes : Lists.List ℕ} → RightLog bs ns bytes → final_number (reading_refusal bs) ≡ 0 → (length ns ≤ 4096) × (length bytes ≤ 1900544)
 unfolding reading_refusal
 log_bounds {bs} R z =
-    let few = (surveyed_none (final_of bs) (length (file_calls original bs)) Accepted z).2 in
+    let few = (surveyed_none (final_of bs) (length (file_calls original bs)) None z).2 in
     let short = log_short R in
     (omega (arith, few, short.0), omega (arith, few, short.1))
 
@@ -123,8 +122,8 @@ module _ (F : Form) (L : Lawful F) (n : ℕ) (z : Sized F.board n) where
   strikes_calls (c ∷ cs) t r = strikes_append (strikes_call t r c) (strikes_calls cs (step_of F t c).table (table_step F L n z t r c))
 
 -- THE REPORT OF A FILE all of whose lines are steps, without the lines of refusals
-pub lists_struck : (F : Form) → Lawful F → (bs : Lists.List ℕ) (n : ℕ) → header_read F.board (take 18 bs) ≡ Stations n
-    → refusal_number (ending 1 (step_lines bs)) ≡ 0 → scan_lines (file_report (tables F) bs) ≡ file_lists F n bs
+pub lists_struck : (F : Form) → Lawful F → (bs : Lists.List ℕ) (n : ℕ) → header_read F.board (take 18 bs) ≡ Ok n
+    → final_number (ending 1 (step_lines bs)) ≡ 0 → scan_lines (file_report (tables F) bs) ≡ file_lists F n bs
 lists_struck F L bs n e z = ap scan_lines report ∙ strikes_all (strikes_calls F L n size cs (fresh_table F n) (table_fresh F L n size))
   where
     size : Sized F.board n

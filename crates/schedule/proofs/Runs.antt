@@ -1,4 +1,5 @@
 -- What a line adds to a run, what a whole file comes to, and what printed bytes leave in a buffer: for the code that serves a file's lines one by one.
+use Rattle.std.specs.Prelude.{Some, None, Ok, Err}
 use Prim.Native.Nat.{ℕ, ◌+◌, ◌*◌, ◌≤◌}
 use native.Mathlib.Omega.{arith}
 use mathlib.Core.Path.{◌≡◌, refl, sym, ap, ◌∙◌}
@@ -15,27 +16,25 @@ use Rattle.columns.specs.Columns.{report_line}
 use Rattle.columns.proofs.ColumnLaws.{length_report_line}
 use Rattle.simulation.specs.Calls.{Call, bytes_of}
 use Rattle.transition.specs.Forms.{over}
-use Rattle.moves.specs.Moves.{refusal_number}
+use Rattle.moves.specs.Moves.{refusal_number, final_number}
+use Rattle.moves.proofs.MoveLaws.{positive, some_final, none_final}
 use Rattle.moves.specs.declared.Refusal.{Refusal}
-use Rattle.moves.specs.declared.Refusal.TheVariants.{Accepted}
+use Rattle.schedule.specs.declared.Line.{Line}
 use Rattle.schedule.specs.Tables.{Tables}
 use Rattle.schedule.specs.Lines.{next_line, header_read, line_call}
 use Rattle.schedule.specs.Sessions.{Session, session, is_final, unmoved, ended, step_line, serve_of}
 use Rattle.schedule.specs.Files.{step_lines, refusal_line, printed, behind, run_lines, file_run}
-use Rattle.schedule.proofs.SessionLaws.{header_refused, serve_next}
-use Rattle.schedule.specs.declared.Line.TheVariants.{Step, Refused}
-use Rattle.schedule.specs.declared.Header.TheVariants as Headers
-use Rattle.schedule.specs.declared.Header.TheVariants.{Stations}
+use Rattle.schedule.proofs.SessionLaws.{serve_next}
 
 module _ (T : Tables) where
   -- THE RUN OF LINES
 
   module _ (s : Session T.Table) where
     -- nothing follows a final refusal
-    pub final_run : (ls : Lists.List (Lists.List ℕ)) → refusal_number s.refusal ≢ 0 → run_lines T s ls ≡ unmoved s
+    pub final_run : (ls : Lists.List (Lists.List ℕ)) → final_number s.refusal ≢ 0 → run_lines T s ls ≡ unmoved s
     unfolding run_lines
     final_run [] d = refl
-    final_run (l ∷ ls) d = rw (ne_eqb _ _ d) refl
+    final_run (l ∷ ls) d = rw (some_final _ d) refl
 
     pub run_on : (l : Lists.List ℕ) (ls : Lists.List (Lists.List ℕ)) → is_final s ≡ false → let o = serve_of T s l in
         run_lines T s (l ∷ ls) ≡ behind (printed (s.lines + 1) o.refusal o.bytes) (run_lines T o.session ls)
@@ -47,40 +46,40 @@ module _ (T : Tables) where
   shown_of t c = let a = T.step t c in printed c.line a.refusal (bytes_of a.report)
 
   -- one line, on a well-formed table
-  module _ (s : Session T.Table) (l : Lists.List ℕ) (going : refusal_number s.refusal ≡ 0) (ok : T.well_formed s.table ≡ true) where
+  module _ (s : Session T.Table) (l : Lists.List ℕ) (going : final_number s.refusal ≡ 0) (ok : T.well_formed s.table ≡ true) where
     run_line : let o = step_line T s (next_line s.lines l) in
         run_lines T s (l ∷ [])
-        ≡ record { session = o.session; refusal = refusal_number o.session.refusal; bytes = printed (s.lines + 1) o.refusal o.bytes }
+        ≡ record { session = o.session; refusal = final_number o.session.refusal; bytes = printed (s.lines + 1) o.refusal o.bytes }
     unfolding run_lines
-    run_line = rw (eq-eqb _ _ going, serve_next T s l going ok _ refl, append-nil) refl
+    run_line = rw (none_final _ going, serve_next T s l going ok _ refl, append-nil) refl
 
-    pub run_refused : (r : Refusal) → next_line s.lines l ≡ Refused r
+    pub run_refused : (r : Refusal) → next_line s.lines l ≡ Err r
         → run_lines T s (l ∷ [])
-        ≡ record { session = ended s r; refusal = refusal_number r; bytes = printed (s.lines + 1) (refusal_number r) [] }
+        ≡ record { session = ended s (Some r); refusal = refusal_number r; bytes = printed (s.lines + 1) (refusal_number r) [] }
     run_refused r e = run_line ∙ rw e refl
 
-    pub run_step : (station code job : ℕ) → next_line s.lines l ≡ Step station code job → let c = line_call T.board s.lines station code job in
+    pub run_step : (q : Line) → next_line s.lines l ≡ Ok q → let c = line_call T.board s.lines q in
         run_lines T s (l ∷ [])
         ≡ record {
           session = session (s.lines + 1) s.refusal (T.step s.table c).table;
-          refusal = refusal_number s.refusal;
+          refusal = final_number s.refusal;
           bytes = shown_of s.table c;
         }
-    run_step station code job e = run_line ∙ rw e refl
+    run_step q e = run_line ∙ rw e refl
 
   -- A WHOLE FILE
 
   module _ (bs : Lists.List ℕ) where
     -- a header that is refused ends it
-    pub file_refused : (r : Refusal) → header_read T.board (take 18 bs) ≡ Headers.Refused r
-        → file_run T bs ≡ record { session = session 0 r (T.fresh (2 * T.board.per_station)); refusal = refusal_number r; bytes = refusal_line 1 (refusal_number r) }
+    pub file_refused : (r : Refusal) → header_read T.board (take 18 bs) ≡ Err r
+        → file_run T bs ≡ record { session = session 0 (Some r) (T.fresh (2 * T.board.per_station)); refusal = refusal_number r; bytes = refusal_line 1 (refusal_number r) }
     unfolding file_run
     file_refused r e =
-        let d = header_refused T.board (take 18 bs) r e in
-        rw (e, final_run (session 0 r (T.fresh (2 * T.board.per_station))) (step_lines bs) d, ne_eqb _ _ d, append-nil) refl
+        let d = positive r in
+        rw (e, final_run (session 0 (Some r) (T.fresh (2 * T.board.per_station))) (step_lines bs) d, ne_eqb _ _ d, append-nil) refl
 
     -- an accepted one prints nothing, and the lines after it run from the fresh table of its count
-    pub file_served : (n : ℕ) → header_read T.board (take 18 bs) ≡ Stations n → file_run T bs ≡ run_lines T (session 1 Accepted (T.fresh n)) (step_lines bs)
+    pub file_served : (n : ℕ) → header_read T.board (take 18 bs) ≡ Ok n → file_run T bs ≡ run_lines T (session 1 None (T.fresh n)) (step_lines bs)
     unfolding file_run
     file_served n e = rw e refl
 

@@ -1,4 +1,5 @@
 -- The lines of a report that are of scans, found part by part.
+use Rattle.std.specs.Prelude.{Some}
 use Prim.Native.Nat.{ℕ, zero, suc, ◌+◌, ◌*◌, ◌/◌, ◌≤◌, ◌<◌}
 use native.Mathlib.Nat.{zero-add}
 use native.Mathlib.Omega.{arith}
@@ -11,7 +12,6 @@ use lib.Seq.{take_all, take-append-le, drop-append-le}
 use lib.Dec.{eqb}
 use Rattle.columns.specs.Columns.{column, line_head, line_tail, report_line}
 use Rattle.columns.specs.Reading.{column_read}
-use Rattle.columns.specs.declared.Column.TheVariants.{Value}
 use Rattle.columns.proofs.ColumnLaws.{length_report_line, column_iff}
 use Rattle.simulation.specs.Calls.{Entry, report_lines}
 use Rattle.schedule.specs.Scans.{of_scan, lines_of_scans, scan_lines}
@@ -65,7 +65,7 @@ module _ (line refusal place station job : ℕ) (small : refusal < 1000) where
   abbrev whole : Lists.List ℕ
   whole = report_line line refusal place station job
 
-  refusal_read : column_read (take 3 (drop 8 whole)) ≡ Value refusal
+  refusal_read : column_read (take 3 (drop 8 whole)) ≡ Some refusal
   unfolding report_line line_head line_tail
   refusal_read = (column_iff (column 3 refusal) refusal (omega arith)).1 (refl, small)
 

@@ -1,157 +1,136 @@
 -- What a session serves, case by case; the header and the session that it opens; sessions that go on.
+use Rattle.std.specs.Prelude.{Option, Some, None, Result, Ok, Err, is_some, IfOk}
 use Prim.Native.Nat.{ℕ, ◌≤◌}
 use native.Mathlib.Omega.{arith}
-use mathlib.Core.Path.{◌≡◌, refl, sym, ap, subst, ◌∙◌}
+use mathlib.Core.Path.{◌≡◌, refl, ap, subst}
 use mathlib.Core.Logic.{◌≢◌}
 use mathlib.Core.Bool.{Bool, true, false, not, ◌&&◌, cond, true≢false}
 use mathlib.Core.List as Lists
 use lib.ListN.{length, get_or, take, drop}
 use lib.Dec.{eqb, ltb}
-use borrow.Author.Tests.{eq-eqb, ne_eqb, eqb-true, ltb-false}
+use borrow.Author.Tests.{eqb-true, ltb-false}
 use Rattle.columns.specs.Reading.{column_read}
-use Rattle.columns.specs.declared.Column.{Column}
-use Rattle.columns.specs.declared.Column.TheVariants.{Value, Bad}
 use Rattle.simulation.specs.Calls.{Board, original, sized, Call, Buffer, Bytes, bytes_of}
 use Rattle.transition.specs.Forms.{Form}
 use Rattle.transition.proofs.Written.{Sized, sized_of}
 use Rattle.transition.proofs.Theorem.{Lawful, step_bytes, ReachedTable, table_fresh, table_passes, table_step}
-use Rattle.moves.specs.Moves.{refusal_number}
+use Rattle.moves.specs.Moves.{refusal_number, final_number}
+use Rattle.moves.proofs.MoveLaws.{some_final, none_final}
 use Rattle.moves.specs.declared.Refusal.{Refusal}
-use Rattle.moves.specs.declared.Refusal.TheVariants.{Accepted, StationCount, IncompleteLine, UnknownStep, JobOutOfRange, TooManyLines}
+use Rattle.moves.specs.declared.Refusal.TheVariants.{StationCount, IncompleteLine, UnknownStep, JobOutOfRange, TooManyLines}
 use Rattle.schedule.specs.Tables.{Tables, tables}
 use Rattle.schedule.specs.Lines.{step_read, line_read, next_line, header_said, header_read}
 use Rattle.schedule.specs.Sessions.{Session, session, is_final, Served, unmoved, ill_formed, opened_by, header_of, step_line, serve_of, Serves}
 use Rattle.schedule.specs.declared.Line.{Line}
-use Rattle.schedule.specs.declared.Line.TheVariants.{Step, Refused}
-use Rattle.schedule.specs.declared.Header.{Header}
-use Rattle.schedule.specs.declared.Header.TheVariants as Headers
-use Rattle.schedule.specs.declared.Header.TheVariants.{Stations}
 
 -- A LINE THAT IS REFUSED WHEN IT IS READ: by 8, 9 or 12, so what holds of these three holds of its number
 
 module _ (P : ℕ → Type 0) where
-  abbrev pub Says : Line → Type 0
-  Says (Refused r) = P (refusal_number r)
-  Says (Step s k j) = Unit {0}
+  abbrev pub Says : Result Line Refusal → Type 0
+  Says (Err r) = P (refusal_number r)
+  Says (Ok q) = Unit {0}
 
   module _ (eight : P 8) (nine : P 9) where
-    read_says : (x y z : Column) → Says (step_read x y z)
-    read_says Bad y z = nine
-    read_says (Value a) Bad z = nine
-    read_says (Value a) (Value b) Bad = nine
-    read_says (Value a) (Value b) (Value d) = tt
+    read_says : (x y z : Option ℕ) → Says (step_read x y z)
+    read_says None y z = nine
+    read_says (Some a) None z = nine
+    read_says (Some a) (Some b) None = nine
+    read_says (Some a) (Some b) (Some d) = tt
 
     line_says : (l : Lists.List ℕ) → Says (line_read l)
     unfolding line_read
     line_says l = go (eqb (length l) 18 && eqb (get_or l 17 0) 10)
       where
-        columns : Line
+        columns : Result Line Refusal
         columns = step_read (column_read (take 3 l)) (column_read (take 3 (drop 3 l))) (column_read (take 11 (drop 6 l)))
 
-        go : (b : Bool) → Says (cond b columns (Refused IncompleteLine))
+        go : (b : Bool) → Says (cond b columns (Err IncompleteLine))
         go true = read_says (column_read (take 3 l)) (column_read (take 3 (drop 3 l))) (column_read (take 11 (drop 6 l)))
         go false = eight
 
     pub next_says : P 12 → (lines : ℕ) (l : Lists.List ℕ) → Says (next_line lines l)
     next_says twelve lines l = go (ltb 1000000 lines)
       where
-        go : (b : Bool) → Says (cond b (Refused TooManyLines) (line_read l))
+        go : (b : Bool) → Says (cond b (Err TooManyLines) (line_read l))
         go true = twelve
         go false = line_says l
 
--- it has a number
-abbrev pub Numbered : Line → Type 0
-Numbered = Says (λ k. k ≢ 0)
-
-line_numbered : (l : Lists.List ℕ) → Numbered (line_read l)
-line_numbered = line_says (λ k. k ≢ 0) (omega arith) (omega arith)
-
 -- a step has 18 bytes
-step_length : (l : Lists.List ℕ) (station code job : ℕ) → line_read l ≡ Step station code job → length l ≡ 18
+step_length : (l : Lists.List ℕ) (q : Line) → line_read l ≡ Ok q → length l ≡ 18
 unfolding line_read
-step_length l station code job = go (eqb (length l) 18) refl
+step_length l q = go (eqb (length l) 18) refl
   where
-    columns : Line
+    columns : Result Line Refusal
     columns = step_read (column_read (take 3 l)) (column_read (take 3 (drop 3 l))) (column_read (take 11 (drop 6 l)))
 
-    go : (b : Bool) → eqb (length l) 18 ≡ b → cond (b && eqb (get_or l 17 0) 10) columns (Refused IncompleteLine) ≡ Step station code job → length l ≡ 18
+    go : (b : Bool) → eqb (length l) 18 ≡ b → cond (b && eqb (get_or l 17 0) 10) columns (Err IncompleteLine) ≡ Ok q → length l ≡ 18
     go true e h = eqb-true (length l) 18 e
-    go false e h = let z : ◌≡◌ {A = ℕ} 0 1 = cc in absurd (omega arith)
+    go false e h = cc
 
 module _ (lines : ℕ) (l : Lists.List ℕ) where
-  pub next_numbered : Numbered (next_line lines l)
-  next_numbered = next_says (λ k. k ≢ 0) (omega arith) (omega arith) (omega arith) lines l
-
-  pub next_refused : (r : Refusal) → next_line lines l ≡ Refused r → refusal_number r ≢ 0
-  next_refused r e = subst Numbered e next_numbered
-
   -- a line that is a step is whole, and none too many
-  pub next_length : (station code job : ℕ) → next_line lines l ≡ Step station code job → length l ≡ 18
-  next_length station code job = go (ltb 1000000 lines)
+  pub next_length : (q : Line) → next_line lines l ≡ Ok q → length l ≡ 18
+  next_length q = go (ltb 1000000 lines)
     where
-      go : (b : Bool) → cond b (Refused TooManyLines) (line_read l) ≡ Step station code job → length l ≡ 18
-      go true h = let z : ◌≡◌ {A = ℕ} 0 1 = cc in absurd (omega arith)
-      go false h = step_length l station code job h
+      go : (b : Bool) → cond b (Err TooManyLines) (line_read l) ≡ Ok q → length l ≡ 18
+      go true h = cc
+      go false h = step_length l q h
 
-  pub next_within : (station code job : ℕ) → next_line lines l ≡ Step station code job → lines ≤ 1000000
-  next_within station code job = go (ltb 1000000 lines) refl
+  pub next_within : (q : Line) → next_line lines l ≡ Ok q → lines ≤ 1000000
+  next_within q = go (ltb 1000000 lines) refl
     where
-      go : (b : Bool) → ltb 1000000 lines ≡ b → cond b (Refused TooManyLines) (line_read l) ≡ Step station code job → lines ≤ 1000000
-      go true e h = let z : ◌≡◌ {A = ℕ} 0 1 = cc in absurd (omega arith)
+      go : (b : Bool) → ltb 1000000 lines ≡ b → cond b (Err TooManyLines) (line_read l) ≡ Ok q → lines ≤ 1000000
+      go true e h = cc
       go false e h = ltb-false 1000000 lines e
 
 -- THE HEADER
 
--- a refused one has a number, an accepted one as many processes as the board can have
-abbrev Sound : Board → Header → Type 0
-Sound B (Headers.Refused r) = refusal_number r ≢ 0
-Sound B (Stations n) = sized B n ≡ true
+-- an accepted one has as many processes as the board can have
+abbrev Sound : Board → Result ℕ Refusal → Type 0
+Sound B h = IfOk h (λ n. sized B n ≡ true)
 
-said_sound : (B : Board) (w : Line) → Numbered w → Sound B (header_said B w)
-said_sound B (Refused r) d = d
-said_sound B (Step k code job) d = go (eqb code 0) (sized B k) refl (eqb job 0)
+said_sound : (B : Board) (w : Result Line Refusal) → Sound B (header_said B w)
+said_sound B (Err r) = tt
+said_sound B (Ok q) = go (eqb q.code 0) (sized B q.station) refl (eqb q.job 0)
   where
-    go : (a b : Bool) → sized B k ≡ b → (z : Bool) → Sound B
-        (cond (not a) (Headers.Refused UnknownStep)
-        (cond (not b) (Headers.Refused StationCount)
-        (cond (not z) (Headers.Refused JobOutOfRange)
-        (Stations k))))
-    go false b q z = omega arith
-    go true false q z = omega arith
-    go true true q false = omega arith
-    go true true q true = q
+    go : (a b : Bool) → sized B q.station ≡ b → (z : Bool) → Sound B
+        (cond (not a) (Err UnknownStep)
+        (cond (not b) (Err StationCount)
+        (cond (not z) (Err JobOutOfRange)
+        (Ok q.station))))
+    go false b e z = tt
+    go true false e z = tt
+    go true true e false = tt
+    go true true e true = e
 
 module _ (B : Board) (l : Lists.List ℕ) where
   header_sound : Sound B (header_read B l)
   unfolding header_read
-  header_sound = said_sound B (line_read l) (line_numbered l)
+  header_sound = said_sound B (line_read l)
 
-  pub header_refused : (r : Refusal) → header_read B l ≡ Headers.Refused r → refusal_number r ≢ 0
-  header_refused r e = subst (Sound B) e header_sound
-
-  pub header_stations : 1 ≤ B.per_station → (n : ℕ) → header_read B l ≡ Stations n → Sized B n
+  pub header_stations : 1 ≤ B.per_station → (n : ℕ) → header_read B l ≡ Ok n → Sized B n
   header_stations some n e = sized_of some (subst (Sound B) e header_sound)
 
   -- and it is a whole line
-  pub header_length : (n : ℕ) → header_read B l ≡ Stations n → length l ≡ 18
+  pub header_length : (n : ℕ) → header_read B l ≡ Ok n → length l ≡ 18
   unfolding header_read
   header_length n = go (line_read l) refl
     where
-      go : (w : Line) → line_read l ≡ w → header_said B w ≡ Stations n → length l ≡ 18
-      go (Refused r) e h = let z : ◌≡◌ {A = ℕ} 0 1 = cc in absurd (omega arith)
-      go (Step st k j) e h = step_length l st k j e
+      go : (w : Result Line Refusal) → line_read l ≡ w → header_said B w ≡ Ok n → length l ≡ 18
+      go (Err r) e h = cc
+      go (Ok q) e h = step_length l q e
 
 -- on the original board, 2 to 32
-pub original_stations : (l : Lists.List ℕ) (n : ℕ) → header_read original l ≡ Stations n → (2 ≤ n) × (n ≤ 32)
+pub original_stations : (l : Lists.List ℕ) (n : ℕ) → header_read original l ≡ Ok n → (2 ≤ n) × (n ≤ 32)
 original_stations l n e = let z = header_stations original l (omega arith) n e in (z.low, z.high)
 
 -- a session that goes on behind its header has an accepted one
-pub header_accepted : (T : Tables) (l : Lists.List ℕ) → is_final (header_of T l) ≡ false → (n : ℕ) × (header_read T.board l ≡ Stations n)
-header_accepted T l = go (header_read T.board l) (header_sound T.board l)
+pub header_accepted : (T : Tables) (l : Lists.List ℕ) → is_final (header_of T l) ≡ false → (n : ℕ) × (header_read T.board l ≡ Ok n)
+header_accepted T l = go (header_read T.board l)
   where
-    go : (h : Header) → Sound T.board h → is_final (opened_by T h) ≡ false → (n : ℕ) × (h ≡ Stations n)
-    go (Headers.Refused r) d e = absurd (true≢false (sym (rw (ne_eqb (refusal_number r) 0 d) refl) ∙ e))
-    go (Stations n) d e = (n, refl)
+    go : (h : Result ℕ Refusal) → is_final (opened_by T h) ≡ false → (n : ℕ) × (h ≡ Ok n)
+    go (Err r) e = absurd (true≢false e)
+    go (Ok n) e = (n, refl)
 
 -- WHAT A SESSION SERVES
 
@@ -161,18 +140,18 @@ pub serves_as : {T : Type 0} {o o' : Served T} {s : Session T} {refusal written 
 serves_as e h = rw e h
 
 module _ (T : Tables) (s : Session T.Table) (line : Lists.List ℕ) where
-  pub serve_final : refusal_number s.refusal ≢ 0 → serve_of T s line ≡ unmoved s
+  pub serve_final : final_number s.refusal ≢ 0 → serve_of T s line ≡ unmoved s
   unfolding serve_of
-  serve_final f = simp (ne_eqb _ _ f)
+  serve_final f = simp (some_final _ f)
 
-  module _ (none : refusal_number s.refusal ≡ 0) where
+  module _ (none : final_number s.refusal ≡ 0) where
     pub serve_ill_formed : T.well_formed s.table ≡ false → serve_of T s line ≡ ill_formed s
     unfolding serve_of
-    serve_ill_formed w = simp (eq-eqb _ _ none, w)
+    serve_ill_formed w = simp (none_final _ none, w)
 
-    pub serve_next : T.well_formed s.table ≡ true → (l : Line) → next_line s.lines line ≡ l → serve_of T s line ≡ step_line T s l
+    pub serve_next : T.well_formed s.table ≡ true → (l : Result Line Refusal) → next_line s.lines line ≡ l → serve_of T s line ≡ step_line T s l
     unfolding serve_of
-    serve_next w l e = simp (eq-eqb _ _ none, w, e)
+    serve_next w l e = simp (none_final _ none, w, e)
 
 -- A SESSION THAT GOES ON, on tables that calls lead to from the fresh one of n processes
 
@@ -195,19 +174,19 @@ lead F L n z = record {
 }
 
 pub record Live {T : Tables} {n : ℕ} (K : Lead T n) (s : Session T.Table) : Type 0 where
-  pub going : s.refusal ≡ Accepted
+  pub going : s.refusal ≡ None
   pub led : K.Led s.table
 
 module _ {T : Tables} {n : ℕ} (K : Lead T n) where
-  pub fresh_live : (lines : ℕ) → Live K (session lines Accepted (T.fresh n))
+  pub fresh_live : (lines : ℕ) → Live K (session lines None (T.fresh n))
   fresh_live lines = record { going = refl; led = K.first }
 
   module _ (s : Session T.Table) (v : Live K s) where
     pub live_final : is_final s ≡ false
-    live_final = ap (λ (r : Refusal). not (eqb (refusal_number r) 0)) v.going
+    live_final = ap is_some v.going
 
     pub live_serve : (l : Lists.List ℕ) → serve_of T s l ≡ step_line T s (next_line s.lines l)
-    live_serve l = serve_next T s l (ap refusal_number v.going) (K.passes s.table v.led) (next_line s.lines l) refl
+    live_serve l = serve_next T s l (ap final_number v.going) (K.passes s.table v.led) (next_line s.lines l) refl
 
     -- a step keeps the session live
     pub next_live : (c : Call) (lines : ℕ) → Live K (session lines s.refusal (T.step s.table c).table)

@@ -1,4 +1,5 @@
 -- Reading sessions: on any tables the step lines are calls, one after the other; so demand 3 holds of sessions on tables of every lawful form.
+use Rattle.std.specs.Prelude.{Option, Some, None, Result, Ok, Err}
 use Prim.Native.Nat.{ℕ, ◌+◌}
 use native.Mathlib.Omega.{arith}
 use mathlib.Core.Path.{◌≡◌, refl, sym, ap, ap₂, subst, ◌∙◌}
@@ -16,19 +17,17 @@ use Rattle.transition.specs.Demand.{run_table, seen_in, unbounded, Demand3}
 use Rattle.transition.proofs.Written.{Sized}
 use Rattle.transition.proofs.Theorem.{Lawful, table_fresh, demand}
 use Rattle.transition.proofs.Sequences.{bytes_read, bytes_counted, rest_kept, same_counts}
-use Rattle.moves.specs.Moves.{refusal_number}
+use Rattle.moves.specs.Moves.{final_number}
+use Rattle.moves.proofs.MoveLaws.{positive}
 use Rattle.moves.specs.declared.Refusal.{Refusal}
-use Rattle.moves.specs.declared.Refusal.TheVariants.{Accepted}
 use Rattle.schedule.specs.Tables.{Tables, tables}
 use Rattle.schedule.specs.Lines.{next_line, header_read, line_room, line_call}
 use Rattle.schedule.specs.Sessions.{Session, session, Served, unmoved, ended, opened_by, header_of, step_line, serve_of, Serves}
 use Rattle.schedule.specs.Demand.{call_then, step_calls, end_then, ending, ServedLine, ServedBy}
 use Rattle.schedule.specs.Demand.{session_calls, session_ending, steps, later, replied, left, Stays, SessionDemand}
-use Rattle.schedule.proofs.SessionLaws.{Says, next_says, serves_as, serve_final, Numbered, next_numbered, header_stations, Lead, lead, Live, fresh_live, live_serve, next_live}
+use Rattle.schedule.proofs.SessionLaws.{Says, next_says, serves_as, serve_final, header_stations, Lead, lead, Live, fresh_live, live_serve, next_live}
 use Rattle.schedule.proofs.FileTheorem.{never_short, lines_roomy}
 use Rattle.schedule.specs.declared.Line.{Line}
-use Rattle.schedule.specs.declared.Line.TheVariants.{Step, Refused}
-use Rattle.schedule.specs.declared.Header.TheVariants.{Stations}
 
 module _ (T : Tables) where
   -- what came back for the line x is the outcome o
@@ -46,7 +45,7 @@ module _ (T : Tables) where
   standing_stays z x s = record { session = s.session; number = s.number; count = s.count; report = s.report }
 
   -- every call on a session that has one, be it of the header or of a line, meets it
-  pub final_stays : (z : Session T.Table) → refusal_number z.refusal ≢ 0 → (xs : Lists.List (ServedLine T.Table)) → ServedBy T z xs → All (Stays z) xs
+  pub final_stays : (z : Session T.Table) → final_number z.refusal ≢ 0 → (xs : Lists.List (ServedLine T.Table)) → ServedBy T z xs → All (Stays z) xs
   final_stays z f [] q = tt
   final_stays z f (x ∷ xs) q =
       let s : Gave x (unmoved z) = serves_as (sym (serve_final T z x.line f)) q.0 in
@@ -61,7 +60,7 @@ module _ (T : Tables) where
 
 -- THE STEP LINES are the calls, and behind them every call meets the final refusal r
 
-pub record Reads (T : Tables) (s : Session T.Table) (xs : Lists.List (ServedLine T.Table)) (calls : Lists.List Call) (r : Refusal) : Type 0 where
+pub record Reads (T : Tables) (s : Session T.Table) (xs : Lists.List (ServedLine T.Table)) (calls : Lists.List Call) (r : Option Refusal) : Type 0 where
   pub answers : map replied (take (length calls) xs) ≡ run_table T.step s.table calls
   pub counts : map (λ x. x.written) (take (length calls) xs) ≡ map (λ x. size (replied x).report) (take (length calls) xs)
   pub final : All (Stays (ended (left s (take (length calls) xs)) r)) (drop (length calls) xs)
@@ -74,7 +73,7 @@ module _ {T : Tables} {n : ℕ} (K : Lead T n) where
   pub reads : (xs : Lists.List (ServedLine T.Table)) (s : Session T.Table) → Live K s → ServedBy T s xs → ReadsOn s xs
   unfolding step_calls ending run_table
   reads [] s v q = record { answers = refl; counts = refl; final = tt }
-  reads (x ∷ xs) s v q = go (next_line s.lines x.line) (next_numbered s.lines x.line) here (reads xs)
+  reads (x ∷ xs) s v q = go (next_line s.lines x.line) here (reads xs)
     where
       here : Gave T x (step_line T s (next_line s.lines x.line))
       here = serves_as (sym (live_serve K s v x.line)) q.0
@@ -82,18 +81,18 @@ module _ {T : Tables} {n : ℕ} (K : Lead T n) where
       calls : Lists.List Call
       calls = step_calls T.board (s.lines + 1) (map (λ x. x.line) xs)
 
-      end : Refusal
+      end : Option Refusal
       end = ending (s.lines + 1) (map (λ x. x.line) xs)
 
-      go : (w : Line) → Numbered w → Gave T x (step_line T s w) → ((s' : Session T.Table) → Live K s' → ServedBy T s' xs → ReadsOn s' xs)
+      go : (w : Result Line Refusal) → Gave T x (step_line T s w) → ((s' : Session T.Table) → Live K s' → ServedBy T s' xs → ReadsOn s' xs)
           → Reads T s (x ∷ xs) (call_then T.board s.lines w calls) (end_then w end)
-      go (Refused r) d y ih = record {
+      go (Err r) y ih = record {
         answers = refl;
         counts = refl;
-        final = (standing_stays T (ended s r) x y, final_stays T (ended s r) d xs (go_on T x xs y q.1));
+        final = (standing_stays T (ended s (Some r)) x y, final_stays T (ended s (Some r)) (positive r) xs (go_on T x xs y q.1));
       }
-      go (Step st k j) d y ih =
-          let c = line_call T.board s.lines st k j in
+      go (Ok w) y ih =
+          let c = line_call T.board s.lines w in
           let a = T.step s.table c in
           let i = ih (session (s.lines + 1) s.refusal a.table) (next_live K s v c (s.lines + 1)) (go_on T x xs y q.1) in
           let read = ap Bytes (bytes_read (bytes_of a.report) x.buffer y.count y.report) ∙ sym (K.bytes s.table c (line_room T.board) refl) in
@@ -111,18 +110,18 @@ all_mapped Q f [] h = tt
 all_mapped Q f (x ∷ l) h = (h.0, all_mapped Q f l h.1)
 
 -- no final refusal of a line is 7
-ending_long : (lines : ℕ) (ls : Lists.List (Lists.List ℕ)) → refusal_number (ending lines ls) ≢ 7
+ending_long : (lines : ℕ) (ls : Lists.List (Lists.List ℕ)) → final_number (ending lines ls) ≢ 7
 unfolding ending
 ending_long lines [] = omega arith
 ending_long lines (l ∷ ls) = go (next_line lines l) (next_says (λ k. k ≢ 7) (omega arith) (omega arith) (omega arith) lines l) (ending_long (lines + 1) ls)
   where
-    go : (w : Line) → Says (λ k. k ≢ 7) w → refusal_number (ending (lines + 1) ls) ≢ 7 → refusal_number (end_then w (ending (lines + 1) ls)) ≢ 7
-    go (Refused r) h ih = h
-    go (Step st k j) h ih = ih
+    go : (w : Result Line Refusal) → Says (λ k. k ≢ 7) w → final_number (ending (lines + 1) ls) ≢ 7 → final_number (end_then w (ending (lines + 1) ls)) ≢ 7
+    go (Err r) h ih = h
+    go (Ok q) h ih = ih
 
 module _ (F : Form) (L : Lawful F) where
   -- DEMAND 3 OF A SESSION whose header is accepted
-  pub session_demand : (header : Lists.List ℕ) (n : ℕ) → header_read F.board header ≡ Stations n → (xs : Lists.List (ServedLine F.Table))
+  pub session_demand : (header : Lists.List ℕ) (n : ℕ) → header_read F.board header ≡ Ok n → (xs : Lists.List (ServedLine F.Table))
       → ServedBy (tables F) (header_of (tables F) header) xs → SessionDemand F n xs
   session_demand header n e xs q = record {
     demand = d;
@@ -141,7 +140,7 @@ module _ (F : Form) (L : Lawful F) where
       d = demand F L n z (session_calls F.board xs)
 
       start : Session F.Table
-      start = session 1 Accepted (fresh_table F n)
+      start = session 1 None (fresh_table F n)
 
       r : Reads (tables F) start xs (session_calls F.board xs) (session_ending xs)
       r = reads (lead F L n z) xs start (fresh_live (lead F L n z) 1) (subst (λ h. ServedBy (tables F) (opened_by (tables F) h) xs) e q)

@@ -1,6 +1,6 @@
 -- Demand 3 of reading sessions and of schedule files, stated for tables of any form of any board (01, "What demand 3 compares", "When a step is turned
 -- down"): the step lines before any final refusal are a sequence of step calls.
-use Rattle.std.specs.Prelude.{ℕ, ◌+◌, ◌≡◌, ◌≢◌, [], ◌∷◌, ◌++◌, map, length, take, drop}
+use Rattle.std.specs.Prelude.{ℕ, ◌+◌, ◌≡◌, ◌≢◌, [], ◌∷◌, ◌++◌, map, length, take, drop, Option, Some, None, Result, Ok, Err}
 use mathlib.Core.List as Lists
 use Rattle.basics.specs.Tests.{All}
 use Rattle.simulation.specs.Calls.{Board, Call, Bytes, bytes_of, size}
@@ -8,34 +8,32 @@ use Rattle.simulation.specs.Machine as Machine
 use Rattle.simulation.specs.Machine.{Seen}
 use Rattle.transition.specs.Forms.{Form, TableAnswer, over, fresh_table, step_of}
 use Rattle.transition.specs.Demand.{run_table, seen_in, unbounded, Demand3}
-use Rattle.moves.specs.Moves.{refusal_number}
+use Rattle.moves.specs.Moves.{final_number}
 use Rattle.moves.specs.declared.Refusal.{Refusal}
-use Rattle.moves.specs.declared.Refusal.TheVariants.{Accepted}
 use Rattle.schedule.specs.Tables.{Tables, tables}
 use Rattle.schedule.specs.Lines.{next_line, line_call}
 use Rattle.schedule.specs.Sessions.{Session, session, ended, serve_of, Serves}
 use Rattle.schedule.specs.Files.{step_lines, printed, file_report}
 use Rattle.schedule.specs.declared.Line.{Line}
-use Rattle.schedule.specs.declared.Line.TheVariants.{Step, Refused}
 
 -- THE STEP LINES
 
 -- the lines that follow `lines` others, up to a final refusal, as step calls on a board, with their line numbers
-abbrev pub call_then : Board → ℕ → Line → Lists.List Call → Lists.List Call
-call_then B lines (Refused r) rest = []
-call_then B lines (Step station code job) rest = line_call B lines station code job ∷ rest
+abbrev pub call_then : Board → ℕ → Result Line Refusal → Lists.List Call → Lists.List Call
+call_then B lines (Err r) rest = []
+call_then B lines (Ok l) rest = line_call B lines l ∷ rest
 
 unfoldable pub step_calls : Board → ℕ → Lists.List (Lists.List ℕ) → Lists.List Call
 step_calls B lines [] = []
 step_calls B lines (l ∷ ls) = call_then B lines (next_line lines l) (step_calls B (lines + 1) ls)
 
--- the final refusal, or Accepted
-abbrev pub end_then : Line → Refusal → Refusal
-end_then (Refused r) rest = r
-end_then (Step station code job) rest = rest
+-- the final refusal, if there is one
+abbrev pub end_then : Result Line Refusal → Option Refusal → Option Refusal
+end_then (Err r) rest = Some r
+end_then (Ok l) rest = rest
 
-unfoldable pub ending : ℕ → Lists.List (Lists.List ℕ) → Refusal
-ending lines [] = Accepted
+unfoldable pub ending : ℕ → Lists.List (Lists.List ℕ) → Option Refusal
+ending lines [] = None
 ending lines (l ∷ ls) = end_then (next_line lines l) (ending (lines + 1) ls)
 
 -- SESSIONS: every sequence of calls that serve lines, from the session that a header opened. From a final refusal on nothing changes.
@@ -60,7 +58,7 @@ module _ {T : Type 0} where
   abbrev pub session_calls : Board → Lists.List (ServedLine T) → Lists.List Call
   session_calls B xs = step_calls B 1 (map (λ x. x.line) xs)
 
-  abbrev pub session_ending : Lists.List (ServedLine T) → Refusal
+  abbrev pub session_ending : Lists.List (ServedLine T) → Option Refusal
   session_ending xs = ending 1 (map (λ x. x.line) xs)
 
   -- those that are step calls, and those from the final refusal on
@@ -82,7 +80,7 @@ module _ {T : Type 0} where
 -- a call that meets the final refusal of the session z: its number, no bytes, and z and the buffer as they were
 pub record Stays {T : Type 0} (z : Session T) (x : ServedLine T) : Type 0 where
   pub session : x.session ≡ z
-  pub number : x.refusal ≡ refusal_number z.refusal
+  pub number : x.refusal ≡ final_number z.refusal
   pub count : x.written ≡ 0
   pub report : x.buffer' ≡ x.buffer
 
@@ -97,7 +95,7 @@ pub record SessionDemand (F : Form) (n : ℕ) (xs : Lists.List (ServedLine F.Tab
       ≡ map (λ a. size a.report) (unbounded F.board n demand.advances (session_calls F.board xs))
   pub kept : All (λ x. x.buffer' ≡ over (take x.written x.buffer') x.buffer) xs
   pub never7 : All (λ x. x.refusal ≢ 7) xs
-  pub final : All (Stays (ended (left (session 1 Accepted (fresh_table F n)) (steps F.board xs)) (session_ending xs))) (later F.board xs)
+  pub final : All (Stays (ended (left (session 1 None (fresh_table F n)) (steps F.board xs)) (session_ending xs))) (later F.board xs)
 
 -- FILES: the report is what the unbounded table prints for the step lines, and then the line of the final refusal, if there is one
 
@@ -112,7 +110,7 @@ printed_calls (c ∷ cs) (s ∷ ss) = printed c.line s.refusal (bytes_of s.repor
 
 -- what the final refusal prints, with the number of the line behind `lines` others and the step lines
 abbrev pub end_printed : Board → ℕ → Lists.List (Lists.List ℕ) → Lists.List ℕ
-end_printed B lines ls = printed (lines + length (step_calls B lines ls) + 1) (refusal_number (ending lines ls)) []
+end_printed B lines ls = printed (lines + length (step_calls B lines ls) + 1) (final_number (ending lines ls)) []
 
 -- for a file with an accepted header of n processes; no line of it is refused by 7 (01, "The schedule file and the report")
 pub record FileDemand (F : Form) (bs : Lists.List ℕ) (n : ℕ) : Type 0 where

@@ -2,7 +2,7 @@
 use Rattle.std.specs.Prelude.{ℕ, zero, suc, ◌+◌, ◌/◌, cond, [], ◌∷◌, ◌++◌, length, take, drop, eqb}
 use mathlib.Core.List as Lists
 use Rattle.columns.specs.Columns.{report_line}
-use Rattle.moves.specs.Moves.{refusal_number}
+use Rattle.moves.specs.Moves.{final_number}
 use Rattle.schedule.specs.Tables.{Tables}
 use Rattle.schedule.specs.Sessions.{Session, is_final, Served, unmoved, header_of, serve_of}
 
@@ -30,7 +30,7 @@ printed number refusal bytes = cond (eqb refusal 0) bytes (refusal_line number r
 
 -- the header prints nothing if it is accepted
 abbrev pub header_printed : {T : Type 0} → Session T → Lists.List ℕ
-header_printed s = printed 1 (refusal_number s.refusal) []
+header_printed s = printed 1 (final_number s.refusal) []
 
 -- an outcome with these bytes printed before it
 abbrev pub behind : {T : Type 0} → Lists.List ℕ → Served T → Served T

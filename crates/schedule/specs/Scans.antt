@@ -1,14 +1,12 @@
 -- The lines of a report that are of scans; all others tell of a refusal (01, "The schedule file and the report"; 02, Cards 1 and 7).
-use Rattle.std.specs.Prelude.{ℕ, zero, suc, ◌/◌, Bool, false, cond, [], ◌++◌, length, take, drop, eqb}
+use Rattle.std.specs.Prelude.{ℕ, zero, suc, ◌/◌, Bool, false, cond, [], ◌++◌, length, take, drop, eqb, Option, Some, None}
 use mathlib.Core.List as Lists
 use Rattle.columns.specs.Reading.{column_read}
-use Rattle.columns.specs.declared.Column.{Column}
-use Rattle.columns.specs.declared.Column.TheVariants.{Value, Bad}
 
 -- of the lines of 29 bytes, those whose refusal column reads as 0. The column has 3 bytes, behind 8 of the line number.
-abbrev pub is_zero : Column → Bool
-is_zero Bad = false
-is_zero (Value v) = eqb v 0
+abbrev pub is_zero : Option ℕ → Bool
+is_zero None = false
+is_zero (Some v) = eqb v 0
 
 unfoldable pub of_scan : Lists.List ℕ → Bool
 of_scan line = is_zero (column_read (take 3 (drop 8 line)))

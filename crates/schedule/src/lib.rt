@@ -1,93 +1,68 @@
 // The lines of a schedule file: the header, and the step lines after it. Nothing here runs a step.
 #![tactic(auto)]
 
-ghost use Rattle.std.specs.Prelude.{◌≡◌, cond, ◌+◌, ◌≤◌, length, take, drop, eqb};
-ghost use Rattle.moves.specs.declared.Refusal.TheVariants.{Accepted};
+ghost use Rattle.std.specs.Prelude.{◌≡◌, ◌≤◌, length, take, drop};
 ghost use Rattle.simulation.specs.Calls.{original};
 ghost use Rattle.schedule.specs.Lines.{line_read, next_line, next_call, header_read};
 ghost use Rattle.schedule.specs.Numbers.{surveyed, Surveys};
 
-use columns::{Column, read_column, read_three};
+use columns::{read_column, read_three};
 use moves::{Refusal, Request};
 
-// What a line of the file says: a step call, or the refusal that ends the reading.
-#[derive(Clone, Copy)]
-pub enum Line {
-    Step { station: u64, code: u64, job: u64 },
-    Refused(Refusal),
-}
-
-// What stands at a place of a file: a step call, the end, or the refusal that ends the reading.
-#[derive(Clone, Copy)]
-pub enum Next {
-    Call(Request),
-    End,
-    Refused(Refusal),
-}
-
-// What the first line says: the number of stations, or the refusal that ends the reading.
-#[derive(Clone, Copy)]
-pub enum Header {
-    Stations(usize),
-    Refused(Refusal),
+// What a step line says. The header is written like one.
+#[derive(Clone, Copy, PartialEq, Eq)]
+pub struct Line {
+    pub station: u64,
+    pub code: u64,
+    pub job: u64,
 }
 
 // Reads a line: its columns from left to right, and the first malformed one ends the reading.
 #[tactic(auto, using(columns::proofs::Scans::three_from), unfolding(crate::specs::Lines::line_read))]
-pub fn read_line(s: &[u8]) -> Line
+pub fn read_line(s: &[u8]) -> Result<Line, Refusal>
     ensures { result ≡ line_read s.now }
 {
-    if s.len() != 18 {
-        return Line::Refused(Refusal::IncompleteLine);
+    if s.len() != 18 || s[17] != 10 {
+        return Err(Refusal::IncompleteLine);
     }
-    if s[17] != 10 {
-        return Line::Refused(Refusal::IncompleteLine);
-    }
-    let Column::Value(station) = read_three(s[0], s[1], s[2]) else {
-        return Line::Refused(Refusal::MalformedColumn);
+    let Some(station) = read_three(s[0], s[1], s[2]) else {
+        return Err(Refusal::MalformedColumn);
     };
-    let Column::Value(code) = read_three(s[3], s[4], s[5]) else {
-        return Line::Refused(Refusal::MalformedColumn);
+    let Some(code) = read_three(s[3], s[4], s[5]) else {
+        return Err(Refusal::MalformedColumn);
     };
-    let Column::Value(job) = read_column(&s[6..17]) else {
-        return Line::Refused(Refusal::MalformedColumn);
+    let Some(job) = read_column(&s[6..17]) else {
+        return Err(Refusal::MalformedColumn);
     };
-    Line::Step { station, code, job }
+    Ok(Line { station, code, job })
 }
 
 // What a line says after so many counted ones, the header among them: past 1,000,000 step lines it is one too many, whatever it says.
-pub fn next_line(lines: u32, line: &[u8]) -> Line
+pub fn next_line(lines: u32, line: &[u8]) -> Result<Line, Refusal>
     ensures { result ≡ next_line lines line.now }
 {
     if 1000000 < lines {
-        return Line::Refused(Refusal::TooManyLines);
+        return Err(Refusal::TooManyLines);
     }
     read_line(line)
 }
 
 // Reads the header: the number of stations, code 0 and job 0.
 #[tactic(auto, unfolding(crate::specs::Lines::header_read))]
-pub fn read_header(line: &[u8]) -> Header
+pub fn read_header(line: &[u8]) -> Result<usize, Refusal>
     ensures { result ≡ header_read original line.now }
 {
-    match read_line(line) {
-        Line::Refused(r) => Header::Refused(r),
-        Line::Step { station, code, job } => {
-            if code != 0 {
-                return Header::Refused(Refusal::UnknownStep);
-            }
-            if station < 2 {
-                return Header::Refused(Refusal::StationCount);
-            }
-            if 32 < station {
-                return Header::Refused(Refusal::StationCount);
-            }
-            if job != 0 {
-                return Header::Refused(Refusal::JobOutOfRange);
-            }
-            Header::Stations(station as usize)
-        }
+    let Line { station, code, job } = read_line(line)?;
+    if code != 0 {
+        return Err(Refusal::UnknownStep);
     }
+    if station < 2 || 32 < station {
+        return Err(Refusal::StationCount);
+    }
+    if job != 0 {
+        return Err(Refusal::JobOutOfRange);
+    }
+    Ok(station as usize)
 }
 
 // The line that starts at a place: 18 bytes, or what is left.
@@ -95,30 +70,26 @@ pub fn line_at(chunk: &[u8], at: usize) -> &[u8]
     requires { at ≤ length chunk.now }
     ensures { result.now ≡ take 18 (drop at chunk.now) }
 {
-    if 18 <= chunk.len() - at {
-        &chunk[at..at + 18]
-    } else {
-        &chunk[at..]
-    }
+    &chunk[at..at + (chunk.len() - at).min(18)]
 }
 
-// What stands at a place of a part of a file, behind `lines` lines. A call takes up 18 bytes.
-pub fn next_call(lines: u32, chunk: &[u8], at: usize) -> Next
+// What stands at a place of a part of a file, behind `lines` lines: a step call, none at the end, or the refusal that ends the reading. A call takes up 18
+// bytes.
+#[tactic(auto, using(crate::proofs::Places::told_end, crate::proofs::Places::told_line), unfolding(crate::specs::Lines::next_call))]
+pub fn next_call(lines: u32, chunk: &[u8], at: usize) -> Result<Option<Request>, Refusal>
     requires { at ≤ length chunk.now }
     ensures { result ≡ next_call lines (drop at chunk.now) }
 {
     if at == chunk.len() {
-        return Next::End;
+        return Ok(None);
     }
-    match next_line(lines, line_at(chunk, at)) {
-        Line::Refused(refusal) => Next::Refused(refusal),
-        Line::Step { station, code, job } => Next::Call(Request {
-            code,
-            station,
-            job,
-            line: lines as u64 + 1,
-        }),
-    }
+    let Line { station, code, job } = next_line(lines, line_at(chunk, at))?;
+    Ok(Some(Request {
+        code,
+        station,
+        job,
+        line: u64::from(lines) + 1,
+    }))
 }
 
 // What stands from a place on.
@@ -133,20 +104,9 @@ pub fn from(file: &[u8], at: usize) -> &[u8]
 // many of these are of step 3.
 #[derive(Clone, Copy)]
 pub struct Survey {
-    pub refusal: Refusal,
+    pub refusal: Option<Refusal>,
     pub steps: u32,
     pub snaps: u32,
-}
-
-// One line more: the count of those of step 3.
-fn count_snap(snaps: u32, code: u64) -> u32
-    requires { snaps ≤ 1000001 }
-    ensures { result ≡ snaps + cond (eqb code 3) 1 0 }
-{
-    if code == 3 {
-        return snaps + 1;
-    }
-    snaps
 }
 
 // Reads the lines of a part of a file behind `lines` others, and runs none of them.
@@ -156,41 +116,30 @@ pub fn survey_lines(lines: u32, chunk: &[u8]) -> Survey
     let mut steps: u32 = 0;
     let mut snaps: u32 = 0;
     let mut at = 0;
-    loop {
+    let refusal = loop {
         match next_call(lines + steps, chunk, at) {
-            Next::End => {
-                return Survey {
-                    refusal: Refusal::Accepted,
-                    steps,
-                    snaps,
-                };
-            }
-            Next::Refused(refusal) => {
-                return Survey {
-                    refusal,
-                    steps,
-                    snaps,
-                };
-            }
-            Next::Call(request) => {
-                snaps = count_snap(snaps, request.code);
+            Ok(None) => break None,
+            Err(refusal) => break Some(refusal),
+            Ok(Some(request)) => {
+                snaps += u32::from(request.code == 3);
                 steps += 1;
                 at += 18;
             }
         }
+    };
+    Survey {
+        refusal,
+        steps,
+        snaps,
     }
 }
 
 // The refusal of a file whose lines after the header come to this: their final one, or 16 for more than 4,096 steps.
-pub fn refusal_of(s: Survey) -> Refusal
-    ensures { result ≡ surveyed s.refusal s.steps Accepted }
+pub fn refusal_of(s: Survey) -> Option<Refusal>
+    ensures { result ≡ surveyed s.refusal s.steps None }
 {
-    let refusal = s.refusal;
-    if refusal.refuses() {
-        return refusal;
+    if s.refusal.is_none() && 4096 < s.steps {
+        return Some(Refusal::TooManySteps);
     }
-    if 4096 < s.steps {
-        return Refusal::TooManySteps;
-    }
-    Refusal::Accepted
+    s.refusal
 }

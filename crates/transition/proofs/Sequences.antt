@@ -35,7 +35,7 @@ report_read line (Bytes b) l w r = ap₂ first_of w r ∙ ap Bytes (take_at (rep
 report_read line (Records b) l w r = ap₂ first_of w r ∙ ap Records (take_at (panel_records 1 l) _ _ refl)
 
 -- a report of no entries has no size, and leaves what was lent
-none_written : (line : ℕ) (room : Room) (lent : Report) → let r = written line room [] in (size r ≡ 0) × (onto r lent ≡ lent)
+pub none_written : (line : ℕ) (room : Room) (lent : Report) → let r = written line room [] in (size r ≡ 0) × (onto r lent ≡ lent)
 unfolding report_lines panel_records
 none_written line (Buffer b) (Bytes l) = (refl, refl)
 none_written line (Buffer b) (Records l) = (refl, refl)

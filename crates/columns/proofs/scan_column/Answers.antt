@@ -14,15 +14,15 @@ loop-i-init c = (omega arith, omega arith, scan_reads _)
 pub with_front-requires : goal.with_front-requires
 with_front-requires c = pow_below _ _ 18 c.loop-i.invariant.1 (omega arith)
 
-pub returns-in_default : goal.returns-in_default
-returns-in_default c =
+pub returns-in_err-v : goal.returns-in_err-v
+returns-in_err-v c =
     let l = c.loop-i in
-    sym (l.invariant.2 ∙ scan_stop _ l.i l.v (omega arith) (sym c.in_default.ensures))
+    c.from_residual.ensures ∙ sym (l.invariant.2 ∙ scan_stop _ l.i l.v (omega arith) (sym c.in_err-v.ensures))
 
 pub loop-i-preserved : goal.loop-i-preserved
 loop-i-preserved c =
     let l = c.loop-i in
-    let taken = sym c.in-Value.ensures in
+    let taken = sym c.in_ok-v.ensures in
     (omega arith, front_grows l.i l.v _ _ l.invariant.1 taken, l.invariant.2 ∙ scan_more _ l.i l.v _ (omega arith) taken)
 
 pub with_digit-requires : goal.with_digit-requires

@@ -1,13 +1,18 @@
-use Rattle.engine.proofs.Carried.{labels_prepared, rest_prepared, carries}
+use Rattle.std.proofs.lemmas.Result.{err_from_is_err_and}
+use Rattle.engine.proofs.Carried.{labels_prepared, rest_prepared, carries, carries_none}
 use Rattle.engine.proofs.carry_out.Goals as goal
 
--- The rest is carried out, then the labels.
-pub carry_rest-h-requires : goal.carry_rest-h-requires
-carry_rest-h-requires c = rest_prepared c.requires (c.shaped.ensures _)
-
+-- The rest is carried out, and the labels; a refused call changes neither.
 pub relabel-requires : goal.relabel-requires
-relabel-requires c = labels_prepared c.requires (c.shaped.ensures _)
+relabel-requires c = labels_prepared (rw c.in_ok-task.was at c.requires) (c.shaped.ensures _)
+
+pub carry_rest-requires : goal.carry_rest-requires
+carry_rest-requires c = rest_prepared (rw c.in_ok-task.was at c.requires) (c.shaped.ensures _)
+
+pub returns-in_err-task : goal.returns-in_err-task
+returns-in_err-task c =
+    let p = err_from_is_err_and c.from_residual.result c.from_residual.ensures.1 in
+    rw (c.in_err-task.was, p.1, p.2) (carries_none c.requires.passed (c.shaped.ensures _))
 
 pub returns : goal.returns
-returns c =
-    carries c.requires (c.shaped.ensures _) c.relabel.ensures c.carry_rest-h.ensures
+returns c = rw c.in_ok-task.was (carries (rw c.in_ok-task.was at c.requires) (c.shaped.ensures _) c.relabel.ensures c.carry_rest.ensures)

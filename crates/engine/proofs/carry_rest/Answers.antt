@@ -1,44 +1,43 @@
+use Rattle.std.proofs.lemmas.Result.{err_from_is_err_and}
 use Rattle.engine.proofs.Carried.{refused, begins_label, snaps_label, snaps_scan, updates, ends_label, ends_scan, leaves_service, returns_to_service}
 use native.Mathlib.Omega.{arith}
-use mathlib.Core.Path.{refl}
 use Rattle.engine.proofs.carry_rest.Goals as goal
 
 -- Each arm is a move of its own, and Carried has a law for it.
 pub overflow_cast-jobs : goal.overflow_cast-jobs
-overflow_cast-jobs c = omega (arith, c.requires.job_fits c.in-BeginLabel.is)
+overflow_cast-jobs c = let s = rw c.in_ok-task.was at c.requires in omega (arith, s.task.job_fits c.in-BeginLabel.is)
 
 pub scan_result-requires : goal.scan_result-requires
-scan_result-requires c =
-    let s = c.requires in
-    let order = s.listed c.in-SnapScan.is in record {
-      n_bound = (s.high, order.0);
-      by_index = order.1;
-    }
+scan_result-requires c = let s = rw c.in_ok-task.was at c.requires in record {
+  n_bound = (s.high, (s.task.listed c.in-SnapScan.is).0);
+  by_index = (s.task.listed c.in-SnapScan.is).1;
+}
 
-pub returns-in-Refused : goal.returns-in-Refused
-returns-in-Refused c = refused c.requires c.in-Refused.is refl
+pub returns-in_err-task : goal.returns-in_err-task
+returns-in_err-task c =
+    let p = err_from_is_err_and c.from_residual.result c.from_residual.ensures.1 in
+    rw (c.in_err-task.was, p.1, p.2) (refused (rw c.in_err-task.was at c.requires))
 
 pub returns-in-BeginLabel : goal.returns-in-BeginLabel
-returns-in-BeginLabel c = begins_label c.requires _ c.in-BeginLabel.is c.accepted.ensures
+returns-in-BeginLabel c = rw c.in_ok-task.was (begins_label (rw c.in_ok-task.was at c.requires) c.in-BeginLabel.is)
 
 pub returns-in-SnapLabel : goal.returns-in-SnapLabel
-returns-in-SnapLabel c = snaps_label c.requires _ c.in-SnapLabel.is c.accepted-in-SnapLabel.ensures
+returns-in-SnapLabel c = rw c.in_ok-task.was (snaps_label (rw c.in_ok-task.was at c.requires) c.in-SnapLabel.is)
 
 pub returns-in-SnapScan : goal.returns-in-SnapScan
-returns-in-SnapScan c =
-    snaps_scan c.requires c.scan_result.ensures _ c.in-SnapScan.is c.accepted-in-SnapScan.ensures
+returns-in-SnapScan c = rw c.in_ok-task.was (snaps_scan (rw c.in_ok-task.was at c.requires) c.scan_result.ensures c.in-SnapScan.is)
 
 pub returns-in-Update : goal.returns-in-Update
-returns-in-Update c = updates c.requires _ c.in-Update.is c.accepted-in-Update.ensures
+returns-in-Update c = rw c.in_ok-task.was (updates (rw c.in_ok-task.was at c.requires) c.in-Update.is)
 
 pub returns-in-EndLabel : goal.returns-in-EndLabel
-returns-in-EndLabel c = ends_label c.requires _ c.in-EndLabel.is c.accepted-in-EndLabel.ensures
+returns-in-EndLabel c = rw c.in_ok-task.was (ends_label (rw c.in_ok-task.was at c.requires) c.in-EndLabel.is)
 
 pub returns-in-EndScan : goal.returns-in-EndScan
-returns-in-EndScan c = ends_scan c.requires c.in-EndScan.is c.accepted-in-EndScan.ensures
+returns-in-EndScan c = rw c.in_ok-task.was (ends_scan (rw c.in_ok-task.was at c.requires) c.in-EndScan.is)
 
 pub returns-in-LeaveService : goal.returns-in-LeaveService
-returns-in-LeaveService c = leaves_service c.requires _ c.in-LeaveService.is c.accepted-in-LeaveService.ensures
+returns-in-LeaveService c = rw c.in_ok-task.was (leaves_service (rw c.in_ok-task.was at c.requires) c.in-LeaveService.is)
 
 pub returns-in-ReturnToService : goal.returns-in-ReturnToService
-returns-in-ReturnToService c = returns_to_service c.requires _ c.in-ReturnToService.is c.accepted-in-ReturnToService.ensures
+returns-in-ReturnToService c = rw c.in_ok-task.was (returns_to_service (rw c.in_ok-task.was at c.requires) c.in-ReturnToService.is)

@@ -1,7 +1,5 @@
 use mathlib.Core.Path.{◌≡◌}
 use mathlib.Core.List.{map}
-use Prim.Native.Nat.{◌-◌, ◌≤◌}
-use lib.ListN.{length}
 use Rattle.simulation.specs.Calls.{panel_records}
 use Rattle.transition.specs.Forms.{over}
 use Rattle.arrays.specs.Arrays.{entries_in}
@@ -10,8 +8,4 @@ use Rattle.engine.proofs.fill.Given as goal
 
 -- After i turns the first i records are written; what lies past them is as it was.
 abbrev pub invariant-loop-i : goal.invariant-loop-i
-invariant-loop-i l =
-    (l.i ≤ l.k) × (length l.panel ≡ length l.initial.panel) × (l.panel ≡ over (map row_of (panel_records 1 (entries_in l.i l.rows))) l.initial.panel)
-
-abbrev pub decreases-loop-i : goal.decreases-loop-i
-decreases-loop-i l = l.k - l.i
+invariant-loop-i l = l.panel ≡ over (map row_of (panel_records 1 (entries_in l.i l.rows))) l.initial.panel

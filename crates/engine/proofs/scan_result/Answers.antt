@@ -1,52 +1,32 @@
-use mathlib.Core.Path.{◌≡◌, ap, ◌∙◌}
+use Prim.Native.Nat.{ℕ}
+use lib.ListN.{get_or, take, length-take}
 use native.Mathlib.Omega.{arith}
-use lib.ListN.{get_or}
-use Rattle.engine.specs.Scans.{found, scan_rows}
-use Rattle.engine.proofs.Scanned.{found_shows, none_yet, shown_next, struck_next}
-use borrow.Author.Rules.{rules}
+use Rattle.engine.proofs.Scanned.{found_yes, found_idle, found_out, none_yet, shown_next, struck_next, all_scanned}
 use Rattle.engine.proofs.scan_result.Goals as goal
-use Rattle.engine.proofs.scan_result.Goals.{else-job-service, then-job-service}
+use Rattle.engine.proofs.scan_result.Goals.{then-job-ne0+then-service-i-eq-IN_SERVICE, else-job-ne0, else-job-ne0-via-then-job-ne0+else-service-i-eq-IN_SERVICE, else-job-ne0-via-else-job-ne0}
 
-pub loop-p-init : goal.loop-p-init
-loop-p-init c = (search rules, search rules, none_yet _ _)
+pub loop-i-init : goal.loop-i-init
+loop-i-init c = (omega arith, none_yet _ _)
 
-pub offset_bounds-jobs-i : goal.offset_bounds-jobs-i
-offset_bounds-jobs-i c = omega (arith, c.requires.by_index c.loop-p.p (omega arith))
-
-pub bounds-jobs-i : goal.bounds-jobs-i
-bounds-jobs-i c = c.requires.by_index c.loop-p.p (omega arith)
-
-pub bounds-service-i : goal.bounds-service-i
-bounds-service-i c = c.requires.by_index c.loop-p.p (omega arith)
-
-pub overflow_add-rows : goal.overflow_add-rows
-overflow_add-rows c = omega (arith, c.requires.by_index c.loop-p.p (omega arith))
-
-pub overflow_cast-rows : goal.overflow_cast-rows
-overflow_cast-rows c = omega (arith, c.requires.by_index c.loop-p.p (omega arith))
-
-pub loop-p-preserved : goal.loop-p-preserved
-loop-p-preserved c =
+pub loop-i-preserved : goal.loop-i-preserved
+loop-i-preserved c =
     let a = c.args in
-    let f = c.loop-p.invariant.2 in
-    elim c.if-job-service.branch [
-      | then-job-service x ↦ (
-        search rules,
-        omega arith,
-        shown_next _ _ _ _ f (omega arith) (omega arith)
-            (found_shows a.jobs.now a.service.now (get_or a.order.now c.loop-p.p 0) x.if-job-service.true) x.rows-is x.k-is,
+    let i = get_or (take a.n a.order.now) c.loop-i.i-index 0 in
+    let f = c.loop-i.invariant.1 in
+    elim c.if-job-ne0.branch [
+      | then-job-ne0+then-service-i-eq-IN_SERVICE x ↦ (
+        omega (arith, x.k-is),
+        shown_next _ _ _ _ f c.loop-i-test.true (omega arith) (found_yes a.jobs.now a.service.now i x.if-job-ne0.true x.if-service-i-eq-IN_SERVICE.true) x.rows-is x.k-is,
       )
-      | else-job-service x ↦ (
-        search rules,
-        omega arith,
-        struck_next _ _ _ _ f (omega arith)
-            (found_shows a.jobs.now a.service.now (get_or a.order.now c.loop-p.p 0) x.if-job-service.false) x.rows-is x.k-is,
+      | else-job-ne0 x ↦ (
+        omega (arith, x.k-is),
+        elim x.else-job-ne0.branch [
+          | else-job-ne0-via-then-job-ne0+else-service-i-eq-IN_SERVICE y ↦
+              struck_next _ _ _ _ f c.loop-i-test.true (found_out a.jobs.now a.service.now i y.if-service-i-eq-IN_SERVICE.false) x.rows-is x.k-is
+          | else-job-ne0-via-else-job-ne0 y ↦ struck_next _ _ _ _ f c.loop-i-test.true (found_idle a.jobs.now a.service.now i y.if-job-ne0.false) x.rows-is x.k-is
+        ],
       )
     ]
 
 pub returns : goal.returns
-returns c =
-    let l = c.loop-p in
-    let a = c.args in
-    let e : l.p ≡ a.n = omega arith in
-    l.invariant.2.held ∙ ap (λ p. scan_rows p a.order.now (found a.jobs.now a.service.now)) e
+returns c = all_scanned c.args.n c.args.order.now c.loop-i.invariant.1 (omega (arith, length-take {A = ℕ}))

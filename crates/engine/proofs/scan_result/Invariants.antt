@@ -1,11 +1,9 @@
-use Prim.Native.Nat.{◌-◌, ◌≤◌}
+use Prim.Native.Nat.{◌≤◌}
+use lib.ListN.{take}
 use Rattle.engine.specs.Scans.{found}
 use Rattle.engine.proofs.Scanned.{Filled}
 use Rattle.engine.proofs.scan_result.Given as goal
 
--- After p turns the rows have the k entries of a scan of the first p stations of the order.
-abbrev pub invariant-loop-p : goal.invariant-loop-p
-invariant-loop-p l = (l.p ≤ l.n) × (l.k ≤ l.p) × Filled l.order (found l.jobs l.service) l.p l.k l.rows
-
-abbrev pub decreases-loop-p : goal.decreases-loop-p
-decreases-loop-p l = l.n - l.p
+-- After so many turns the rows have the k entries of a scan of the first stations of the order.
+abbrev pub invariant-loop-i : goal.invariant-loop-i
+invariant-loop-i l = (l.k ≤ l.i-index) × Filled (take l.n l.order) (found l.jobs l.service) l.i-index l.k l.rows

@@ -1,6 +1,5 @@
 use mathlib.Core.Path.{◌≡◌}
-use Prim.Native.Nat.{◌≤◌, ◌-◌}
-use lib.ListN.{length, take}
+use lib.ListN.{take}
 use Rattle.columns.specs.Columns.{line_head}
 use Rattle.simulation.specs.Calls.{report_lines}
 use Rattle.transition.specs.Forms.{over}
@@ -9,8 +8,4 @@ use Rattle.engine.proofs.write_result.Given as goal
 
 -- The p lines written stand at the front of the buffer, which begins with their head; what lies past them is as it was.
 abbrev pub invariant-loop-p : goal.invariant-loop-p
-invariant-loop-p l =
-    (l.p ≤ l.k) × (length l.out ≡ length l.initial.out) × (take 11 l.out ≡ line_head l.line 0) × (l.out ≡ over (report_lines l.line 1 (entries_in l.p l.rows)) l.initial.out)
-
-abbrev pub decreases-loop-p : goal.decreases-loop-p
-decreases-loop-p l = l.k - l.p
+invariant-loop-p l = (take 11 l.out ≡ line_head l.line 0) × (l.out ≡ over (report_lines l.line 1 (entries_in l.p l.rows)) l.initial.out)

@@ -1,3 +1,4 @@
+use Rattle.std.proofs.Common.{Option}
 use Prim.Native.Nat.{ℕ, ◌-◌}
 use native.Mathlib.Omega.{arith}
 use mathlib.Core.Path.{◌≡◌, refl, sym, ap, ◌∙◌}
@@ -6,14 +7,13 @@ use mathlib.Core.List.{List}
 use lib.ListN.{length, take, drop, length-drop}
 use lib.Seq.{take_all}
 use lib.Dec.{eqb}
-use Rattle.columns.specs.declared.Column.{Column}
 use Rattle.number_lines.specs.Lines.{number_read, NumbersRead}
 use Rattle.number_lines.proofs.Reading.{read_more, read_full, read_bad}
 use Rattle.number_lines.proofs.read_numbers.Goals as goal
 use Rattle.number_lines.proofs.read_numbers.Goals.{Left-loop-count, else-loop-count-test, then-loop-count-test+in_default}
 
 -- the line that is read is the one at `at`
-line_here : (bs : List ℕ) (at : ℕ) {r : Column} → r ≡ number_read (take (length bs - at) (drop at bs)) → number_read (drop at bs) ≡ r
+line_here : (bs : List ℕ) (at : ℕ) {r : Option ℕ} → r ≡ number_read (take (length bs - at) (drop at bs)) → number_read (drop at bs) ≡ r
 line_here bs at e = sym (e ∙ ap number_read (take_all (length bs - at) (drop at bs) (omega (arith, length-drop at bs))))
 
 -- what is handed back, as the goal says
@@ -33,7 +33,7 @@ count-told c = refl
 pub loop-count-preserved : goal.loop-count-preserved
 loop-count-preserved c =
     let l = c.loop-count in
-    read_more l.invariant _ (omega (arith, l.invariant.size)) (line_here c.args.bytes.now l.at c.in-Value.ensures)
+    read_more l.invariant _ (omega (arith, l.invariant.size)) (line_here c.args.bytes.now l.at c.in-Some.ensures)
 
 pub returns : goal.returns
 returns c =

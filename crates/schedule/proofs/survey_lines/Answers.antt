@@ -1,48 +1,39 @@
 use Prim.Native.Nat.{◌+◌}
 use native.Mathlib.Omega.{arith}
+use mathlib.Core.Path.{◌≡◌, refl, ap, ◌∙◌}
+use mathlib.Core.Bool.{Bool, true, false}
+use mir.Val.{bool_byte}
+use Rattle.std.specs.Prelude.{Ok}
 use Rattle.schedule.proofs.Places.{StepAt, at_end, at_refused, at_call, calls_none, calls_refused}
-use Rattle.schedule.proofs.Surveys.{surveyed_start, surveyed_end, surveyed_more}
+use Rattle.schedule.proofs.Surveys.{one, surveyed_end, surveyed_more}
 use Rattle.schedule.proofs.survey_lines.Goals as goal
-use Rattle.schedule.proofs.survey_lines.Goals.{In-Call}
+use Rattle.schedule.proofs.survey_lines.Goals.{In-Ok-Some}
+
+-- as a number a test counts one, or none
+counts_one : (b : Bool) → bool_byte b ≡ one b
+counts_one true = refl
+counts_one false = refl
 
 -- the call that stands at a place
-here : (x : goal.In-Call) → let l = x.loop-refusal in let a = x.args in
-    StepAt (a.lines + l.steps) a.chunk.now l.at x.in-Call.request
-here x =
-    let k = x in
-    at_call _ _ _ k.loop-refusal.invariant.within _ k.next_call.ensures _ x.in-Call.is
+here : (x : goal.In-Ok-Some) → let l = x.loop-request in let a = x.args in
+    StepAt (a.lines + l.steps) a.chunk.now l.at x.in-Ok-Some.request
+here x = at_call _ _ _ x.loop-request.invariant.within _ x.next_call.ensures _ (x.in-Ok-Some.is ∙ ap Ok x.in-Ok-Some.field-0-is)
 
-pub returns-in-End : goal.returns-in-End
-returns-in-End c =
-    let l = c.loop-refusal in
-    surveyed_end l.invariant _ (calls_none _ _ _ l.invariant.within (at_end _ _ _ l.invariant.within _ c.next_call.ensures c.in-End.is))
+pub returns-in-Ok-None : goal.returns-in-Ok-None
+returns-in-Ok-None c =
+    let l = c.loop-request in
+    surveyed_end l.invariant _ (calls_none _ _ _ l.invariant.within (at_end _ _ _ l.invariant.within _ c.next_call.ensures (c.in-Ok-None.is ∙ ap Ok c.in-Ok-None.field-0-is)))
 
-pub returns-in-Refused : goal.returns-in-Refused
-returns-in-Refused c =
-    let l = c.loop-refusal in
+pub returns-in-Err : goal.returns-in-Err
+returns-in-Err c =
+    let l = c.loop-request in
     surveyed_end l.invariant _
-    (calls_refused _ _ _ l.invariant.within (at_refused _ _ _ l.invariant.within _ c.next_call.ensures _ c.in-Refused.is))
+    (calls_refused _ _ _ l.invariant.within (at_refused _ _ _ l.invariant.within _ c.next_call.ensures _ c.in-Err.is))
 
-pub loop-refusal-preserved : goal.loop-refusal-preserved
-loop-refusal-preserved c = surveyed_more c.loop-refusal.invariant (here (goal.at.loop-refusal-preserved c).In-Call) c.count_snap-snaps.ensures
+pub loop-request-preserved : goal.loop-request-preserved
+loop-request-preserved c =
+    surveyed_more c.loop-request.invariant (here (goal.at.loop-request-preserved c).In-Ok-Some)
+    (ap (λ k. c.loop-request.snaps + k) (c.from-snaps.ensures ∙ counts_one _))
 
-pub loop-refusal-init : goal.loop-refusal-init
-loop-refusal-init c = surveyed_start _ _
-
-pub overflow_add-lines : goal.overflow_add-lines
-overflow_add-lines c = let f = c.loop-refusal.invariant in omega (arith, f.few)
-
-pub next_call-requires : goal.next_call-requires
-next_call-requires c = c.loop-refusal.invariant.within
-
-pub count_snap-snaps-requires : goal.count_snap-snaps-requires
-count_snap-snaps-requires c = let f = c.loop-refusal.invariant in omega (arith, f.few, f.fewer)
-
-pub overflow_add-steps : goal.overflow_add-steps
-overflow_add-steps c = let f = c.loop-refusal.invariant in omega (arith, f.few)
-
-pub overflow_add-at : goal.overflow_add-at
-overflow_add-at c = let f = here (goal.at.overflow_add-at c).In-Call in omega (arith, f.within, c.well_formed.1.0.0)
-
-pub loop-refusal-smaller : goal.loop-refusal-smaller
-loop-refusal-smaller c = let f = here (goal.at.loop-refusal-smaller c).In-Call in omega (arith, f.within)
+pub loop-request-smaller : goal.loop-request-smaller
+loop-request-smaller c = let f = here (goal.at.loop-request-smaller c).In-Ok-Some in omega (arith, f.within)
