@@ -1,7 +1,7 @@
 // The lines of the command file.
-ghost use Rattle.std.specs.Prelude.{◌<◌, ◌≤◌, length};
+ghost use Rattle.std.specs.Prelude.{◌<◌};
 
-use columns::Column;
+use moves::Step;
 use table::Entry;
 
 // A number below N.
@@ -31,40 +31,11 @@ pub type Position = Below<31>;
 // How many bytes a call lends.
 pub type Room = Below<930>;
 
-// The steps by their names.
-#[derive(Clone, Copy)]
-pub enum Step {
-    BeginLabel,
-    Scan,
-    Snap,
-    Update,
-    End,
-    LeaveService,
-    ReturnToService,
-}
-
 // Which function makes a step call: the one for all codes, or the one that has the step's name.
 #[derive(Clone, Copy)]
 pub enum Function {
     Coded(u64),
     Named(Step),
-}
-
-impl Function {
-    // The call by name, where 1 to 7 are the codes of the steps, and 0 is no step's.
-    fn named(code: u64) -> Option<Self> {
-        Some(match code {
-            0 => Function::Coded(0),
-            1 => Function::Named(Step::BeginLabel),
-            2 => Function::Named(Step::Scan),
-            3 => Function::Named(Step::Snap),
-            4 => Function::Named(Step::Update),
-            5 => Function::Named(Step::End),
-            6 => Function::Named(Step::LeaveService),
-            7 => Function::Named(Step::ReturnToService),
-            _ => return None,
-        })
-    }
 }
 
 // A step call.
@@ -93,7 +64,7 @@ pub enum Edit {
 pub enum Command<'a> {
     Title(&'a [u8]),
     Fresh(u64),
-    Step(Call),
+    Call(Call),
     Panel {
         code: u64,
         station: u64,
@@ -112,28 +83,25 @@ pub enum Command<'a> {
     Count(u32),
 }
 
-// The number in a column.
-fn number(column: &[u8]) -> Option<u64>
-    requires { length column.now ≤ 18 }
-{
-    match columns::read_column(column) {
-        Column::Value(v) => Some(v),
-        Column::Bad => None,
-    }
-}
-
 // The command with this letter and these numbers.
 fn from_numbers(letter: u8, a: u64, b: u64, c: u64, d: u64) -> Option<Command<'static>> {
     Some(match (letter, a, b, c, d) {
         (b'f', n, 0, 0, 0) => Command::Fresh(n),
-        (b's', code, station, job, room) => Command::Step(Call {
+        (b's', code, station, job, room) => Command::Call(Call {
             function: Function::Coded(code),
             station,
             job,
             room: Room::new(room)?,
         }),
-        (b'n', code, station, job, room) => Command::Step(Call {
-            function: Function::named(code)?,
+        // No step has the code 0.
+        (b'n', 0, station, job, room) => Command::Call(Call {
+            function: Function::Coded(0),
+            station,
+            job,
+            room: Room::new(room)?,
+        }),
+        (b'n', code, station, job, room) => Command::Call(Call {
+            function: Function::Named(Step::try_from(code).ok()?),
             station,
             job,
             room: Room::new(room)?,
@@ -188,10 +156,10 @@ fn read_columns(letter: u8, rest: &[u8]) -> Option<Command<'static>> {
     if rest.len() != 49 {
         return None;
     }
-    let a = number(&rest[..12])?;
-    let b = number(&rest[12..24])?;
-    let c = number(&rest[24..36])?;
-    let d = number(&rest[36..48])?;
+    let a = columns::read_column(&rest[..12])?;
+    let b = columns::read_column(&rest[12..24])?;
+    let c = columns::read_column(&rest[24..36])?;
+    let d = columns::read_column(&rest[36..48])?;
     from_numbers(letter, a, b, c, d)
 }
 
@@ -200,7 +168,7 @@ fn read_served(rest: &[u8]) -> Option<Command<'_>> {
     if rest.len() < 13 {
         return None;
     }
-    let shown = number(&rest[..12])?;
+    let shown = columns::read_column(&rest[..12])?;
     if 929 < shown {
         return None;
     }

@@ -7,7 +7,7 @@ pub fn show_label(rt: &HostRuntime, t: Table, place: Place) {
     let label = t.stations[place.value].label;
     let first = label[0];
     let second = label[1];
-    let _ = print!(rt; " {}.{}", first, second);
+    let _ = print!(rt; " {first}.{second}");
 }
 
 // Changes one record of a table.

@@ -33,8 +33,8 @@ mod panels;
 mod sessions;
 
 use calls::{ByValue, Calls};
-use commands::{Call, Command, Function, Step};
-use engine::Reply;
+use commands::{Call, Command, Function};
+use moves::{Refusal, Step};
 use owners::Lent;
 use session::Session;
 use std::io::{self, Cursor, Print, Read};
@@ -46,26 +46,29 @@ fn text(rt: &HostRuntime, bytes: &[u8]) {
     let _ = rt.write_all(bytes);
 }
 
+// The number of a reply's refusal, and its count.
+fn told(reply: Result<usize, Refusal>) -> (u64, usize) {
+    (moves::number_of(reply.err()), reply.unwrap_or(0))
+}
+
 // Shows the buffer that a call has lent, and its reply.
-pub fn show(rt: &HostRuntime, report: &[u8], r: Reply) {
-    let refusal = r.refusal;
+pub fn show(rt: &HostRuntime, report: &[u8], reply: Result<usize, Refusal>) {
+    let (number, count) = told(reply);
     text(rt, report);
-    let _ = print!(rt; " {}/{}", refusal.number(), r.written);
+    let _ = print!(rt; " {number}/{count}");
 }
 
 // Makes a step call.
 fn make<C: Calls>(t: Table, c: Call, report: &mut [u8]) -> Outcome {
     match c.function {
         Function::Coded(code) => C::step(t, code, c.station, c.job, report),
-        Function::Named(step) => match step {
-            Step::BeginLabel => C::begin_label(t, c.station, c.job),
-            Step::Scan => C::scan(t, c.station),
-            Step::Snap => C::snap(t, c.station),
-            Step::Update => C::update(t, c.station),
-            Step::End => C::end(t, c.station, report),
-            Step::LeaveService => C::leave_service(t, c.station),
-            Step::ReturnToService => C::return_to_service(t, c.station),
-        },
+        Function::Named(Step::BeginLabel) => C::begin_label(t, c.station, c.job),
+        Function::Named(Step::Scan) => C::scan(t, c.station),
+        Function::Named(Step::Snap) => C::snap(t, c.station),
+        Function::Named(Step::Update) => C::update(t, c.station),
+        Function::Named(Step::End) => C::end(t, c.station, report),
+        Function::Named(Step::LeaveService) => C::leave_service(t, c.station),
+        Function::Named(Step::ReturnToService) => C::return_to_service(t, c.station),
     }
 }
 
@@ -80,9 +83,8 @@ fn call<C: Calls>(rt: &HostRuntime, t: Table, c: Call) -> Table {
 
 // Asks how many stations have the newest's label, and shows the answer.
 fn ask<C: Calls>(rt: &HostRuntime, t: Table) {
-    let h = C::top_holders(t);
-    let refusal = h.refusal;
-    let _ = print!(rt; " {}:{}", refusal.number(), h.stations);
+    let (number, count) = told(C::top_holders(t));
+    let _ = print!(rt; " {number}:{count}");
 }
 
 // Obeys a command on the table or the session.
@@ -90,7 +92,7 @@ fn obey<C: Calls>(rt: &HostRuntime, t: &mut Table, s: &mut Session, c: Command<'
     match c {
         Command::Title(line) => text(rt, line),
         Command::Fresh(n) => *t = Table::fresh(n as usize),
-        Command::Step(c) => *t = call::<C>(rt, *t, c),
+        Command::Call(c) => *t = call::<C>(rt, *t, c),
         Command::Panel {
             code,
             station,

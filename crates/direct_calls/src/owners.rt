@@ -2,12 +2,12 @@
 ghost use Rattle.std.specs.Fn.{FnOnceReturnsAtMut};
 
 use crate::calls::Calls;
-use engine::{Holders, Reply};
+use moves::Refusal;
 use step::Outcome;
 use table::Table;
 
 // The owner of a table lends it to a call, and hands it back.
-fn owned<F: FnOnce(&mut Table) -> Reply>(t: Table, call: F) -> Outcome
+fn owned<F: FnOnce(&mut Table) -> Result<usize, Refusal>>(t: Table, call: F) -> Outcome
     requires { F.IsAlwaysCallable call }
     ensures { FnOnceReturnsAtMut F.FnOnce call t result.reply result.table }
 {
@@ -55,7 +55,7 @@ impl Calls for Lent {
         owned(t, |own| lent_table::return_to_service(own, station))
     }
 
-    fn top_holders(t: Table) -> Holders {
+    fn top_holders(t: Table) -> Result<usize, Refusal> {
         lent_table::top_holders_owned(t)
     }
 }

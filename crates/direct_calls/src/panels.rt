@@ -17,7 +17,7 @@ fn show(rt: &HostRuntime, r: Record) {
             place,
             station,
             job,
-        } => print!(rt; " {}:{}:{}", place, station, job),
+        } => print!(rt; " {place}:{station}:{job}"),
     };
 }
 

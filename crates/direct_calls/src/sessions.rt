@@ -4,8 +4,7 @@ use session::Session;
 // Opens a session, and shows the number of its refusal.
 pub fn open(rt: &HostRuntime, header: &[u8]) -> Session {
     let s = session::open(header);
-    let refusal = s.refusal;
-    let _ = print!(rt; " {}", refusal.number());
+    let _ = print!(rt; " {}", moves::number_of(s.refusal));
     s
 }
 
