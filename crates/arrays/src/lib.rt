@@ -23,6 +23,33 @@ pub type Control = [[u8; 32]; 2];
 // The stations, from 1, and the jobs of each station's scan result.
 pub type Results = [[[u32; 32]; 2]; 32];
 
+// The four arrays of a table in one value, with labels or with numbers. Their types are parameters, since the prover does not follow a literal with arrays of
+// arrays in its fields.
+#[derive(Clone, Copy)]
+pub struct Parts<L, J, C, R> {
+    pub labels: L,
+    pub jobs: J,
+    pub control: C,
+    pub results: R,
+}
+
+impl<L: Copy + Drop, J: Copy + Drop, C: Copy + Drop, R: Copy + Drop> Parts<L, J, C, R> {
+    // These four.
+    pub fn of(labels: L, jobs: J, control: C, results: R) -> Self
+        ensures { result ≡ record { labels = labels; jobs = jobs; control = control; results = results } }
+    {
+        Parts {
+            labels,
+            jobs,
+            control,
+            results,
+        }
+    }
+}
+
+// The four arrays of a table of labels.
+pub type LabelParts = Parts<Labels, Jobs, Control, Results>;
+
 // The planes of what is current and of what is pending.
 pub const CURRENT: usize = 0;
 
@@ -48,19 +75,13 @@ pub const OUT_OF_SERVICE: u8 = 1;
 pub fn phase_of(b: u8) -> Phase
     ensures { phase_of result ≡ phase_for b }
 {
-    if b == IDLE {
-        return Phase::Idle;
+    match b {
+        IDLE => Phase::Idle,
+        SNAP => Phase::Snap,
+        UPDATE => Phase::Update,
+        END_LABEL => Phase::End(Operation::Label),
+        _ => Phase::End(Operation::Scan),
     }
-    if b == SNAP {
-        return Phase::Snap;
-    }
-    if b == UPDATE {
-        return Phase::Update;
-    }
-    if b == END_LABEL {
-        return Phase::End(Operation::Label);
-    }
-    Phase::End(Operation::Scan)
 }
 
 // Whether a number stands for out of service; every number but 0 is read so.
@@ -85,28 +106,19 @@ pub fn shown_in(n: usize, stations: &[u32; 32]) -> usize
     requires { n ≤ 32 }
     ensures { result ≡ shown_in n stations.now }
 {
-    let mut k = n;
-    while 0 < k {
-        if stations[k - 1] != 0 {
-            return k;
-        }
-        k -= 1;
+    match stations[..n].iter().rposition(|s| *s != 0) {
+        Some(last) => last + 1,
+        None => 0,
     }
-    0
 }
 
 // Writes what a fresh table holds beside its labels over what is lent: no jobs, all idle and in service, empty results.
 pub fn refresh_rest(jobs: &mut Jobs, control: &mut Control, results: &mut Results)
     ensures { Holds fresh_rest jobs.new control.new results.new }
 {
-    let none = [0u32; 32];
-    let idle = [IDLE; 32];
-    let serving = [IN_SERVICE; 32];
-    let empty = [none; 2];
-    *jobs = [none; 2];
-    let state = [idle, serving];
-    *control = state;
-    *results = [empty; 32];
+    *jobs = [[0; 32]; 2];
+    *control = [[IDLE; 32], [IN_SERVICE; 32]];
+    *results = [[[0; 32]; 2]; 32];
 }
 
 // Writes the fresh table of n stations over what is lent.
@@ -119,8 +131,6 @@ pub fn refresh(
 )
     ensures { arrays n labels.new jobs.new control.new results.new ≡ fresh_table lent n }
 {
-    let label = [1u8; 31];
-    let plane = [label; 32];
-    *labels = [plane; 2];
+    *labels = [[[1; 31]; 32]; 2];
     refresh_rest(jobs, control, results);
 }

@@ -12,10 +12,10 @@ use lib.Seq.{length-take-le}
 use borrow.Rule.Slice.PartMut.{mid_of, put_mid}
 use Rattle.simulation.specs.Calls.{Buffer, Call}
 use Rattle.transition.specs.Forms.{over, step_of}
-use Rattle.moves.specs.Moves.{refusal_number, call_of}
+use Rattle.moves.specs.Moves.{refusal_number, final_number, call_of}
 use Rattle.moves.specs.declared.Request.{Request}
 use Rattle.moves.specs.declared.Refusal.{Refusal}
-use Rattle.moves.specs.declared.Refusal.TheVariants.{Accepted}
+use Rattle.std.specs.Prelude.{Option, Some, None, Result, Ok, Err}
 use Rattle.arrays.specs.Arrays.{Arrays}
 use Rattle.arrays.specs.WellFormed.{well_formed}
 use Rattle.arrays.specs.Form.{lent}
@@ -23,11 +23,11 @@ use Rattle.schedule.specs.Tables.{tables}
 use Rattle.schedule.specs.Lines.{next_line}
 use Rattle.schedule.specs.Sessions.{Session, session, Served}
 use Rattle.schedule.specs.Files.{cut, printed, behind, run_lines}
-use Rattle.schedule.proofs.SessionLaws.{next_refused}
+use Rattle.moves.proofs.MoveLaws.{positive}
+use Rattle.schedule.specs.Lines.{a_step}
 use Rattle.schedule.proofs.Runs.{shown_of, run_refused, run_step, put_over, length_over, over_short, printed_refusal}
 use Rattle.schedule.proofs.Cuts.{run_append, cut_add}
 use Rattle.schedule.proofs.Places.{line_at, StepAt, RefusedAt}
-use Rattle.schedule.specs.declared.Line.TheVariants.{Step}
 use Rattle.file.specs.Clauses.{Prints, read_lines, Reports}
 
 -- a line that leaves the buffer as long as it was printed no more than that
@@ -78,10 +78,10 @@ pub record Sofar (s : Session Arrays) (chunk out₀ : Lists.List ℕ) (a : Array
   pub bytes : Lists.List ℕ
   pub long : written ≡ length bytes
   pub area : out ≡ over bytes out₀
-  pub runs : run_lines (tables lent) s (cut (read_lines at) chunk) ≡ record { session = session lines Accepted a; refusal = 0; bytes = bytes }
+  pub runs : run_lines (tables lent) s (cut (read_lines at) chunk) ≡ record { session = session lines None a; refusal = 0; bytes = bytes }
   pub goes : (k : ℕ) → k < read_lines at → Goes s chunk (length out₀) k
 
-pub sofar_start : (lines : ℕ) (a : Arrays) (chunk out : Lists.List ℕ) → Sofar (session lines Accepted a) chunk out a lines 0 0 out
+pub sofar_start : (lines : ℕ) (a : Arrays) (chunk out : Lists.List ℕ) → Sofar (session lines None a) chunk out a lines 0 0 out
 unfolding cut run_lines
 sofar_start lines a chunk out = record {
   whole = omega arith;
@@ -106,7 +106,7 @@ module _ {s : Session Arrays} {chunk out₀ : Lists.List ℕ} {a : Arrays} {line
 
   -- all lines are served, or there is no room for another
   pub sofar_end : (length chunk ≤ at) ⊎ (length out - written < 928)
-      → Reports s chunk a (record { lines = lines; refusal = Accepted; read = at; written = written }) out₀ out
+      → Reports s chunk a (record { lines = lines; refusal = None; read = at; written = written }) out₀ out
   sofar_end h = record {
     whole = f.whole;
     bytes = f.bytes;
@@ -129,7 +129,7 @@ module _ {s : Session Arrays} {chunk out₀ : Lists.List ℕ} {a : Arrays} {line
       put x short = rw (f.area, e, f.long) (put_over f.bytes x out₀ 928 short (omega (arith, f.long, as_long, room_here)))
 
       -- one line more
-      runs_on : (o : Served Arrays) → run_lines (tables lent) (session lines Accepted a) (l ∷ []) ≡ o
+      runs_on : (o : Served Arrays) → run_lines (tables lent) (session lines None a) (l ∷ []) ≡ o
           → run_lines (tables lent) s (cut (read_lines (at + length l)) chunk) ≡ behind f.bytes o
       runs_on o q =
           ap (run_lines (tables lent) s) (line_cut chunk h p f.whole)
@@ -145,7 +145,7 @@ module _ {s : Session Arrays} {chunk out₀ : Lists.List ℕ} {a : Arrays} {line
       -- a line that is refused for good
       pub sofar_stop : (r : Refusal) {n : ℕ} {x : Lists.List ℕ} → RefusedAt lines chunk at r → let told = printed (lines + 1) (refusal_number r) [] in
           n ≡ length told → x ≡ over told (mid_of written k out)
-          → Reports s chunk a (record { lines = lines; refusal = r; read = at + length l; written = written + n }) out₀ (put_mid written k out x)
+          → Reports s chunk a (record { lines = lines; refusal = Some r; read = at + length l; written = written + n }) out₀ (put_mid written k out x)
       sofar_stop r g b c =
           let q = ap (next_line lines) p ∙ g.said in
           let told = printed (lines + 1) (refusal_number r) [] in
@@ -153,13 +153,13 @@ module _ {s : Session Arrays} {chunk out₀ : Lists.List ℕ} {a : Arrays} {line
           record {
             whole = line_starts chunk h p f.whole;
             bytes = f.bytes ++ told;
-            runs = runs_on _ (run_refused (tables lent) (session lines Accepted a) l refl ok r q);
+            runs = runs_on _ (run_refused (tables lent) (session lines None a) l refl ok r q);
             written = omega (arith, b, f.long, length-append f.bytes told);
             report = rw c (put told (omega (arith, low)));
             goes = goes_on;
-            stops = inl (next_refused lines l r q);
+            stops = inl (positive r);
             short = omega (arith, b, low, f.short, line_next chunk h p f.whole);
-            counted = λ z. absurd (next_refused lines l r q z);
+            counted = λ z. absurd (positive r z);
           }
 
       -- a line that is served
@@ -185,7 +185,7 @@ module _ {s : Session Arrays} {chunk out₀ : Lists.List ℕ} {a : Arrays} {line
           } in
           subst (λ j. Sofar s chunk out₀ a' (lines + 1) (written + n) (at + j) (put_mid written k out x)) full made
         where
-          served : next_line lines l ≡ Step q.station q.code q.job → let c = call_of q (Buffer 928) in
-              run_lines (tables lent) (session lines Accepted a) (l ∷ [])
-              ≡ record { session = session (lines + 1) Accepted (step_of lent a c).table; refusal = 0; bytes = shown_of (tables lent) a c }
-          served e = run_step (tables lent) (session lines Accepted a) l refl ok q.station q.code q.job e ∙ rw (← z.bears) refl
+          served : next_line lines l ≡ Ok (a_step q.station q.code q.job) → let c = call_of q (Buffer 928) in
+              run_lines (tables lent) (session lines None a) (l ∷ [])
+              ≡ record { session = session (lines + 1) None (step_of lent a c).table; refusal = 0; bytes = shown_of (tables lent) a c }
+          served e = run_step (tables lent) (session lines None a) l refl ok (a_step q.station q.code q.job) e ∙ rw (← z.bears) refl

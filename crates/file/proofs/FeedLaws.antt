@@ -13,8 +13,8 @@ use lib.Dec.{eqb, ltb}
 use borrow.Author.Tests.{eq-eqb, ne_eqb, lt-ltb, eqb-true, ltb-true, ltb-false}
 use Rattle.basics.proofs.Facts.{and_both}
 use Rattle.transition.specs.Forms.{over, fresh_table}
-use Rattle.moves.specs.Moves.{refusal_number}
-use Rattle.moves.specs.declared.Refusal.TheVariants.{Accepted}
+use Rattle.moves.specs.Moves.{refusal_number, final_number}
+use Rattle.std.specs.Prelude.{Option, Some, None, Result, Ok, Err}
 use Rattle.arrays.specs.Arrays.{Arrays}
 use Rattle.arrays.specs.Form.{lent}
 use Rattle.schedule.specs.Tables.{tables}
@@ -29,11 +29,11 @@ use Rattle.file.specs.declared.Fed.{Fed}
 -- LINES THAT ARE STILL TO COME
 
 -- a session with a refusal, or with a line, awaits no header
-pub refused_opened : (s : Session Arrays) → refusal_number s.refusal ≢ 0 → awaits s ≡ false
+pub refused_opened : (s : Session Arrays) → final_number s.refusal ≢ 0 → awaits s ≡ false
 refused_opened s d = rw (ne_eqb _ 0 d) refl
 
 pub lines_opened : (s : Session Arrays) → s.lines ≢ 0 → awaits s ≡ false
-lines_opened s d = go (eqb (refusal_number s.refusal) 0)
+lines_opened s d = go (eqb (final_number s.refusal) 0)
   where
     go : (b : Bool) → (b && eqb s.lines 0) ≡ false
     go true = ne_eqb s.lines 0 d
@@ -45,7 +45,7 @@ run_opened s e [] = refl
 run_opened s e (l ∷ ls) = rw e refl
 
 -- nothing follows a final refusal
-ahead_none : (s : Session Arrays) → refusal_number s.refusal ≢ 0 → (rest : Lists.List ℕ) → ahead s rest ≡ unmoved s
+ahead_none : (s : Session Arrays) → final_number s.refusal ≢ 0 → (rest : Lists.List ℕ) → ahead s rest ≡ unmoved s
 ahead_none s d rest = let ls = cut (ready s true rest) rest in run_opened s (refused_opened s d) ls ∙ final_run (tables lent) s ls d
 
 -- lines in two groups
@@ -94,13 +94,13 @@ module _ {run : Run} {a : Arrays} {last : Bool} {part : Lists.List ℕ} {r : Fed
   feeds_shown = rw (f.report, f.written) (take_at f.bytes (drop (length f.bytes) buffer) (length f.bytes) refl)
 
   -- another could be served
-  pub feeds_more : r.more ≡ true → (refusal_number r.run.refusal ≡ 0) × (f.served < ready s last part)
+  pub feeds_more : r.more ≡ true → (final_number r.run.refusal ≡ 0) × (f.served < ready s last part)
   feeds_more m =
-      let b = and_both (eqb (refusal_number r.run.refusal) 0) (ltb f.served (ready s last part)) (sym f.more ∙ m) in
+      let b = and_both (eqb (final_number r.run.refusal) 0) (ltb f.served (ready s last part)) (sym f.more ∙ m) in
       (eqb-true _ 0 b.0, ltb-true f.served (ready s last part) b.1)
 
   -- none could be, and none is refused for good
-  feeds_all : r.more ≡ false → refusal_number r.run.refusal ≡ 0 → f.served ≡ ready s last part
+  feeds_all : r.more ≡ false → final_number r.run.refusal ≡ 0 → f.served ≡ ready s last part
   feeds_all m z =
       let none : ltb f.served (ready s last part) ≡ false = sym (ap (λ b. b && ltb f.served (ready s last part)) (eq-eqb _ 0 z)) ∙ sym f.more ∙ m in
       omega (arith, f.most, ltb-false f.served (ready s last part) none)
@@ -117,7 +117,7 @@ module _ {run : Run} {a : Arrays} {last : Bool} {part : Lists.List ℕ} {r : Fed
       go false w l = omega arith
 
   -- of a part that is not the last, less than a line is left where no other could be served
-  pub feeds_left : r.more ≡ false → last ≡ false → refusal_number r.run.refusal ≡ 0
+  pub feeds_left : r.more ≡ false → last ≡ false → final_number r.run.refusal ≡ 0
       → (length part < r.read + 18) × (r.read ≡ 18 * f.served) × (r.run.lines ≡ run.lines + f.served)
   feeds_left m e z =
       let all : f.served ≡ length part / 18 = feeds_all m z ∙ ap (λ b. ready s b part) e in
@@ -132,7 +132,7 @@ module _ {run : Run} {a : Arrays} {last : Bool} {part : Lists.List ℕ} {r : Fed
 
   -- behind a line no header is awaited
   opened_then : f.served ≢ 0 → awaits s' ≡ false
-  opened_then d = by_cases (ℕ_discrete (refusal_number r.run.refusal) 0)
+  opened_then d = by_cases (ℕ_discrete (final_number r.run.refusal) 0)
       (λ z. lines_opened s' (λ e. d (omega (arith, f.counted z, e))))
       (λ n. refused_opened s' n)
 
@@ -191,7 +191,7 @@ module _ {run : Run} {a : Arrays} {last : Bool} {part : Lists.List ℕ} {r : Fed
       on : f.served ≢ 0 → Split → ahead s (part ++ more) ≡ behind f.bytes (ahead s' rest)
       on d e = ap (run_from s) e ∙ go f.served d f.runs
         where
-          go : (k : ℕ) → k ≢ 0 → run_from s (cut k part) ≡ record { session = s'; refusal = refusal_number r.run.refusal; bytes = f.bytes }
+          go : (k : ℕ) → k ≢ 0 → run_from s (cut k part) ≡ record { session = s'; refusal = final_number r.run.refusal; bytes = f.bytes }
               → run_from s (cut k part ++ cut (ready s' true rest) rest) ≡ behind f.bytes (ahead s' rest)
           go zero n q = absurd (n refl)
           go (suc k) n q = run_from_append (take 18 part) (cut k (drop 18 part)) (cut (ready s' true rest) rest) s
@@ -199,11 +199,11 @@ module _ {run : Run} {a : Arrays} {last : Bool} {part : Lists.List ℕ} {r : Fed
               ∙ ap (λ (o : Served Arrays). behind o.bytes (run_from o.session (cut (ready s' true rest) rest))) q
 
   -- nothing more can be served: all of the last part was, or a line was refused for good
-  pub feeds_done : (more : Lists.List ℕ) → (last ≡ true → more ≡ []) → r.more ≡ false → (last ≡ true) ⊎ (refusal_number r.run.refusal ≢ 0)
+  pub feeds_done : (more : Lists.List ℕ) → (last ≡ true → more ≡ []) → r.more ≡ false → (last ≡ true) ⊎ (final_number r.run.refusal ≢ 0)
       → ahead s' (drop r.read part ++ more) ≡ unmoved s'
   unfolding cut
   feeds_done more over m = ⊎_elim
-      (λ e. by_cases (ℕ_discrete (refusal_number r.run.refusal) 0) (ended e) (λ d. ahead_none s' d (drop r.read part ++ more)))
+      (λ e. by_cases (ℕ_discrete (final_number r.run.refusal) 0) (ended e) (λ d. ahead_none s' d (drop r.read part ++ more)))
       (λ d. ahead_none s' d (drop r.read part ++ more))
     where
       -- the header is one of the lines of the last part
@@ -214,7 +214,7 @@ module _ {run : Run} {a : Arrays} {last : Bool} {part : Lists.List ℕ} {r : Fed
           go true q n all = absurd (omega (arith, all))
           go false q n all = ap awaits (none_served n).0 ∙ q
 
-      ended : last ≡ true → refusal_number r.run.refusal ≡ 0 → ahead s' (drop r.read part ++ more) ≡ unmoved s'
+      ended : last ≡ true → final_number r.run.refusal ≡ 0 → ahead s' (drop r.read part ++ more) ≡ unmoved s'
       ended e z =
           let whole = feeds_all m z ∙ ap (λ b. ready s b part) e in
           let z : drop r.read part ++ more ≡ [] = (λ i. drop_of_length-le part {i = r.read} (long (awaits s) whole) i ++ over e i) in
@@ -232,7 +232,7 @@ module _ {run : Run} {a : Arrays} {last : Bool} {part : Lists.List ℕ} {r : Fed
       (λ l. absurd (go l (subst (λ (o : Served Arrays). (o.refusal ≡ 0) × (length o.bytes + 928 ≤ length buffer)) f.runs (g _ l))))
       (λ n. omega (arith, n))
     where
-      go : f.served < k → (refusal_number r.run.refusal ≡ 0) × (length f.bytes + 928 ≤ length buffer) → ⊥
+      go : f.served < k → (final_number r.run.refusal ≡ 0) × (length f.bytes + 928 ≤ length buffer) → ⊥
       go l w =
           let e : r.more ≡ true = f.more ∙ rw (eq-eqb _ 0 w.0, lt-ltb f.served (ready s last part) (omega arith)) refl in
           omega (arith, f.stops e, w.1, f.written)
@@ -249,20 +249,20 @@ feeds_one {run} {a} {last} {part} {r} {r'} {a₁} {a₂} {buffer} f g =
       ap (λ o. o.session) e,
       omega (arith, f.read, g.read, same),
       f.written ∙ ap (λ o. length o.bytes) e ∙ sym g.written,
-      f.more ∙ (λ i. eqb (refusal_number (e i).session.refusal) 0 && ltb (same i) (ready (run_session run a) last part)) ∙ sym g.more,
+      f.more ∙ (λ i. eqb (final_number (e i).session.refusal) 0 && ltb (same i) (ready (run_session run a) last part)) ∙ sym g.more,
       f.report ∙ ap (λ o. over o.bytes buffer) e ∙ sym g.report,
     )
 
 -- EVERY SEQUENCE OF PARTS comes to the report of the file
 
 fed_runs : (xs : Lists.List Feeding) (run : Run) (a : Arrays) (rest : Lists.List ℕ) (final : Run) → FedBy run a rest xs → Ends xs final
-    → ((ahead (run_session run a) rest).bytes ≡ output xs) × ((ahead (run_session run a) rest).refusal ≡ refusal_number final.refusal)
+    → ((ahead (run_session run a) rest).bytes ≡ output xs) × ((ahead (run_session run a) rest).refusal ≡ final_number final.refusal)
 fed_runs [] run a rest final f e = absurd e
 fed_runs (x ∷ []) run a rest final f e =
     let g = f.2 in
     let q = ap (ahead (run_session run a)) f.0 ∙ feeds_rest g x.behind f.1 ∙ ap (behind g.bytes) (feeds_done g x.behind f.1 e.1 e.2) in (
       ap (λ (o : Served Arrays). o.bytes) q ∙ ap (λ b. b ++ []) (sym (feeds_shown g)),
-      ap (λ (o : Served Arrays). o.refusal) q ∙ ap (λ (u : Run). refusal_number u.refusal) e.0,
+      ap (λ (o : Served Arrays). o.refusal) q ∙ ap (λ (u : Run). final_number u.refusal) e.0,
     )
 fed_runs (x ∷ (y ∷ xs)) run a rest final f e =
     let g = f.2 in
@@ -273,13 +273,13 @@ fed_runs (x ∷ (y ∷ xs)) run a rest final f e =
     )
 
 -- what comes of a run before its first line is what comes of a whole file
-pub run_started : (bs : Lists.List ℕ) → ahead (session 0 Accepted (fresh_table lent 2)) bs ≡ file_run (tables lent) bs
+pub run_started : (bs : Lists.List ℕ) → ahead (session 0 None (fresh_table lent 2)) bs ≡ file_run (tables lent) bs
 unfolding file_run cut
 run_started bs = refl
 
 pub fed_file : (bs : Lists.List ℕ) (xs : Lists.List Feeding) (final : Run)
-    → FedBy (record { lines = 0; count = 2; refusal = Accepted }) (fresh_table lent 2) bs xs → Ends xs final
-    → (file_report (tables lent) bs ≡ output xs) × (file_refusal (tables lent) bs ≡ refusal_number final.refusal)
+    → FedBy (record { lines = 0; refusal = None }) (fresh_table lent 2) bs xs → Ends xs final
+    → (file_report (tables lent) bs ≡ output xs) × (file_refusal (tables lent) bs ≡ final_number final.refusal)
 fed_file bs xs final f e =
     let h = fed_runs xs _ _ bs final f e in
     let q = sym (run_started bs) in

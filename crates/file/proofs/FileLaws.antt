@@ -12,8 +12,8 @@ use lib.Seq.{take_at, drop_at, drop-drop, take-suc, drop-cons, set_at, length-ta
 use lib.Dec.{leb}
 use borrow.Author.Tests.{le-leb, lt-leb}
 use Rattle.transition.specs.Forms.{over, fresh_table}
-use Rattle.moves.specs.Moves.{refusal_number}
-use Rattle.moves.specs.declared.Refusal.TheVariants.{Accepted}
+use Rattle.moves.specs.Moves.{refusal_number, final_number}
+use Rattle.std.specs.Prelude.{Option, Some, None, Result, Ok, Err}
 use Rattle.arrays.specs.Arrays.{Arrays}
 use Rattle.arrays.specs.Form.{lent}
 use Rattle.schedule.specs.Tables.{tables}
@@ -66,7 +66,7 @@ ready_few s rest = go (awaits s)
 -- the parts so far: what they printed, and that the file goes on from where they left it
 pub record Gathered (file out₀ : Lists.List ℕ) (run : Run) (a : Arrays) (long at : ℕ) (out : Lists.List ℕ) : Type 0 where
   pub within : at ≤ length file
-  pub going : refusal_number run.refusal ≡ 0
+  pub going : final_number run.refusal ≡ 0
   pub placed : at ≡ 18 * run.lines
   pub few : long ≤ 928 * run.lines
   pub bytes : Lists.List ℕ
@@ -75,11 +75,11 @@ pub record Gathered (file out₀ : Lists.List ℕ) (run : Run) (a : Arrays) (lon
   pub area : long ≤ length out₀ → out ≡ over bytes out₀
   pub runs : file_run (tables lent) file ≡ behind bytes (ahead (run_session run a) (drop at file))
 
-pub gathered_start : (file out : Lists.List ℕ) {run : Run} {a : Arrays} → run ≡ record { lines = 0; count = 2; refusal = Accepted } → a ≡ fresh_table lent 2
+pub gathered_start : (file out : Lists.List ℕ) {run : Run} {a : Arrays} → run ≡ record { lines = 0; refusal = None } → a ≡ fresh_table lent 2
     → Gathered file out run a 0 0 out
 gathered_start file out {run} {a} e q = record {
   within = omega arith;
-  going = ap (λ (u : Run). refusal_number u.refusal) e;
+  going = ap (λ (u : Run). final_number u.refusal) e;
   placed = omega (arith, ap (λ (u : Run). u.lines) e);
   few = omega arith;
   bytes = [];
@@ -164,7 +164,7 @@ module _ {file out₀ : Lists.List ℕ} {run : Run} {a : Arrays} {long at : ℕ}
 
 module _ {bs : Lists.List ℕ} {r : Ending} {buffer buffer' : Lists.List ℕ} (f : RunsFile bs r buffer buffer') where
   -- it fits, and is written
-  pub file_fits : r.length ≤ length buffer → ReportsFile bs buffer 0 (refusal_number r.refusal) r.length r.length buffer'
+  pub file_fits : r.length ≤ length buffer → ReportsFile bs buffer 0 (final_number r.refusal) r.length r.length buffer'
   file_fits h = record {
     number = rw fit refl;
     final = f.refusal;
@@ -177,7 +177,7 @@ module _ {bs : Lists.List ℕ} {r : Ending} {buffer buffer' : Lists.List ℕ} (f
       fit = le-leb (length (file_report (tables lent) bs)) (length buffer) (omega (arith, f.long))
 
   -- it does not fit, whatever it was written to
-  pub file_short : (out : Lists.List ℕ) → length out < r.length → ReportsFile bs out 7 (refusal_number r.refusal) 0 r.length out
+  pub file_short : (out : Lists.List ℕ) → length out < r.length → ReportsFile bs out 7 (final_number r.refusal) 0 r.length out
   file_short out h = record { number = rw none refl; final = f.refusal; count = rw none refl; long = f.long; report = rw none refl }
     where
       none : leb (length (file_report (tables lent) bs)) (length out) ≡ false

@@ -15,20 +15,18 @@ use borrow.Author.Tests.{eq-eqb, ne_eqb, lt-ltb, le-ltb, eqb-true, ltb-true, ltb
 use Rattle.basics.proofs.Facts.{and_both}
 use Rattle.simulation.specs.Calls.{original}
 use Rattle.transition.specs.Forms.{over, fresh_table}
-use Rattle.moves.specs.Moves.{refusal_number}
-use Rattle.moves.proofs.MoveLaws.{accepted}
+use Rattle.moves.specs.Moves.{refusal_number, final_number}
+use Rattle.moves.proofs.MoveLaws.{positive, accepted}
 use Rattle.moves.specs.declared.Refusal.{Refusal}
-use Rattle.moves.specs.declared.Refusal.TheVariants.{Accepted}
+use Rattle.std.specs.Prelude.{Option, Some, None, Result, Ok, Err}
 use Rattle.arrays.specs.Arrays.{Arrays}
 use Rattle.arrays.specs.Form.{lent}
 use Rattle.schedule.specs.Tables.{tables}
 use Rattle.schedule.specs.Lines.{header_read}
 use Rattle.schedule.specs.Sessions.{Session, session, Served}
 use Rattle.schedule.specs.Files.{cut, printed, run_lines}
-use Rattle.schedule.proofs.SessionLaws.{header_refused, header_length}
+use Rattle.schedule.proofs.SessionLaws.{header_length}
 use Rattle.schedule.proofs.Runs.{printed_refusal}
-use Rattle.schedule.specs.declared.Header.TheVariants as Headers
-use Rattle.schedule.specs.declared.Header.TheVariants.{Stations}
 use Rattle.file.specs.Clauses.{Runnable, read_lines, Reports}
 use Rattle.file.specs.Feeds.{run_session, awaits, run_from, ready, Underway, Feeds, fed_of, Opened}
 use Rattle.file.proofs.FeedLaws.{refused_opened, lines_opened, run_opened, cut_front}
@@ -39,24 +37,24 @@ use Rattle.file.specs.declared.Progress.{Progress}
 -- HOW IT STARTS
 
 -- with nothing: the run has ended, or there is no whole line
-pub ended_none : (run : Run) (a : Arrays) (last : Bool) (part : Lists.List ℕ) → refusal_number run.refusal ≢ 0
-    → (eqb (refusal_number run.refusal) 0 && ltb 0 (ready (run_session run a) last part)) ≡ false
+pub ended_none : (run : Run) (a : Arrays) (last : Bool) (part : Lists.List ℕ) → final_number run.refusal ≢ 0
+    → (eqb (final_number run.refusal) 0 && ltb 0 (ready (run_session run a) last part)) ≡ false
 ended_none run a last part d = rw (ne_eqb _ 0 d) refl
 
 pub waits_none : (run : Run) (a : Arrays) (last : Bool) (part : Lists.List ℕ) → (ltb (length part) 18 && not last) ≡ true
-    → (eqb (refusal_number run.refusal) 0 && ltb 0 (ready (run_session run a) last part)) ≡ false
+    → (eqb (final_number run.refusal) 0 && ltb 0 (ready (run_session run a) last part)) ≡ false
 waits_none run a last part t =
     let b = and_both (ltb (length part) 18) (not last) t in
     let short : length part < 18 = ltb-true (length part) 18 b.0 in
     let none : length part / 18 ≡ 0 = omega arith in
-    rw (not-true last b.1, none) (go (eqb (refusal_number run.refusal) 0))
+    rw (not-true last b.1, none) (go (eqb (final_number run.refusal) 0))
   where
     go : (b : Bool) → (b && ltb 0 0) ≡ false
     go true = refl
     go false = refl
 
 -- with lines
-pub opened_steps : (run : Run) (a : Arrays) (part : Lists.List ℕ) → refusal_number run.refusal ≡ 0 → run.lines ≢ 0 → run.lines ≤ 1000001
+pub opened_steps : (run : Run) (a : Arrays) (part : Lists.List ℕ) → final_number run.refusal ≡ 0 → run.lines ≢ 0 → run.lines ≤ 1000001
     → Opened run a part run.lines 0 a
 opened_steps run a part going some few = record {
   going = going;
@@ -74,7 +72,7 @@ opened_steps run a part going some few = record {
     opened = lines_opened (run_session run a) some
 
 -- with a header
-module _ (run : Run) (a : Arrays) (last : Bool) (part : Lists.List ℕ) (going : refusal_number run.refusal ≡ 0) (first : run.lines ≡ 0) where
+module _ (run : Run) (a : Arrays) (last : Bool) (part : Lists.List ℕ) (going : final_number run.refusal ≡ 0) (first : run.lines ≡ 0) where
   pub waiting : awaits (run_session run a) ≡ true
   waiting = rw (eq-eqb _ 0 going, eq-eqb _ 0 first) refl
 
@@ -85,7 +83,7 @@ module _ (run : Run) (a : Arrays) (last : Bool) (part : Lists.List ℕ) (going :
       go true t = rw waiting (omega arith)
       go false t = omega (arith, ltb-false (length part) 18 (sym (and-true (ltb (length part) 18)) ∙ t))
 
-  pub opened_header : {l : Lists.List ℕ} {n : ℕ} {a₁ : Arrays} → l ≡ take 18 part → header_read original l ≡ Stations n → a₁ ≡ fresh_table lent n
+  pub opened_header : {l : Lists.List ℕ} {n : ℕ} {a₁ : Arrays} → l ≡ take 18 part → header_read original l ≡ Ok n → a₁ ≡ fresh_table lent n
       → Opened run a part 1 18 a₁
   unfolding cut
   opened_header {l} {n} {a₁} q h fresh = record {
@@ -99,7 +97,7 @@ module _ (run : Run) (a : Arrays) (last : Bool) (part : Lists.List ℕ) (going :
     runs = opens;
   }
     where
-      opens : (j : ℕ) → run_from (run_session run a) (cut (1 + j) part) ≡ run_lines (tables lent) (session 1 Accepted a₁) (cut j (drop 18 part))
+      opens : (j : ℕ) → run_from (run_session run a) (cut (1 + j) part) ≡ run_lines (tables lent) (session 1 None a₁) (cut j (drop 18 part))
       opens j =
           let one : 1 + j ≡ suc j = omega arith in
           ap (λ i. run_from (run_session run a) (cut i part)) one ∙ rw (waiting, ← q, h, fresh) refl
@@ -110,7 +108,7 @@ module _ (run : Run) (a : Arrays) (last : Bool) (part buffer : Lists.List ℕ) w
   abbrev kept : Fed
   kept = record { run = run; read = 0; written = 0; more = false }
 
-  pub feeds_none : (eqb (refusal_number run.refusal) 0 && ltb 0 (ready (run_session run a) last part)) ≡ false → Feeds run a last part kept a buffer buffer
+  pub feeds_none : (eqb (final_number run.refusal) 0 && ltb 0 (ready (run_session run a) last part)) ≡ false → Feeds run a last part kept a buffer buffer
   unfolding cut
   feeds_none e = record {
     served = 0;
@@ -130,21 +128,21 @@ module _ (run : Run) (a : Arrays) (last : Bool) (part buffer : Lists.List ℕ) w
   -- a header that is refused
   module _ (wait : awaits (run_session run a) ≡ true) (some : 0 < ready (run_session run a) last part) (room : 928 ≤ length buffer)
       (fresh : awaits (run_session run a) ≡ true → a ≡ fresh_table lent 2) where
-    pub feeds_refused : {x : Refusal} {l : Lists.List ℕ} {w : ℕ} {buffer' : Lists.List ℕ} → header_read original (take 18 part) ≡ Headers.Refused x → l ≡ take 18 part
+    pub feeds_refused : {x : Refusal} {l : Lists.List ℕ} {w : ℕ} {buffer' : Lists.List ℕ} → header_read original (take 18 part) ≡ Err x → l ≡ take 18 part
         → let told = printed 1 (refusal_number x) [] in w ≡ length told → buffer' ≡ over told buffer
-        → Feeds run a last part (record { run = record { lines = 0; count = run.count; refusal = x }; read = length l; written = w; more = false }) a
+        → Feeds run a last part (record { run = record { lines = 0; refusal = Some x }; read = length l; written = w; more = false }) a
         buffer buffer'
     unfolding cut run_lines
     feeds_refused {x} h e p q =
         let told = printed 1 (refusal_number x) [] in
-        let d = header_refused original (take 18 part) x h in
+        let d = positive x in
         record {
           served = 1;
           most = some;
           read = omega (arith, ap length e, length-take 18 part);
           bytes = told;
           runs = rw (wait, h) (λ i. record {
-            session = session 0 x (sym (fresh wait) i);
+            session = session 0 (Some x) (sym (fresh wait) i);
             refusal = refusal_number x;
             bytes = append-nil told i;
           });
@@ -183,7 +181,7 @@ module _ {run : Run} {a : Arrays} {part : Lists.List ℕ} {lines at : ℕ} {a₁
       go false q = omega (arith, f.place, q, f.within)
 
   module _ {chunk : Lists.List ℕ} (e : chunk ≡ take (end - at) (drop at part)) {a' : Arrays} {p : Progress} {buffer buffer' : Lists.List ℕ}
-      (g : Reports (session lines Accepted a₁) chunk a' p buffer buffer') where
+      (g : Reports (session lines None a₁) chunk a' p buffer buffer') where
     abbrev k : ℕ
     k = read_lines p.read
 
@@ -221,18 +219,18 @@ module _ {run : Run} {a : Arrays} {part : Lists.List ℕ} {lines at : ℕ} {a₁
         (λ l. le-ltb (at + p.read) end (omega (arith, l))
         ∙ sym (le-ltb (h + k) (ready (run_session run a) last part) (omega (arith, due, l, lines_within))))
 
-    pub feeds_lines : (n : ℕ) → 928 ≤ length buffer → Feeds run a last part (fed_of n at p end) a' buffer buffer'
+    pub feeds_lines : 928 ≤ length buffer → Feeds run a last part (fed_of at p end) a' buffer buffer'
     unfolding cut
-    feeds_lines n room = record {
+    feeds_lines room = record {
       served = h + k;
       most = omega (arith, due, g.whole, long);
       read = ⊎_elim (λ q. omega (arith, g.whole, long, q, f.place, lines_within)) (λ q. omega (arith, g.whole, long, q.1, f.place, lines_within)) ends;
       bytes = g.bytes;
-      runs = f.runs k ∙ ap (run_lines (tables lent) (session lines Accepted a₁)) (lines_same k (omega arith)) ∙ g.runs;
+      runs = f.runs k ∙ ap (run_lines (tables lent) (session lines None a₁)) (lines_same k (omega arith)) ∙ g.runs;
       written = g.written;
       report = g.report;
       goes = λ j b. by_cases (dec_lt j h) (first j) (λ n. later j (j - h) (omega (arith, n)) (omega (arith, b, n)));
-      more = ap (λ b. eqb (refusal_number p.refusal) 0 && b) more_same;
+      more = ap (λ b. eqb (final_number p.refusal) 0 && b) more_same;
       stops = λ t. no_room (and_both _ _ t);
       short = omega (arith, g.short);
       counted = λ z. omega (arith, g.counted z, f.counted);
@@ -248,16 +246,16 @@ module _ {run : Run} {a : Arrays} {part : Lists.List ℕ} {lines at : ℕ} {a₁
 
         later : (j i : ℕ) → j ≡ h + i → i < k → Fits (run_from (run_session run a) (cut j part))
         later j i q b = subst Fits
-            (sym (ap (λ x. run_from (run_session run a) (cut x part)) q ∙ f.runs i ∙ ap (run_lines (tables lent) (session lines Accepted a₁)) (lines_same i (omega arith))))
+            (sym (ap (λ x. run_from (run_session run a) (cut x part)) q ∙ f.runs i ∙ ap (run_lines (tables lent) (session lines None a₁)) (lines_same i (omega arith))))
             (g.goes i b)
 
-        no_room : (eqb (refusal_number p.refusal) 0 ≡ true) × (ltb (at + p.read) end ≡ true) → length buffer < p.written + 928
+        no_room : (eqb (final_number p.refusal) 0 ≡ true) × (ltb (at + p.read) end ≡ true) → length buffer < p.written + 928
         no_room t = ⊎_elim (λ d. absurd (d (eqb-true _ 0 t.0)))
             (⊎_elim (λ q. absurd (omega (arith, q, long, ltb-true (at + p.read) end t.1))) (λ l. l)) g.stops
 
     -- and the run that is left
-    pub underway_lines : (n : ℕ) {order : Lists.List ℕ} → Runnable a' order → Underway (record { lines = p.lines; count = n; refusal = p.refusal }) a' order
-    underway_lines n x = record {
+    pub underway_lines : {order : Lists.List ℕ} → Runnable a' order → Underway (record { lines = p.lines; refusal = p.refusal }) a' order
+    underway_lines x = record {
       runnable = x;
       few = λ z. (g.counted z).1 f.few.1;
       fresh = λ w. absurd (true≢false (sym w ∙ opened));
@@ -267,12 +265,12 @@ module _ {run : Run} {a : Arrays} {part : Lists.List ℕ} {lines at : ℕ} {a₁
         left = session p.lines p.refusal a'
 
         opened : awaits left ≡ false
-        opened = by_cases (ℕ_discrete (refusal_number p.refusal) 0)
+        opened = by_cases (ℕ_discrete (final_number p.refusal) 0)
             (λ z. lines_opened left (λ e. f.few.0 (omega (arith, (g.counted z).0, e))))
             (λ n. refused_opened left n)
 
-pub underway_refused : {run : Run} {a : Arrays} {order : Lists.List ℕ} → Underway run a order → (n : ℕ) (l : Lists.List ℕ) (x : Refusal)
-    → header_read original l ≡ Headers.Refused x → Underway (record { lines = 0; count = n; refusal = x }) a order
-underway_refused {a = a} f n l x h =
-    let d = header_refused original l x h in
-    record { runnable = f.runnable; few = λ z. absurd (d z); fresh = λ w. absurd (true≢false (sym w ∙ refused_opened (session 0 x a) d)) }
+pub underway_refused : {run : Run} {a : Arrays} {order : Lists.List ℕ} → Underway run a order → (l : Lists.List ℕ) (x : Refusal)
+    → header_read original l ≡ Err x → Underway (record { lines = 0; refusal = Some x }) a order
+underway_refused {a = a} f l x h =
+    let d = positive x in
+    record { runnable = f.runnable; few = λ z. absurd (d z); fresh = λ w. absurd (true≢false (sym w ∙ refused_opened (session 0 (Some x) a) d)) }

@@ -3,21 +3,20 @@ use Rattle.std.specs.Prelude.{ℕ, suc, ◌+◌, ◌*◌, ◌/◌, ◌≤◌, �
 use mathlib.Core.List as Lists
 use Rattle.simulation.specs.Calls.{original}
 use Rattle.transition.specs.Forms.{over, fresh_table}
-use Rattle.moves.specs.Moves.{refusal_number}
-use Rattle.moves.specs.declared.Refusal.TheVariants.{Accepted}
+use Rattle.moves.specs.Moves.{final_number}
+use Rattle.std.specs.Prelude.{Option, Some, None, Result, Ok, Err}
 use Rattle.arrays.specs.Arrays.{Arrays}
 use Rattle.arrays.specs.Form.{lent}
 use Rattle.schedule.specs.Tables.{tables}
 use Rattle.schedule.specs.Lines.{header_read}
 use Rattle.schedule.specs.Sessions.{Session, session, Served, unmoved, header_of}
 use Rattle.schedule.specs.Files.{cut, pieces, header_printed, behind, run_lines}
-use Rattle.schedule.specs.declared.Header.TheVariants as Headers
 use Rattle.file.specs.Clauses.{Runnable}
 use Rattle.file.specs.declared.Run.{Run}
 use Rattle.file.specs.declared.Fed.{Fed}
 use Rattle.file.specs.declared.Progress.{Progress}
 use Rattle.file.specs.declared.Opening.{Opening}
-use Rattle.file.specs.declared.Opening.TheVariants.{Nothing, Refused, Lines}
+use Rattle.moves.specs.declared.Refusal.{Refusal}
 
 -- WHAT IS STILL TO COME
 
@@ -27,7 +26,7 @@ run_session run a = session run.lines run.refusal a
 
 -- it has no line yet, and no refusal: its header is still to come
 abbrev pub awaits : Session Arrays → Bool
-awaits s = eqb (refusal_number s.refusal) 0 && eqb s.lines 0
+awaits s = eqb (final_number s.refusal) 0 && eqb s.lines 0
 
 -- the lines that it is given next: the first of them is the header where that is still to come
 abbrev pub run_from : Session Arrays → Lists.List (Lists.List ℕ) → Served Arrays
@@ -52,7 +51,7 @@ ahead s rest = run_from s (cut (ready s true rest) rest)
 -- that a file can have
 pub record Underway (run : Run) (a : Arrays) (order : Lists.List ℕ) : Type 0 where
   pub runnable : Runnable a order
-  pub few : refusal_number run.refusal ≡ 0 → run.lines ≤ 1000001
+  pub few : final_number run.refusal ≡ 0 → run.lines ≤ 1000001
   pub fresh : awaits (run_session run a) ≡ true → a ≡ fresh_table lent 2
 
 -- a part, lent to the run: the whole outcome (proved unique: FeedLaws, `feeds_one`). The lines served leave the run and print the bytes. Before each of them
@@ -63,14 +62,14 @@ pub record Feeds (run : Run) (a : Arrays) (last : Bool) (part : Lists.List ℕ) 
   pub read : r.read ≡ min (18 * served) (length part)
   pub bytes : Lists.List ℕ
   pub runs : run_from (run_session run a) (cut served part)
-      ≡ record { session = run_session r.run a'; refusal = refusal_number r.run.refusal; bytes = bytes }
+      ≡ record { session = run_session r.run a'; refusal = final_number r.run.refusal; bytes = bytes }
   pub written : r.written ≡ length bytes
   pub report : buffer' ≡ over bytes buffer
   pub goes : (k : ℕ) → k < served → let o = run_from (run_session run a) (cut k part) in (o.refusal ≡ 0) × (length o.bytes + 928 ≤ length buffer)
-  pub more : r.more ≡ (eqb (refusal_number r.run.refusal) 0 && ltb served (ready (run_session run a) last part))
+  pub more : r.more ≡ (eqb (final_number r.run.refusal) 0 && ltb served (ready (run_session run a) last part))
   pub stops : r.more ≡ true → length buffer < r.written + 928
   pub short : r.written ≤ 928 * served
-  pub counted : refusal_number r.run.refusal ≡ 0 → r.run.lines ≡ run.lines + served
+  pub counted : final_number r.run.refusal ≡ 0 → r.run.lines ≡ run.lines + served
 
 -- EVERY SEQUENCE OF PARTS
 
@@ -95,7 +94,7 @@ FedBy run a rest (x ∷ xs) =
 -- the last call ended the run: it was lent the last part and has nothing more to serve, or a line was refused for good
 abbrev pub Ends : Lists.List Feeding → Run → Type 0
 Ends [] run = ⊥
-Ends (x ∷ []) run = (x.fed.run ≡ run) × (x.fed.more ≡ false) × ((x.last ≡ true) ⊎ (refusal_number x.fed.run.refusal ≢ 0))
+Ends (x ∷ []) run = (x.fed.run ≡ run) × (x.fed.more ≡ false) × ((x.last ≡ true) ⊎ (final_number x.fed.run.refusal ≢ 0))
 Ends (x ∷ (y ∷ xs)) run = Ends (y ∷ xs) run
 
 -- all that was written, put together
@@ -106,30 +105,30 @@ output (x ∷ xs) = take x.fed.written x.buffer' ++ output xs
 -- FOR THE CODE OF ONE PART
 
 -- what is told of a part whose lines were served from one place up to another
-abbrev pub fed_of : ℕ → ℕ → Progress → ℕ → Fed
-fed_of n at r end = record {
-  run = record { lines = r.lines; count = n; refusal = r.refusal };
+abbrev pub fed_of : ℕ → Progress → ℕ → Fed
+fed_of at r end = record {
+  run = record { lines = r.lines; refusal = r.refusal };
   read = at + r.read;
   written = r.written;
-  more = eqb (refusal_number r.refusal) 0 && ltb (at + r.read) end;
+  more = eqb (final_number r.refusal) 0 && ltb (at + r.read) end;
 }
 
 -- lines behind `lines` others are served next, from a place of the part on and on the table a': all of the part, or those behind its header
 pub record Opened (run : Run) (a : Arrays) (part : Lists.List ℕ) (lines at : ℕ) (a' : Arrays) : Type 0 where
-  pub going : refusal_number run.refusal ≡ 0
+  pub going : final_number run.refusal ≡ 0
   pub header : ℕ
   pub waits : ((header ≡ 0) × (awaits (run_session run a) ≡ false)) ⊎ ((header ≡ 1) × (awaits (run_session run a) ≡ true))
   pub place : at ≡ 18 * header
   pub within : at ≤ length part
   pub counted : lines ≡ run.lines + header
   pub few : (lines ≢ 0) × (lines ≤ 1000001)
-  pub runs : (k : ℕ) → run_from (run_session run a) (cut (header + k) part) ≡ run_lines (tables lent) (session lines Accepted a') (cut k (drop at part))
+  pub runs : (k : ℕ) → run_from (run_session run a) (cut (header + k) part) ≡ run_lines (tables lent) (session lines None a') (cut k (drop at part))
 
 -- how a part starts: with nothing that can be served, with a header that is refused, or with lines
-abbrev pub Opens : Run → Arrays → Bool → Lists.List ℕ → (ℕ → Arrays) → Lists.List ℕ → Opening → Type 0
-Opens run a last part left order Nothing =
-    (left run.count ≡ a) × Underway run a order × ((eqb (refusal_number run.refusal) 0 && ltb 0 (ready (run_session run a) last part)) ≡ false)
-Opens run a last part left order (Refused x) =
-    (left run.count ≡ a) × Underway run a order × (awaits (run_session run a) ≡ true) × (0 < ready (run_session run a) last part)
-    × (header_read original (take 18 part) ≡ Headers.Refused x)
-Opens run a last part left order (Lines lines n at) = Opened run a part lines at (left n) × Runnable (left n) order
+abbrev pub Opens : Run → Arrays → Bool → Lists.List ℕ → Arrays → Lists.List ℕ → Result (Option Opening) Refusal → Type 0
+Opens run a last part left order (Ok None) =
+    (left ≡ a) × Underway run a order × ((eqb (final_number run.refusal) 0 && ltb 0 (ready (run_session run a) last part)) ≡ false)
+Opens run a last part left order (Err x) =
+    (left ≡ a) × Underway run a order × (awaits (run_session run a) ≡ true) × (0 < ready (run_session run a) last part)
+    × (header_read original (take 18 part) ≡ Err x)
+Opens run a last part left order (Ok (Some o)) = Opened run a part o.lines o.at left × Runnable left order

@@ -5,47 +5,52 @@ ghost use Rattle.std.specs.Prelude.{◌≡◌, ◌≢◌, cond, [], ◌++◌, �
 ghost use Rattle.rows.specs.Held.{Orderly, OrderedBefore};
 ghost use Rattle.simulation.specs.Calls.{Buffer};
 ghost use Rattle.transition.specs.Forms.{over, fresh_table};
-ghost use Rattle.moves.specs.Moves.{refusal_number, call_of};
-ghost use Rattle.moves.specs.declared.Refusal.TheVariants.{Accepted};
+ghost use Rattle.moves.specs.Moves.{final_number, told_number, told_count, call_of};
 ghost use Rattle.moves.specs.declared.Move.TheVariants.{Update};
-ghost use Rattle.arrays.specs.Arrays.{arrays};
 ghost use Rattle.arrays.specs.Form.{lent};
 ghost use Rattle.engine.specs.Scans.{order_of};
 ghost use Rattle.schedule.specs.Sessions.{session};
 ghost use Rattle.schedule.specs.Files.{printed};
+ghost use Rattle.file.specs.Tables.{arrays_in};
 ghost use Rattle.file.specs.Clauses.{Runnable, Turns, Prints, Reports, RunsFile, ReportsFile};
 ghost use Rattle.file.specs.Feeds.{Underway, Feeds, fed_of, Opens};
 
-use arrays::{Control, Jobs, Labels, Results};
+use arrays::{CURRENT, LabelParts, Parts};
 use engine::Handed;
 use moves::{Move, Refusal, Request, Room};
-use schedule::{Header, Next};
 
 // The most bytes that a line prints: 32 report lines of 29.
 const ROOM: usize = 928;
+
+// A table that a file's lines are served on: how many stations it has, their scan order, and its arrays.
+#[derive(Clone, Copy)]
+pub struct OrderedTable {
+    pub count: usize,
+    pub order: [usize; 32],
+    pub parts: LabelParts,
+}
 
 // What lines leave beside the table and the output buffer: how many lines are counted, the final refusal if there is one, the
 // bytes of the part that were read, and the bytes that were printed.
 #[derive(Clone, Copy)]
 struct Progress {
     lines: u32,
-    refusal: Refusal,
+    refusal: Option<Refusal>,
     read: usize,
     written: usize,
 }
 
 // Writes the refusal line that bears the number `line` to the front of `out`, and nothing for no refusal; hands back its bytes.
 #[tactic(auto, using(schedule::proofs::Runs::printed_accepted, schedule::proofs::Runs::printed_refused))]
-pub fn print_refusal(line: u64, refusal: Refusal, out: &mut [u8]) -> usize
+pub fn print_refusal(line: u64, refusal: Option<Refusal>, out: &mut [u8]) -> usize
     requires { 29 ≤ length out.old }
-    ensures value { result ≡ length (printed line (refusal_number refusal) []) }
-    ensures out_after { out.new ≡ over (printed line (refusal_number refusal) []) out.old }
+    ensures value { result ≡ length (printed line (final_number refusal) []) }
+    ensures out_after { out.new ≡ over (printed line (final_number refusal) []) out.old }
 {
-    let k = refusal.number();
-    if k == 0 {
+    let Some(refusal) = refusal else {
         return 0;
-    }
-    columns::write_report_line(&mut out[0..29], line, k, 0, 0, 0);
+    };
+    columns::write_report_line(&mut out[0..29], line, u64::from(refusal), 0, 0, 0);
     29
 }
 
@@ -65,8 +70,7 @@ fn refresh_order(m: Move, place: usize, rows: &[[u8; 31]; 32], n: usize, order: 
     }
 }
 
-// A step call that was served: what it amounts to, the newest station before it, its refusal, and so many entries of the scan result at a place, that of its
-// station, which it hands out.
+// A step call that was accepted: what it amounts to, the newest station before it, and what it hands out.
 #[derive(Clone, Copy)]
 pub struct Turn {
     pub action: Move,
@@ -75,76 +79,70 @@ pub struct Turn {
 }
 
 // Serves a step call, up to what is written of it, and brings the scan order up to date.
-pub fn take_turn(
-    n: usize,
-    request: Request,
-    order: &mut [usize; 32],
-    labels: &mut Labels,
-    jobs: &mut Jobs,
-    control: &mut Control,
-    results: &mut Results,
-) -> Turn
-    requires { Runnable (arrays n labels.old jobs.old control.old results.old) order.old }
-    ensures turns { Turns (arrays n labels.old jobs.old control.old results.old) (call_of request (Buffer 928))
-        (arrays n labels.new jobs.new control.new results.new) result }
-    ensures runnable { Runnable (arrays n labels.new jobs.new control.new results.new) order.new }
+pub fn take_turn(request: Request, table: &mut OrderedTable) -> Result<Turn, Refusal>
+    requires { Runnable (arrays_in table.old) table.old.order }
+    ensures turns { Turns (arrays_in table.old) (call_of request (Buffer 928)) (arrays_in table.new) result }
+    ensures runnable { Runnable (arrays_in table.new) table.new.order }
 {
-    let top = order[n - 1];
-    let task = engine::judge(n, request, control, results, Room::Buffer(ROOM), top);
-    let h = engine::carry_out(n, task, order, labels, jobs, control, results);
-    let m = task.action;
-    refresh_order(m, task.place, &labels[0], n, order);
-    Turn {
-        action: m,
-        newest: top,
-        handed: h,
-    }
+    let n = table.count;
+    let newest = table.order[n - 1];
+    let judged = engine::judge(
+        n,
+        request,
+        &table.parts.control,
+        &table.parts.results,
+        Room::Buffer(ROOM),
+        newest,
+    );
+    let handed = engine::carry_out(
+        n,
+        judged,
+        &table.order,
+        &mut table.parts.labels,
+        &mut table.parts.jobs,
+        &mut table.parts.control,
+        &mut table.parts.results,
+    )?;
+    let task = judged?;
+    let parts = &table.parts;
+    refresh_order(
+        task.action,
+        task.place,
+        &parts.labels[CURRENT],
+        n,
+        &mut table.order,
+    );
+    Ok(Turn {
+        action: task.action,
+        newest,
+        handed,
+    })
 }
 
 // Serves a step line: prints its report or its refusal to the front of `out`, and hands back its bytes.
-fn serve_line(
-    n: usize,
-    request: Request,
-    order: &mut [usize; 32],
-    labels: &mut Labels,
-    jobs: &mut Jobs,
-    control: &mut Control,
-    results: &mut Results,
-    out: &mut [u8],
-) -> usize
-    requires runnable { Runnable (arrays n labels.old jobs.old control.old results.old) order.old }
+fn serve_line(request: Request, table: &mut OrderedTable, out: &mut [u8]) -> usize
+    requires runnable { Runnable (arrays_in table.old) table.old.order }
     requires out_len { length out.old ≡ 928 }
-    ensures prints { Prints (arrays n labels.old jobs.old control.old results.old)
-        (call_of request (Buffer 928)) out.old
-        (arrays n labels.new jobs.new control.new results.new) result out.new }
-    ensures runnable_2 { Runnable (arrays n labels.new jobs.new control.new results.new) order.new }
+    ensures prints { Prints (arrays_in table.old) (call_of request (Buffer 928)) out.old (arrays_in table.new) result out.new }
+    ensures runnable_2 { Runnable (arrays_in table.new) table.new.order }
 {
-    let t = take_turn(n, request, order, labels, jobs, control, results);
-    let handed = t.handed;
-    let refusal = handed.refusal;
-    let place = handed.place;
-    let written = engine::write_result(&results[place], handed.entries, request.line, out);
-    written + print_refusal(request.line, refusal, out)
+    match take_turn(request, table) {
+        Ok(turn) => {
+            let Handed { place, entries } = turn.handed;
+            engine::write_result(&table.parts.results[place], entries, request.line, out)
+        }
+        Err(refusal) => print_refusal(request.line, Some(refusal), out),
+    }
 }
 
 // Serves the lines of a part of the file after `lines` others, and writes what they print: up to a final refusal, or until there is no room for the report
 // of another line.
-fn report_lines(
-    lines: u32,
-    n: usize,
-    order: &mut [usize; 32],
-    labels: &mut Labels,
-    jobs: &mut Jobs,
-    control: &mut Control,
-    results: &mut Results,
-    chunk: &[u8],
-    out: &mut [u8],
-) -> Progress
-    requires { Runnable (arrays n labels.old jobs.old control.old results.old) order.old }
+fn report_lines(lines: u32, table: &mut OrderedTable, chunk: &[u8], out: &mut [u8]) -> Progress
+    requires { Runnable (arrays_in table.old) table.old.order }
     ensures reports { Reports
-        (session lines Accepted (arrays n labels.old jobs.old control.old results.old)) chunk.now
-        (arrays n labels.new jobs.new control.new results.new) result out.old out.new }
-    ensures runnable { Runnable (arrays n labels.new jobs.new control.new results.new) order.new }
+        (session lines None (arrays_in table.old)) chunk.now
+        (arrays_in table.new) result out.old out.new }
+    ensures runnable { Runnable (arrays_in table.new) table.new.order }
 {
     let mut count = lines;
     let mut written = 0;
@@ -153,42 +151,36 @@ fn report_lines(
         if out.len() - written < ROOM {
             return Progress {
                 lines: count,
-                refusal: Refusal::Accepted,
+                refusal: None,
                 read: at,
                 written,
             };
         }
         match schedule::next_call(count, chunk, at) {
-            Next::End => {
+            Ok(None) => {
                 return Progress {
                     lines: count,
-                    refusal: Refusal::Accepted,
+                    refusal: None,
                     read: at,
                     written,
                 };
             }
-            Next::Refused(refusal) => {
+            Err(refusal) => {
                 let line = schedule::line_at(chunk, at);
-                let number = count as u64 + 1;
-                let k = print_refusal(number, refusal, &mut out[written..written + ROOM]);
+                let k = print_refusal(
+                    u64::from(count) + 1,
+                    Some(refusal),
+                    &mut out[written..written + ROOM],
+                );
                 return Progress {
                     lines: count,
-                    refusal,
+                    refusal: Some(refusal),
                     read: at + line.len(),
                     written: written + k,
                 };
             }
-            Next::Call(request) => {
-                let k = serve_line(
-                    n,
-                    request,
-                    order,
-                    labels,
-                    jobs,
-                    control,
-                    results,
-                    &mut out[written..written + ROOM],
-                );
+            Ok(Some(request)) => {
+                let k = serve_line(request, table, &mut out[written..written + ROOM]);
                 count += 1;
                 written += k;
                 at += 18;
@@ -197,12 +189,11 @@ fn report_lines(
     }
 }
 
-// A file in its run: how many lines are counted, 0 before the header; how many stations its table has; and its final refusal, if there is one.
+// A file in its run: how many lines are counted, 0 before the header; and its final refusal, if there is one.
 #[derive(Clone, Copy)]
 pub struct Run {
     pub lines: u32,
-    pub count: usize,
-    pub refusal: Refusal,
+    pub refusal: Option<Refusal>,
 }
 
 // What a part of the file leaves beside the table and the output buffer: the run, the bytes of the part that were read, the bytes that were printed, and
@@ -215,42 +206,45 @@ pub struct Fed {
     pub more: bool,
 }
 
-// Writes the fresh table of n stations, and its scan order.
-fn refresh(
-    n: usize,
-    order: &mut [usize; 32],
-    labels: &mut Labels,
-    jobs: &mut Jobs,
-    control: &mut Control,
-    results: &mut Results,
-)
+// The fresh table of n stations, with its scan order.
+pub fn fresh(n: usize) -> OrderedTable
     requires { (2 ≤ n) × (n ≤ 32) }
-    ensures results_after { arrays n labels.new jobs.new control.new results.new ≡ fresh_table lent n }
-    ensures runnable { Runnable (arrays n labels.new jobs.new control.new results.new) order.new }
+    ensures count_value { result.count ≡ n }
+    ensures value { arrays_in result ≡ fresh_table lent n }
+    ensures runnable { Runnable (arrays_in result) result.order }
 {
-    arrays::refresh(n, labels, jobs, control, results);
-    *order = rows::order::order(&labels[0], n);
+    let mut parts = Parts::of(
+        [[[0; 31]; 32]; 2],
+        [[0; 32]; 2],
+        [[0; 32]; 2],
+        [[[0; 32]; 2]; 32],
+    );
+    arrays::refresh(
+        n,
+        &mut parts.labels,
+        &mut parts.jobs,
+        &mut parts.control,
+        &mut parts.results,
+    );
+    let order = rows::order::order(&parts.labels[CURRENT], n);
+    OrderedTable {
+        count: n,
+        order,
+        parts,
+    }
 }
 
-// A run before its first line.
-pub fn start(
-    order: &mut [usize; 32],
-    labels: &mut Labels,
-    jobs: &mut Jobs,
-    control: &mut Control,
-    results: &mut Results,
-) -> Run
-    ensures value { result ≡ record { lines = 0; count = 2; refusal = Accepted } }
-    ensures results_after { arrays result.count labels.new jobs.new control.new results.new ≡ fresh_table lent 2 }
-    ensures underway { Underway result (arrays result.count labels.new jobs.new control.new results.new)
-        order.new }
+// A run before its first line, and its table.
+pub fn start() -> (Run, OrderedTable)
+    ensures run_value { result.0 ≡ record { lines = 0; refusal = None } }
+    ensures table_value { arrays_in result.1 ≡ fresh_table lent 2 }
+    ensures underway { Underway result.0 (arrays_in result.1) result.1.order }
 {
-    refresh(2, order, labels, jobs, control, results);
-    Run {
+    let run = Run {
         lines: 0,
-        count: 2,
-        refusal: Refusal::Accepted,
-    }
+        refusal: None,
+    };
+    (run, fresh(2))
 }
 
 // Where the lines of a part end that can be served: behind the whole ones, and at the end of the last part.
@@ -264,142 +258,90 @@ fn end_of(len: usize, last: bool) -> usize
 }
 
 // What a part leaves whose lines were served from one place up to another.
-fn fed_by(n: usize, at: usize, r: Progress, end: usize) -> Fed
+fn fed_by(at: usize, r: Progress, end: usize) -> Fed
     requires { at + r.read ≤ end }
-    ensures { result ≡ fed_of n at r end }
+    ensures { result ≡ fed_of at r end }
 {
-    let refusal = r.refusal;
     Fed {
         run: Run {
             lines: r.lines,
-            count: n,
-            refusal,
+            refusal: r.refusal,
         },
         read: at + r.read,
         written: r.written,
-        more: !refusal.refuses() & (at + r.read < end),
+        more: r.refusal.is_none() & (at + r.read < end),
     }
 }
 
-// How a part starts: with nothing that can be served, with a header that is refused, or with lines behind `lines` others, from a place on, on a table of
-// `count` stations.
+// Lines that can be served of a part: from a place on, behind `lines` others.
 #[derive(Clone, Copy)]
-enum Opening {
-    Nothing,
-    Refused(Refusal),
-    Lines { lines: u32, count: usize, at: usize },
+struct Opening {
+    lines: u32,
+    at: usize,
 }
 
-// Reads the header where it is still to come, and writes the fresh table of its stations.
+// Reads the header where it is still to come, and writes the fresh table of its stations. What can be served then, if anything can; or the header is refused.
 fn open_part(
     run: Run,
     last: bool,
-    order: &mut [usize; 32],
-    labels: &mut Labels,
-    jobs: &mut Jobs,
-    control: &mut Control,
-    results: &mut Results,
+    table: &mut OrderedTable,
     part: &[u8],
-) -> Opening
-    requires { Underway run (arrays run.count labels.old jobs.old control.old results.old) order.old }
-    ensures { Opens run (arrays run.count labels.old jobs.old control.old results.old) last
-        part.now (λ n. arrays n labels.new jobs.new control.new results.new) order.new result }
+) -> Result<Option<Opening>, Refusal>
+    requires { Underway run (arrays_in table.old) table.old.order }
+    ensures { Opens run (arrays_in table.old) last part.now (arrays_in table.new) table.new.order result }
 {
-    let refusal = run.refusal;
-    if refusal.refuses() {
-        return Opening::Nothing;
+    if run.refusal.is_some() {
+        return Ok(None);
     }
     if run.lines != 0 {
-        return Opening::Lines {
+        return Ok(Some(Opening {
             lines: run.lines,
-            count: run.count,
             at: 0,
-        };
+        }));
     }
     if (part.len() < 18) & !last {
-        return Opening::Nothing;
+        return Ok(None);
     }
-    match schedule::read_header(schedule::line_at(part, 0)) {
-        Header::Refused(refusal) => Opening::Refused(refusal),
-        Header::Stations(n) => {
-            refresh(n, order, labels, jobs, control, results);
-            Opening::Lines {
-                lines: 1,
-                count: n,
-                at: 18,
-            }
-        }
-    }
-}
-
-// The number of stations as it is. The compiler is told that there are two at least, which saves the loops over them a test and a copy.
-fn stations(n: usize) -> usize
-    requires { 2 ≤ n }
-    ensures { result ≡ n }
-{
-    if n < 2 {
-        return 2;
-    }
-    n
+    let n = schedule::read_header(schedule::line_at(part, 0))?;
+    *table = fresh(n);
+    Ok(Some(Opening { lines: 1, at: 18 }))
 }
 
 // Serves a part of the file, the header first where it is still to come, and writes what the lines print. What is left unread of the part, a line that is
 // not whole or lines for whose report there is no room, stands at the front of the next one.
-pub fn feed(
-    run: Run,
-    last: bool,
-    order: &mut [usize; 32],
-    labels: &mut Labels,
-    jobs: &mut Jobs,
-    control: &mut Control,
-    results: &mut Results,
-    part: &[u8],
-    out: &mut [u8],
-) -> Fed
-    requires underway { Underway run (arrays run.count labels.old jobs.old control.old results.old) order.old }
+pub fn feed(run: Run, last: bool, table: &mut OrderedTable, part: &[u8], out: &mut [u8]) -> Fed
+    requires underway { Underway run (arrays_in table.old) table.old.order }
     requires in_bounds { 928 ≤ length out.old }
-    ensures feeds { Feeds run (arrays run.count labels.old jobs.old control.old results.old) last
-        part.now result (arrays result.run.count labels.new jobs.new control.new results.new)
+    ensures feeds { Feeds run (arrays_in table.old) last
+        part.now result (arrays_in table.new)
         out.old out.new }
-    ensures underway_2 { Underway result.run (arrays result.run.count labels.new jobs.new control.new results.new)
-        order.new }
+    ensures underway_2 { Underway result.run (arrays_in table.new)
+        table.new.order }
 {
     let end = end_of(part.len(), last);
-    match open_part(run, last, order, labels, jobs, control, results, part) {
-        Opening::Nothing => Fed {
+    match open_part(run, last, table, part) {
+        Ok(None) => Fed {
             run,
             read: 0,
             written: 0,
             more: false,
         },
-        Opening::Refused(refusal) => {
+        Err(refusal) => {
             let header = schedule::line_at(part, 0);
-            let written = print_refusal(1, refusal, out);
+            let written = print_refusal(1, Some(refusal), out);
             Fed {
                 run: Run {
                     lines: 0,
-                    count: run.count,
-                    refusal,
+                    refusal: Some(refusal),
                 },
                 read: header.len(),
                 written,
                 more: false,
             }
         }
-        Opening::Lines { lines, count, at } => {
-            let n = stations(count);
-            let r = report_lines(
-                lines,
-                n,
-                order,
-                labels,
-                jobs,
-                control,
-                results,
-                &part[at..end],
-                out,
-            );
-            fed_by(n, at, r, end)
+        Ok(Some(Opening { lines, at })) => {
+            let r = report_lines(lines, table, &part[at..end], out);
+            fed_by(at, r, end)
         }
     }
 }
@@ -411,13 +353,8 @@ fn put(bytes: &[u8], out: &mut [u8], at: usize) -> usize
     ensures out_after { result ≤ length out.old → out.new ≡ over (take at out.old ++ bytes.now) out.old }
 {
     let end = at + bytes.len();
-    if out.len() < end {
-        return end;
-    }
-    let mut i = 0;
-    while i < bytes.len() {
-        out[at + i] = bytes[i];
-        i += 1;
+    if end <= out.len() {
+        out[at..end].copy_from_slice(bytes);
     }
     end
 }
@@ -425,7 +362,7 @@ fn put(bytes: &[u8], out: &mut [u8], at: usize) -> usize
 // The final refusal of a file, and the length of its report.
 #[derive(Clone, Copy)]
 struct Ending {
-    refusal: Refusal,
+    refusal: Option<Refusal>,
     length: usize,
 }
 
@@ -433,64 +370,41 @@ struct Ending {
 fn run_file(file: &[u8], out: &mut [u8]) -> Ending
     ensures { RunsFile file.now result out.old out.new }
 {
-    let mut order = [0usize; 32];
-    let mut labels = [[[0u8; 31]; 32]; 2];
-    let mut jobs = [[0u32; 32]; 2];
-    let mut control = [[0u8; 32]; 2];
-    let mut results = [[[0u32; 32]; 2]; 32];
-    let mut run = start(
-        &mut order,
-        &mut labels,
-        &mut jobs,
-        &mut control,
-        &mut results,
-    );
+    let (mut run, mut table) = start();
     let mut scratch = [0u8; 4096];
     let mut length = 0;
     let mut at = 0;
     loop {
-        let fed = feed(
-            run,
-            true,
-            &mut order,
-            &mut labels,
-            &mut jobs,
-            &mut control,
-            &mut results,
-            schedule::from(file, at),
-            &mut scratch,
-        );
-        let k = fed.written;
-        length = put(&scratch[..k], out, length);
-        let next = fed.run;
+        let part = schedule::from(file, at);
+        let fed = feed(run, true, &mut table, part, &mut scratch);
+        length = put(&scratch[..fed.written], out, length);
+        run = fed.run;
         if !fed.more {
-            let refusal = next.refusal;
-            return Ending { refusal, length };
+            return Ending {
+                refusal: run.refusal,
+                length,
+            };
         }
-        run = next;
         at += fed.read;
     }
 }
 
-// What the call that reports a file tells: its own refusal, 7 if the report does not fit; the final refusal of the file; how many bytes were written, and how
-// long the report is.
+// What the call that reports a file tells: how many bytes were written, or its own refusal, 7 if the report does not fit; the final refusal of the file; and
+// how long the report is.
 #[derive(Clone, Copy)]
 pub struct FileReply {
-    pub refusal: Refusal,
-    pub ended: Refusal,
-    pub written: usize,
+    pub reply: Result<usize, Refusal>,
+    pub ended: Option<Refusal>,
     pub length: usize,
 }
 
 // What is told of a report that is written.
 fn reported(whole: Ending) -> FileReply
-    ensures { result ≡ record { refusal = Accepted; ended = whole.refusal; written = whole.length; length = whole.length } }
+    ensures { result ≡ record { reply = Ok whole.length; ended = whole.refusal; length = whole.length } }
 {
-    let ended = whole.refusal;
     FileReply {
-        refusal: Refusal::Accepted,
-        ended,
-        written: whole.length,
+        reply: Ok(whole.length),
+        ended: whole.refusal,
         length: whole.length,
     }
 }
@@ -498,7 +412,7 @@ fn reported(whole: Ending) -> FileReply
 // Writes the report of a whole file; 7, and nothing is written, if it does not fit. Where there is no room for 928 bytes for each line, a first run tells how
 // long the report is.
 pub fn report(file: &[u8], out: &mut [u8]) -> FileReply
-    ensures { ReportsFile file.now out.old (refusal_number result.refusal) (refusal_number result.ended) result.written result.length
+    ensures { ReportsFile file.now out.old (told_number result.reply) (final_number result.ended) (told_count result.reply) result.length
         out.new }
 {
     if file.len() / 18 < out.len() / ROOM {
@@ -507,11 +421,9 @@ pub fn report(file: &[u8], out: &mut [u8]) -> FileReply
     let mut scratch = [0u8; 29];
     let first = run_file(file, &mut scratch);
     if out.len() < first.length {
-        let ended = first.refusal;
         return FileReply {
-            refusal: Refusal::NoRoom,
-            ended,
-            written: 0,
+            reply: Err(Refusal::NoRoom),
+            ended: first.refusal,
             length: first.length,
         };
     }

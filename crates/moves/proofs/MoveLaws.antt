@@ -1,14 +1,9 @@
 -- What a judged move tells, and where a station's place is.
 use Prim.Native.Nat.{ℕ, ◌-◌, ◌≤◌, ◌<◌}
 use native.Mathlib.Omega.{arith}
-use mathlib.Core.Path.{◌≡◌, refl, sym, ap, subst, ◌∙◌}
+use mathlib.Core.Path.{◌≡◌, refl, sym, ap, ◌∙◌}
 use mathlib.Core.Logic.{◌≢◌}
-use mathlib.Core.Bool.{Bool, true, false, not, cond}
-use mathlib.Core.List.{List}
-use lib.Dec.{T}
-use mir.Val.{has_key}
-use types.Run.{OneOf, miss}
-use denote.Enum.Declared.{tag_of}
+use mathlib.Core.Bool.{Bool, true, false, cond}
 use Rattle.std.specs.Prelude.{Option, Some, None, is_some}
 use Rattle.basics.specs.Tests.{within}
 use Rattle.basics.proofs.Facts.{tf, within_true}
@@ -20,8 +15,6 @@ use Rattle.moves.specs.Moves.{refusal_number, final_number, move_of, place_of}
 use Rattle.moves.specs.declared.Move.{Move}
 use Rattle.moves.specs.declared.Move.TheVariants.{BeginLabel, SnapLabel, SnapScan, Update, EndLabel, EndScan, LeaveService, ReturnToService}
 use Rattle.moves.specs.declared.Refusal.{Refusal}
-use Rattle.moves.specs.declared.Refusal.TheVariants as Refusals
-use Rattle.moves.specs.contracts.Move.{the_type}
 
 -- a fact about every move, from one for each
 pub by_move : (P : Move → Type 0) → P BeginLabel → P SnapLabel → P SnapScan → P Update → P EndLabel → P EndScan
@@ -34,10 +27,6 @@ by_move P a b c d e f g h EndLabel = e
 by_move P a b c d e f g h EndScan = f
 by_move P a b c d e f g h LeaveService = g
 by_move P a b c d e f g h ReturnToService = h
-
--- a move in an arm for these tags is none that the arm leaves out
-pub not_among : (tags : List ℕ) (x : Move) → T (not (has_key tags (tag_of the_type x))) → (m : Move) → OneOf tags (tag_of the_type m) → m ≢ x
-not_among tags x out m h e = miss tags (tag_of the_type x) out (subst (λ y. OneOf tags (tag_of the_type y)) e h)
 
 -- what a move does to the labels does not depend on its job; and every move but a snap for a label and an update leaves them
 pub step_any : (k job : ℕ) (m : Move) → label_step (move_of k 0 m) ≡ label_step (move_of k job m)
@@ -62,23 +51,7 @@ place_below n station h = go (within 1 n station) refl
 
 -- no refusal has the number 0, so 0 tells of none
 pub positive : (r : Refusal) → refusal_number r ≢ 0
-positive Refusals.StationCount e = absurd (omega arith)
-positive Refusals.UnknownStation e = absurd (omega arith)
-positive Refusals.Busy e = absurd (omega arith)
-positive Refusals.NoSnapDue e = absurd (omega arith)
-positive Refusals.NoUpdateDue e = absurd (omega arith)
-positive Refusals.NothingToEnd e = absurd (omega arith)
-positive Refusals.NoRoom e = absurd (omega arith)
-positive Refusals.IncompleteLine e = absurd (omega arith)
-positive Refusals.MalformedColumn e = absurd (omega arith)
-positive Refusals.UnknownStep e = absurd (omega arith)
-positive Refusals.JobOutOfRange e = absurd (omega arith)
-positive Refusals.TooManyLines e = absurd (omega arith)
-positive Refusals.IllFormedTable e = absurd (omega arith)
-positive Refusals.OutOfService e = absurd (omega arith)
-positive Refusals.InService e = absurd (omega arith)
-positive Refusals.TooManySteps e = absurd (omega arith)
-positive Refusals.ListTooShort e = absurd (omega arith)
+positive r e = grind arith
 
 pub accepted : (r : Option Refusal) → final_number r ≡ 0 → r ≡ None
 accepted None e = refl

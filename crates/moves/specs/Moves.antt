@@ -7,7 +7,7 @@ use Rattle.moves.specs.declared.Operation.{Operation}
 use Rattle.moves.specs.declared.Operation.TheVariants.{Label, Scan}
 use Rattle.moves.specs.declared.Phase.{Phase}
 use Rattle.moves.specs.declared.Phase.TheVariants.{Idle, Snap, Update, End}
-use Rattle.moves.specs.declared.Standing.{Standing}
+use Rattle.moves.specs.declared.standing.Standing.{Standing}
 use Rattle.moves.specs.declared.Room.{Room}
 use Rattle.moves.specs.declared.Room.TheVariants.{Buffer, Panel}
 use Rattle.moves.specs.declared.Refusal.{Refusal}

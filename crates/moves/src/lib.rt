@@ -5,6 +5,10 @@ ghost use Rattle.std.specs.Prelude.{◌≡◌, true, ℕ, ◌-◌, ◌≤◌};
 ghost use Rattle.simulation.specs.Calls.{unless, job_fits, not_due, needs_service, by_service, holds, original, by_phase, judge_in};
 ghost use Rattle.moves.specs.Moves.{phase_of, room_of, standing_of, refusal_number, final_number, step_code, Decodes, judged_of, called, directly, place_of};
 
+mod standing;
+
+pub use standing::Standing;
+
 // What a process is doing: it takes a label, or it scans (document 01: mark, list).
 #[derive(Clone, Copy)]
 pub enum Operation {
@@ -132,22 +136,13 @@ pub enum Move {
     ReturnToService,
 }
 
-// What a call is judged by of the station that it names: its phase, whether it is out of service, and how many stations its scan result shows.
-#[derive(Clone, Copy)]
-pub struct Standing {
-    pub phase: Phase,
-    pub out: bool,
-    pub shown: usize,
-}
-
-// Whether there is room for so many stations.
-fn room_for(shown: usize, room: Room) -> bool
-    requires { shown ≤ 32 }
-    ensures { result ≡ holds (room_of room) shown }
+// Whether there is room for what its scan result shows.
+fn room_for(own: Standing, room: Room) -> bool
+    ensures { result ≡ holds (room_of room) own.shown }
 {
     match room {
-        Room::Buffer(bytes) => shown * 29 <= bytes,
-        Room::Panel(records) => shown <= records,
+        Room::Buffer(bytes) => own.shown * 29 <= bytes,
+        Room::Panel(records) => own.shown <= records,
     }
 }
 
@@ -163,14 +158,13 @@ fn not_due(step: Step) -> Refusal
     }
 }
 
-// What a step with a fitting job amounts to, by the phase of its station and how many stations its scan result shows.
+// What a step with a fitting job amounts to, by the phase of its station and what its scan result shows.
 #[tactic(auto, unfolding(simulation::specs::Calls::unless))]
-fn by_phase(shown: usize, step: Step, room: Room, p: Phase) -> Result<Move, Refusal>
-    requires { shown ≤ 32 }
+fn by_phase(own: Standing, step: Step, room: Room) -> Result<Move, Refusal>
     ensures { (line station job : ℕ) → judged_of (station - 1) job result
-        ≡ by_phase original true shown (called line (step_code step) station job (room_of room)) (phase_of p) }
+        ≡ by_phase original true own.shown (called line (step_code step) station job (room_of room)) (phase_of own.phase) }
 {
-    match (p, step) {
+    match (own.phase, step) {
         (Phase::Idle, Step::BeginLabel) => Ok(Move::BeginLabel),
         (Phase::Idle, Step::Scan) => Ok(Move::SnapScan),
         (Phase::Idle, Step::LeaveService) => Ok(Move::LeaveService),
@@ -179,7 +173,7 @@ fn by_phase(shown: usize, step: Step, room: Room, p: Phase) -> Result<Move, Refu
         (Phase::Update, Step::Update) => Ok(Move::Update),
         (Phase::End(Operation::Label), Step::End) => Ok(Move::EndLabel),
         (Phase::End(Operation::Scan), Step::End) => {
-            if room_for(shown, room) {
+            if room_for(own, room) {
                 Ok(Move::EndScan)
             } else {
                 Err(Refusal::NoRoom)
@@ -199,7 +193,6 @@ fn needs_service(step: Step) -> bool
 // What a step with a fitting job amounts to: whether its station is out of service is judged first, and then the phase.
 #[tactic(auto, unfolding(simulation::specs::Calls::unless))]
 fn by_service(own: Standing, step: Step, room: Room) -> Result<Move, Refusal>
-    requires { own.shown ≤ 32 }
     ensures { (line station job : ℕ) → judged_of (station - 1) job result ≡ by_service own.out (step_code step)
         (by_phase original true own.shown (called line (step_code step) station job (room_of room)) (phase_of own.phase)) }
 {
@@ -209,7 +202,7 @@ fn by_service(own: Standing, step: Step, room: Room) -> Result<Move, Refusal>
     if !own.out && step == Step::ReturnToService {
         return Err(Refusal::InService);
     }
-    by_phase(own.shown, step, room, own.phase)
+    by_phase(own, step, room)
 }
 
 // Whether a step takes this job.
@@ -217,7 +210,7 @@ fn job_fits(step: Step, job: u64) -> bool
     ensures { result ≡ job_fits (step_code step) job }
 {
     match step {
-        Step::BeginLabel => 1 <= job && job <= 4294967295,
+        Step::BeginLabel => (1..=4294967295).contains(&job),
         _ => job == 0,
     }
 }
@@ -225,7 +218,6 @@ fn job_fits(step: Step, job: u64) -> bool
 // What a step of one of n stations amounts to: its job is judged first.
 #[tactic(auto, unfolding(simulation::specs::Calls::unless))]
 fn by_code(own: Standing, step: Step, job: u64, room: Room) -> Result<Move, Refusal>
-    requires { own.shown ≤ 32 }
     ensures { (line station : ℕ) → judged_of (station - 1) job result ≡ unless (job_fits (step_code step) job) 11 (by_service own.out (step_code step)
         (by_phase original true own.shown (called line (step_code step) station job (room_of room)) (phase_of own.phase))) }
 {
@@ -245,12 +237,11 @@ pub fn judge(
     job: u64,
     room: Room,
 ) -> Result<Move, Refusal>
-    requires { own.shown ≤ 32 }
     ensures { (line : ℕ) → judged_of (place_of n station) job result
         ≡ judge_in original n (standing_of own) (called line code station job (room_of room)) }
 {
     let step = Step::try_from(code)?;
-    if station < 1 || (n as u64) < station {
+    if !(1..=n as u64).contains(&station) {
         return Err(Refusal::UnknownStation);
     }
     by_code(own, step, job, room)
@@ -261,8 +252,9 @@ pub fn place_of(station: u64, n: usize) -> usize
     requires { 1 ≤ n }
     ensures { result ≡ place_of n station }
 {
-    if station < 1 || (n as u64) < station {
-        return 0;
+    if (1..=n as u64).contains(&station) {
+        (station - 1) as usize
+    } else {
+        0
     }
-    (station - 1) as usize
 }

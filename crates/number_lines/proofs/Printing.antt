@@ -4,9 +4,9 @@ use native.Mathlib.Numerals.{add-one}
 use native.Mathlib.Omega.{arith}
 use mathlib.Core.Path.{◌≡◌, refl, sym, ap, ◌∙◌}
 use mathlib.Core.List.{List, [], ◌∷◌, ◌++◌, append_assoc, append-nil}
-use lib.ListN.{length, get_or, take, drop, set, length-append, length-take, drop_of_length-le}
-use lib.Seq.{length-take-le, take-suc, drop-cons, set_at}
-use borrow.Rule.Slice.PartMut.{mid_of, put_mid}
+use lib.ListN.{length, get_or, take, drop, length-append}
+use lib.Seq.{length-take-le, take-suc}
+use borrow.Rule.Slice.PartMut.{put_mid}
 use Rattle.basics.proofs.Filled.{put_behind}
 use Rattle.columns.specs.Columns.{column}
 use Rattle.columns.proofs.ColumnLaws.{length_column}
@@ -20,17 +20,6 @@ pub length_numbers : (ns : List ℕ) → length (number_lines ns) ≡ length ns 
 unfolding number_lines
 length_numbers [] = refl
 length_numbers (v ∷ ns) = omega (arith, length-append (number_line v) (number_lines ns), length_number v, length_numbers ns)
-
--- a column, and the line's end behind it
-pub number_written : (out y : List ℕ) (v : ℕ) → length out ≡ 12 → y ≡ column (length (mid_of 0 11 out)) v → set (put_mid 0 11 out y) 11 10 ≡ number_line v
-unfolding number_line
-number_written out y v h e =
-    let wide : length (mid_of 0 11 out) ≡ 11 = length-take 11 (drop 0 out) ∙ omega arith in
-    let column_is : y ≡ column 11 v = e ∙ ap (λ k. column k v) wide in
-    let long : length y ≡ 11 = ap length column_is ∙ length_column 11 v in
-    let last : drop 11 out ≡ get_or out 11 0 ∷ []
-    = drop-cons out 11 0 (omega arith) ∙ ap (λ l. get_or out 11 0 ∷ l) (drop_of_length-le out {i = 12} (omega arith)) in
-    ap (λ l. set (y ++ l) 11 10) last ∙ set_at y (get_or out 11 0) [] 10 11 long ∙ ap (λ l. l ++ (10 ∷ [])) column_is
 
 pub numbers_append : (l m : List ℕ) → number_lines (l ++ m) ≡ number_lines l ++ number_lines m
 unfolding number_lines

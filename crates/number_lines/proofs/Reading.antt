@@ -89,73 +89,78 @@ pub lines_more : (k : ℕ) (bs : List ℕ) (v : ℕ) → number_read bs ≡ Some
 unfolding lines_read
 lines_more k bs v e = ap (λ (r : Option ℕ). elim r [ Some v ↦ v ∷ lines_read k (drop 12 bs) | None ↦ [] ]) e
 
--- THE LOOP: `count` numbers are read, and all that are to be read are these and those of the bytes from `at` on; the rest of the list is the old one
-pub record ReadSoFar (bs list₀ list : List ℕ) (count at : ℕ) : Type 0 where
+-- THE LOOP: `count` numbers are read, and all that are to be read are these and those of the bytes behind their lines; the rest of the list is the old one
+pub record ReadSoFar (bs list₀ list : List ℕ) (count : ℕ) : Type 0 where
   pub size : length list ≡ length list₀
   pub room : count ≤ length list₀
-  pub place : at ≡ count * 12
-  pub within : at ≤ length bs
-  pub read : lines_read (length list₀) bs ≡ take count list ++ lines_read (length list₀ - count) (drop at bs)
+  pub within : count * 12 ≤ length bs
+  pub read : lines_read (length list₀) bs ≡ take count list ++ lines_read (length list₀ - count) (drop (count * 12) bs)
   pub left : drop count list ≡ drop count list₀
 
-pub read_start : (bs list : List ℕ) → ReadSoFar bs list list 0 0
+pub read_start : (bs list : List ℕ) → ReadSoFar bs list list 0
 read_start bs list = record {
   size = refl;
   room = omega arith;
-  place = refl;
   within = omega arith;
   read = let all : length list ≡ length list - 0 = omega arith in ap (λ k. lines_read k bs) all;
   left = refl;
 }
 
-module _ {bs list₀ list : List ℕ} {count at : ℕ} (f : ReadSoFar bs list₀ list count at) where
+module _ {bs list₀ list : List ℕ} {count : ℕ} (f : ReadSoFar bs list₀ list count) where
   -- the line that is read lies within the bytes
-  pub read_within : (v : ℕ) → number_read (drop at bs) ≡ Some v → at + 12 ≤ length bs
-  read_within v e = omega (arith, line_long (drop at bs) v e, length-drop at bs, f.within)
+  read_within : (v : ℕ) → number_read (drop (count * 12) bs) ≡ Some v → (count + 1) * 12 ≤ length bs
+  read_within v e = omega (arith, line_long (drop (count * 12) bs) v e, length-drop (count * 12) bs, f.within)
 
   -- one line more
-  pub read_more : (v : ℕ) → count < length list₀ → number_read (drop at bs) ≡ Some v → ReadSoFar bs list₀ (set list count v) (count + 1) (at + 12)
+  pub read_more : (v : ℕ) → count < length list₀ → number_read (drop (count * 12) bs) ≡ Some v → ReadSoFar bs list₀ (set list count v) (count + 1)
   read_more v h e = record {
     size = length-set list count v ∙ f.size;
     room = omega arith;
-    place = omega (arith, f.place);
     within = read_within v e;
-    read = f.read ∙ ap (λ t. take count list ++ t) next ∙ sym (append_assoc (take count list) (v ∷ []) (lines_read (length list₀ - (count + 1)) (drop (at + 12) bs)))
-        ∙ ap (λ t. t ++ lines_read (length list₀ - (count + 1)) (drop (at + 12) bs)) (sym more);
+    read = f.read ∙ ap (λ t. take count list ++ t) next ∙ sym (append_assoc (take count list) (v ∷ []) later) ∙ ap (λ t. t ++ later) (sym more);
     left = drop-set-lt (count + 1) list count v (omega arith) ∙ sym (drop-drop 1 count list) ∙ ap (drop 1) f.left ∙ drop-drop 1 count list₀;
   }
     where
+      later : List ℕ
+      later = lines_read (length list₀ - (count + 1)) (drop ((count + 1) * 12) bs)
+
       more : take (count + 1) (set list count v) ≡ take count list ++ (v ∷ [])
       more = taken_more list count v (omega (arith, f.size))
 
       fewer : length list₀ - count ≡ suc (length list₀ - (count + 1))
       fewer = omega arith
 
-      next : lines_read (length list₀ - count) (drop at bs) ≡ v ∷ lines_read (length list₀ - (count + 1)) (drop (at + 12) bs)
-      next = ap (λ k. lines_read k (drop at bs)) fewer ∙ lines_more (length list₀ - (count + 1)) (drop at bs) v e
-          ∙ ap (λ t. v ∷ lines_read (length list₀ - (count + 1)) t) (drop-drop 12 at bs)
+      behind : drop 12 (drop (count * 12) bs) ≡ drop ((count + 1) * 12) bs
+      behind = drop-drop 12 (count * 12) bs ∙ (let e : count * 12 + 12 ≡ (count + 1) * 12 = omega arith in ap (λ j. drop j bs) e)
+
+      next : lines_read (length list₀ - count) (drop (count * 12) bs) ≡ v ∷ later
+      next = ap (λ k. lines_read k (drop (count * 12) bs)) fewer ∙ lines_more (length list₀ - (count + 1)) (drop (count * 12) bs) v e
+          ∙ ap (λ t. v ∷ lines_read (length list₀ - (count + 1)) t) behind
 
   -- the end: no more is to be read
-  module _ {all : Bool} {k : ℕ} (p : all ≡ eqb at (length bs)) (q : k ≡ count) where
-    read_end : lines_read (length list₀ - count) (drop at bs) ≡ [] → NumbersRead bs list₀ all k list
-    read_end e = record {
-      counted = q ∙ sym (ap length found ∙ long);
-      room = omega (arith, q, f.room);
-      left = sym (take-append-drop count list) ∙ ap₂ ◌++◌ (sym found) (f.left ∙ ap (λ k. drop k list₀) (sym (ap length found ∙ long)));
-      whole = p ∙ ap (λ k. eqb k (length bs)) (f.place ∙ ap (λ k. k * 12) (sym q));
-    }
-      where
-        found : lines_read (length list₀) bs ≡ take count list
-        found = f.read ∙ ap (λ t. take count list ++ t) e ∙ append-nil (take count list)
+  read_end : lines_read (length list₀ - count) (drop (count * 12) bs) ≡ [] → NumbersRead bs list₀ (eqb (count * 12) (length bs)) count list
+  read_end e = record {
+    counted = sym (ap length found ∙ long);
+    room = f.room;
+    left = sym (take-append-drop count list) ∙ ap₂ ◌++◌ (sym found) (f.left ∙ ap (λ k. drop k list₀) (sym (ap length found ∙ long)));
+    whole = refl;
+  }
+    where
+      found : lines_read (length list₀) bs ≡ take count list
+      found = f.read ∙ ap (λ t. take count list ++ t) e ∙ append-nil (take count list)
 
-        long : length (take count list) ≡ count
-        long = length-take-le count list (omega (arith, f.size, f.room))
+      long : length (take count list) ≡ count
+      long = length-take-le count list (omega (arith, f.size, f.room))
 
-    pub read_full : length list₀ ≤ count → NumbersRead bs list₀ all k list
-    read_full h = read_end (let none : length list₀ - count ≡ 0 = omega arith in ap (λ k. lines_read k (drop at bs)) none ∙ lines_none (drop at bs))
+  pub read_full : length list₀ ≤ count → NumbersRead bs list₀ (eqb (length list * 12) (length bs)) (length list) list
+  read_full h =
+      let none : length list₀ - count ≡ 0 = omega arith in
+      let all : count ≡ length list = omega (arith, f.size, f.room) in
+      subst (λ k. NumbersRead bs list₀ (eqb (k * 12) (length bs)) k list) all
+      (read_end (ap (λ k. lines_read k (drop (count * 12) bs)) none ∙ lines_none (drop (count * 12) bs)))
 
-    pub read_bad : number_read (drop at bs) ≡ None → NumbersRead bs list₀ all k list
-    read_bad e = read_end (lines_bad (length list₀ - count) (drop at bs) e)
+  pub read_bad : number_read (drop (count * 12) bs) ≡ None → NumbersRead bs list₀ (eqb (count * 12) (length bs)) count list
+  read_bad e = read_end (lines_bad (length list₀ - count) (drop (count * 12) bs) e)
 
 -- WHAT READING SAYS OF THE BYTES
 

@@ -13,17 +13,18 @@ ghost use Rattle.simulation.specs.Numbering.{through, bump, number, placed, numb
 ghost use Rattle.transition.specs.Forms.{over};
 ghost use Rattle.moves.specs.Moves.{refusal_number, move_of, call_of};
 ghost use Rattle.moves.specs.declared.Move.TheVariants.{SnapLabel};
-ghost use Rattle.arrays.specs.Arrays.{arrays};
 ghost use Rattle.arrays.specs.Planes.{beside};
 ghost use Rattle.schedule.specs.Demand.{step_calls};
 ghost use Rattle.schedule.specs.Files.{lines_of};
 ghost use Rattle.schedule.specs.Numbers.{snap_calls};
+ghost use Rattle.file.specs.Tables.{arrays_in};
 ghost use Rattle.file.specs.Clauses.{Runnable};
 ghost use Rattle.numbering.specs.Clauses.{slot_for, slot_in, renumber_in, Renumbered, Counted, NumbersCall};
 ghost use Rattle.numbering.specs.Files.{refused_by, NumbersFile};
 
-use arrays::{CURRENT, Control, Jobs, Labels, PENDING, Results};
+use arrays::{CURRENT, PENDING};
 use engine::Reply;
+use file::OrderedTable;
 use moves::{Move, Refusal, Request};
 use schedule::{Header, Next, Survey};
 
@@ -195,35 +196,32 @@ fn renumber(
 
 // Serves a step line, and keeps the numbers beside the table; hands back how many are given then.
 fn number_line(
-    n: usize,
     request: Request,
-    order: &mut [usize; 32],
-    labels: &mut Labels,
-    jobs: &mut Jobs,
-    control: &mut Control,
-    results: &mut Results,
+    table: &mut OrderedTable,
     numbers: &mut [[u32; 32]; 2],
     given: &mut [u32],
     count: usize,
 ) -> usize
-    requires runnable { Runnable (arrays n labels.old jobs.old control.old results.old) order.old }
+    requires runnable { Runnable (arrays_in table.old) table.old.order }
     requires count_in_bounds { request.code ≡ 3 → count < length given.old }
     requires count_in_bounds_2 { (count ≤ length given.old) × (count ≤ 1000000) }
     requires counted { Counted count numbers.old given.old }
-    ensures numbers_call { NumbersCall (arrays n labels.old jobs.old control.old results.old)
+    ensures numbers_call { NumbersCall (arrays_in table.old)
         (call_of request (Buffer 928)) numbers.old count given.old
-        (arrays n labels.new jobs.new control.new results.new)
+        (arrays_in table.new)
         numbers.new result given.new }
-    ensures runnable_2 { Runnable (arrays n labels.new jobs.new control.new results.new) order.new }
+    ensures runnable_2 { Runnable (arrays_in table.new) table.new.order }
 {
-    let t = file::take_turn(n, request, order, labels, jobs, control, results);
+    let n = table.count;
+    let t = file::take_turn(request, table);
     let m = t.action;
     let handed = t.handed;
+    let parts = &table.parts;
     renumber(
         m,
         handed.place,
         t.newest,
-        &labels[PENDING],
+        &parts.labels[PENDING],
         n,
         numbers,
         given,
@@ -238,12 +236,7 @@ fn number_lines(n: usize, rest: &[u8], list: &mut [u32]) -> usize
     ensures value { result ≡ length (numbers_of original n (step_calls original 1 (lines_of rest.now))) }
     ensures list_after { list.new ≡ over (numbers_of original n (step_calls original 1 (lines_of rest.now))) list.old }
 {
-    let mut labels = [[[0u8; 31]; 32]; 2];
-    let mut jobs = [[0u32; 32]; 2];
-    let mut control = [[0u8; 32]; 2];
-    let mut results = [[[0u32; 32]; 2]; 32];
-    arrays::refresh(n, &mut labels, &mut jobs, &mut control, &mut results);
-    let mut order = rows::order::order(&labels[CURRENT], n);
+    let mut table = file::fresh(n);
     let mut numbers = [[0u32; 32]; 2];
     let mut count = 0;
     let mut lines: u32 = 1;
@@ -251,18 +244,7 @@ fn number_lines(n: usize, rest: &[u8], list: &mut [u32]) -> usize
     loop {
         match schedule::next_call(lines, rest, at) {
             Next::Call(request) => {
-                count = number_line(
-                    n,
-                    request,
-                    &mut order,
-                    &mut labels,
-                    &mut jobs,
-                    &mut control,
-                    &mut results,
-                    &mut numbers,
-                    list,
-                    count,
-                );
+                count = number_line(request, &mut table, &mut numbers, list, count);
                 lines += 1;
                 at += 18;
             }

@@ -7,14 +7,15 @@ use mathlib.Core.Path.{◌≡◌, refl, sym, ap, ap₂, ◌∙◌}
 use mathlib.Core.Logic.{◌≢◌, by_cases}
 use mathlib.Core.Bool.{Bool, true, false, not, ◌&&◌, cond}
 use mathlib.Core.List.{List}
-use lib.ListN.{get_or}
+use lib.ListN.{length, get_or, take}
+use lib.Seq.{length-take-le, get_or-take}
 use lib.Dec.{eqb, leb, ltb}
 use borrow.Author.Tests.{eq-eqb, ne_eqb, le-leb, lt-leb, lt-ltb, le-ltb}
 use Rattle.basics.specs.Tests.{count, first_from, newest}
 use Rattle.label.specs.Labels.{Label, agrees, first_difference, others, level, new_label}
 use Rattle.label.specs.Rows.{row}
 use Rattle.rows.specs.Held.{held, stands_in, pending_in}
-use Rattle.basics.proofs.Facts.{right_no, first_is, first_from_same, count_bound}
+use Rattle.basics.proofs.Facts.{right_no, first_is, first_from_same, count_bound, length_tabulate}
 use Rattle.label.proofs.Digits.{Tri, lt, eq, gt, compare}
 use Rattle.label.proofs.Order.{agrees_upto, difference_first}
 use Rattle.label.proofs.Choice.{level_spec}
@@ -108,15 +109,18 @@ level_shared n t top s k h e = first_from_same (n - 1) 0 _ _ (λ p l. ap (leb (n
 
 -- the same with the label of station z, the shared digits kept in a list of w numbers
 module _ (w n : ℕ) (t : ℕ → Label) (z k : ℕ) (xs : List ℕ) (e : xs ≡ filled w n (λ j. first_difference (n - 1) (t j) (t z)) 0) (h : n ≤ w) where
-  shared_at : (j : ℕ) → j < n → get_or xs j 0 ≡ first_difference (n - 1) (t j) (t z)
-  shared_at j l = ap (λ (r : List ℕ). get_or r j 0) e ∙ filled_in w _ 0 0 n j l h
+  long : length (take n xs) ≡ n
+  long = length-take-le n xs (rw (e, length_tabulate w 0 (λ j. cond (ltb j n) (first_difference (n - 1) (t j) (t z)) 0)) h)
 
-  pub shared_small : (j : ℕ) → j < n → get_or xs j 0 < w
-  shared_small j l = omega (arith, shared_at j l, (difference_first (n - 1) (t j) (t z)).upto)
+  shared_at : (j : ℕ) → j < n → get_or (take n xs) j 0 ≡ first_difference (n - 1) (t j) (t z)
+  shared_at j l = get_or-take n xs j 0 l ∙ ap (λ (r : List ℕ). get_or r j 0) e ∙ filled_in w _ 0 0 n j l h
 
-  module _ (p : ℕ) (q : p ≡ first_from (n - 1) 0 (enough n k (λ j. get_or xs j 0))) (l : k < n) where
+  pub shared_small : (j : ℕ) → j < length (take n xs) → get_or (take n xs) j 0 < w
+  shared_small j l = let i : j < n = omega (arith, long) in omega (arith, shared_at j i, (difference_first (n - 1) (t j) (t z)).upto)
+
+  module _ (p : ℕ) (q : p ≡ first_from (length (take n xs) - 1) 0 (enough (length (take n xs)) k (λ j. get_or (take n xs) j 0))) (l : k < n) where
     pub level_found : p ≡ level (n - 1) t (t z) k
-    level_found = q ∙ level_shared n t (t z) (λ j. get_or xs j 0) k (omega arith) shared_at
+    level_found = (rw long at q) ∙ level_shared n t (t z) (λ j. get_or (take n xs) j 0) k (omega arith) shared_at
 
     pub level_inside : z < n → z ≢ k → p < n - 1
     level_inside lz d = rw level_found (level_spec (n - 1) t (t z) k z (omega arith) (omega arith) d refl).inside

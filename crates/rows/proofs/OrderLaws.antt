@@ -7,13 +7,17 @@ use mathlib.Core.Path.{◌≡◌, refl, sym, ap, ap₂, ◌∙◌}
 use mathlib.Core.Logic.{◌≢◌, by_cases}
 use mathlib.Core.Bool.{Bool, true, false}
 use mathlib.Core.List.{List, [], ◌∷◌, ◌++◌, append_assoc}
-use lib.ListN.{length, length-append, length-replicate, get_or, set, take, drop, replicate, drop_of_length-le, take-append-drop, length-drop, get_or-append}
-use lib.Seq.{take_all, take-suc, drop-cons, split_at, set_at, take_at, drop_at, drop-drop, drop-set-lt, take-append-le, drop-append-le, drop-append-add, length-take-le, get_or-take}
+use lib.ListN.{length, length-append, length-replicate, get_or, set, take, drop, replicate, length-drop}
+use lib.Seq.{paste, paste-zero, take-append-add, set_at, take_at, drop_at, drop-drop, take-append-le, drop-append-le, drop-append-add, length-take-le, get_or-take}
 use lib.Dec.{eqb}
-use borrow.Author.Tests.{eqb-true, eqb-false}
+use Rattle.std.specs.List.{AllWithin, HoldsAt}
+use Rattle.std.specs.Option.{MatchOption}
+use Rattle.std.proofs.Common.{Option, Some, None}
+use Rattle.std.proofs.lemmas.List.{take-take, drop-take, take_more}
+use borrow.Author.Tests.{eqb-true, eqb-false, eq-eqb, ne_eqb}
 use Rattle.basics.specs.Tests.{inserted, newest, ordered, All}
 use Rattle.label.specs.Labels.{label_before}
-use Rattle.basics.proofs.Facts.{First, first, all_at, each_all, ordered_all, ordered_each, inserted_length, ordered_length}
+use Rattle.basics.proofs.Facts.{First, first, first_is, all_at, each_all, ordered_all, ordered_each, inserted_length, ordered_length}
 use Rattle.basics.proofs.Passing.{without, without_all}
 use Rattle.label.proofs.RowLaws.{ringless}
 use Rattle.label.proofs.Total.{Total, total, newest_only, one_way, other_way, Sorted, ordered_sorted, without_sorted, without_at, without_alike, put_back}
@@ -42,72 +46,47 @@ inserted_at b i (j ∷ l) (suc q) h early found =
     rw (early 0 (omega arith), inserted) (ap (λ (r : List ℕ). j ∷ r) (inserted_at b i l q (omega arith) (λ p k. early (suc p) (omega arith))
     (λ k. found (omega arith))))
 
--- putting in, in an array of which l is the front
-module _ {A : Type 0} where
-  pub put_stored : (l rest : List A) (p : ℕ) (y v : A) → p ≤ length l → set (put_in p y l ++ rest) p v ≡ put_in p v l ++ rest
-  put_stored l rest p y v h =
-      ap (λ (r : List A). set r p v) (append_assoc (take p l) (y ∷ drop p l) rest) ∙ set_at (take p l) y (drop p l ++ rest) v p (length-take-le p l h)
-      ∙ sym (append_assoc (take p l) (v ∷ drop p l) rest)
+-- x put in at place q among the first k, where those behind it move on by one place
+pub inserted_moves : {A : Type 0} (l : List A) (k q : ℕ) (x : A) → q ≤ k → k < length l
+    → set (paste l (q + 1) (drop q l) (k - q)) q x ≡ take q (take k l) ++ x ∷ drop q (take k l) ++ drop (k + 1) l
+inserted_moves {A} l k q x h u =
+    let e : q + (k - q) ≡ k = omega arith in
+    let f : q + 1 + (k - q) ≡ k + 1 = omega arith in
+    let front : take q (take k l) ≡ take q l = take-take q k l h in
+    let moved : drop q (take k l) ≡ take (k - q) (drop q l) = ap (λ (i : ℕ). drop q (take i l)) (sym e) ∙ drop-take q (k - q) l in
+    let whole : paste l (q + 1) (drop q l) (k - q) ≡ take q l ++ get_or l q x ∷ (take (k - q) (drop q l) ++ drop (k + 1) l)
+    = rw (take_more l q x (omega arith), f) (simp append_assoc) in
+    rw (whole, set_at (take q l) (get_or l q x) (take (k - q) (drop q l) ++ drop (k + 1) l) x q (length-take-le q l (omega arith)), front, moved) (simp append_assoc)
 
-  -- an element put in behind itself, or ahead
-  put_twice : (l : List A) (p : ℕ) (d : A) → p < length l → put_in (suc p) (get_or l p d) l ≡ put_in p (get_or l p d) l
-  put_twice l p d h = rw (take-suc l p d h, append_assoc, drop-cons l p d h) refl
+-- behind all of them
+pub put_last : {A : Type 0} (l : List A) (k : ℕ) (x : A) → k < length l → set l k x ≡ put_in k x (take k l) ++ drop (k + 1) l
+put_last {A} l k x u =
+    let z : k - k ≡ 0 = omega arith in
+    ap (λ (r : List A). set r k x) (paste-zero l (k + 1) (drop k l) ∙ sym (ap (paste l (k + 1) (drop k l)) z)) ∙ inserted_moves l k k x (omega arith) u
 
-  -- the elements from place q to k moved on by one, from the last down: at p the array is l with the element at p put in once more
-  abbrev pub shifted_to : List A → ℕ → ℕ → A → List A
-  shifted_to l k p x = put_in p x (take k l) ++ drop (k + 1) l
+-- those behind place q move up as far as place m
+pub removed_moves : {A : Type 0} (l : List A) (m q : ℕ) → q ≤ m → m < length l → paste l q (drop (q + 1) l) (m - q) ≡ taken_out m q l
+removed_moves l m q h u =
+    let e : q + (m - q) ≡ m = omega arith in
+    let f : length (take q l) + (m - q) ≡ m = omega (arith, length-take-le q l (omega arith)) in
+    rw e (ap (λ s. s ++ drop m l) (sym (take-append-add (take q l) (drop (q + 1) l) (m - q)) ∙ ap (λ i. take i (left_out q l)) f))
 
-  module _ (l : List A) (k : ℕ) (d : A) (h : k < length l) where
-    front : length (take k l) ≡ k
-    front = length-take-le k l (omega arith)
-
-    pub shift_starts : l ≡ shifted_to l k k (get_or l k d)
-    shift_starts = split_at l k d h ∙ sym (rw (
-      take_all k (take k l) (omega (arith, front)),
-      drop_of_length-le (take k l) {i = k} (omega (arith, front)),
-      append_assoc,
-      add-one,
-    ) refl)
-
-    read_front : (p : ℕ) (y : A) → p < k → get_or (shifted_to l k (suc p) y) p d ≡ get_or (take k l) p d
-    read_front p y v =
-        let t : p < length (take (suc p) (take k l)) = omega (arith, length-take-le (suc p) (take k l) (omega (arith, front))) in
-        rw append_assoc (get_or-append (take (suc p) (take k l)) _ d p t ∙ get_or-take (suc p) (take k l) p d (omega arith))
-
-    pub shift_turns : (p : ℕ) (r : List A) → r ≡ shifted_to l k p (get_or l p d) → 1 ≤ p → p ≤ k
-        → set r p (get_or r (p - 1) d) ≡ shifted_to l k (p - 1) (get_or l (p - 1) d)
-    shift_turns zero r e u v = absurd (omega arith)
-    shift_turns (suc p) r e u v =
-        let q : suc p - 1 ≡ p = omega arith in
-        let a : get_or r p d ≡ get_or (take k l) p d = ap (λ (x : List A). get_or x p d) e ∙ read_front p (get_or l (suc p) d) v in
-        rw (q, a, e, ← get_or-take k l p d v) (put_stored (take k l) (drop (k + 1) l) (suc p) (get_or l (suc p) d) (get_or (take k l) p d) (omega (arith, front))
-        ∙ ap (λ (x : List A). x ++ drop (k + 1) l) (put_twice (take k l) p d (omega (arith, front))))
-
-    pub shift_ends : (q : ℕ) (x : A) (r : List A) → r ≡ shifted_to l k q (get_or l q d) → q ≤ k → set r q x ≡ shifted_to l k q x
-    shift_ends q x r e v = rw e (put_stored (take k l) (drop (k + 1) l) q (get_or l q d) x (omega (arith, front)))
+-- what a search for station k finds, which is listed
+pub found_place : (n k : ℕ) (l : List ℕ) → n ≤ length l → (r : Option ℕ)
+    → MatchOption r (AllWithin (λ i. i ≢ k) (take n l) 0 (length (take n l)))
+    (λ q. (q < length (take n l)) × HoldsAt (λ i. i ≡ k) (take n l) q × AllWithin (λ i. i ≢ k) (take n l) 0 q)
+    → place_among n l k < n → r ≡ Some (place_among n l k)
+found_place n k l h None m u =
+    let s = first n 0 (λ p. eqb (get_or l p 0) k) in
+    absurd (m (place_among n l k) 0 (omega arith) (omega (arith, length-take-le n l h))
+    (get_or-take n l (place_among n l k) 0 u ∙ eqb-true _ k (s.found (omega arith))))
+found_place n k l h (Some q) m u =
+    let long = length-take-le n l h in
+    ap Some (first_is n (λ p. eqb (get_or l p 0) k) q (omega (arith, m.0))
+    (λ p v. ne_eqb _ k (λ e. m.2 p 0 (omega arith) v (get_or-take n l p 0 (omega (arith, m.0)) ∙ e)))
+    (λ v. eq-eqb _ k (sym (get_or-take n l q 0 v) ∙ m.1 0)))
 
 module _ {A : Type 0} where
-  left_out_next : (l : List A) (q : ℕ) (x : A) → left_out (suc q) (x ∷ l) ≡ x ∷ left_out q l
-  left_out_next l q x = let e : suc q + 1 ≡ suc (q + 1) = omega arith in rw e refl
-
-  -- the one behind place p is copied there, and is left out in its place
-  moves : (l : List A) (p : ℕ) (d : A) → suc p < length l → left_out (suc p) (set l p (get_or l (suc p) d)) ≡ left_out p l
-  moves [] p d h = absurd (omega arith)
-  moves (x ∷ l) zero d h = sym (drop-cons l 0 d (omega arith))
-  moves (x ∷ l) (suc p) d h =
-      left_out_next (set l p (get_or l (suc p) d)) (suc p) x ∙ ap (λ r. x ∷ r) (moves l p d (omega arith)) ∙ sym (left_out_next l p x)
-
-  pub left_out_moves : (l : List A) (p : ℕ) (d : A) → p + 1 < length l → left_out (p + 1) (set l p (get_or l (p + 1) d)) ≡ left_out p l
-  left_out_moves l p d h = rw (← add-one p) at (moves l p d (omega arith))
-
-  -- what stands past place p is as it was: so is the array with the one at place q taken out
-  pub past_kept : (l l₀ : List A) (p : ℕ) (v : A) → drop p l ≡ drop p l₀ → drop (p + 1) (set l p v) ≡ drop (p + 1) l₀
-  past_kept l l₀ p v e = drop-set-lt (p + 1) l p v (omega arith) ∙ sym (drop-drop 1 p l) ∙ ap (drop 1) e ∙ drop-drop 1 p l₀
-
-  pub taken_out_lem : (l l₀ : List A) (p q : ℕ) → p ≤ length l → left_out p l ≡ left_out q l₀ → drop p l ≡ drop p l₀ → l ≡ taken_out p q l₀
-  taken_out_lem l l₀ p q h e f = sym (take-append-drop p l)
-      ∙ ap₂ (λ a b. a ++ b) (sym (take_at (take p l) (drop (p + 1) l) p (length-take-le p l h)) ∙ ap (take p) e) f
-
   left_out_front : (l rest : List A) (q : ℕ) → q < length l → left_out q (l ++ rest) ≡ left_out q l ++ rest
   left_out_front l rest q h = rw (take-append-le q l rest (omega arith), drop-append-le (q + 1) l rest (omega arith), append_assoc) refl
 
@@ -171,12 +150,11 @@ module _ (w : ℕ) (b : ℕ → ℕ → Bool) (k : ℕ) (l : List ℕ) (e : l �
   order_long h = rw (e, length-append, ordered_length, length-replicate) (omega arith)
 
   -- what is listed is other than station k, and stands there oldest first
-  pub order_others : (n : ℕ) → k < n → (p : ℕ) → p < k → Other n k (get_or l p 0)
-  order_others n h = front_all k l (ordered k b) order_front (ordered_length b k) (Other n k)
-      (ordered_all (Other n k) b k (λ i u. (omega arith, λ f. omega arith)))
+  pub front_others : (n : ℕ) → k < n → All (Other n k) (take k l)
+  front_others n h = rw order_front (ordered_all (Other n k) b k (λ i u. (omega arith, λ f. omega arith)))
 
-  pub order_sorted : {n : ℕ} → Total n b → k < n → (p q : ℕ) → p < q → q < k → b (get_or l p 0) (get_or l q 0) ≡ true
-  order_sorted {n} o h = front_sorted k l (ordered k b) order_front (ordered_length b k) b (ordered_sorted n b o k (omega arith))
+  pub front_in_order : {n : ℕ} → Total n b → k < n → (p q : ℕ) → p < q → q < length (take k l) → b (get_or (take k l) p 0) (get_or (take k l) q 0) ≡ true
+  front_in_order {n} o h = rw order_front (sorted_at b (ordered k b) (ordered_sorted n b o k (omega arith)))
 
   order_rest : k < w → drop (k + 1) l ≡ replicate (w - (k + 1)) 0
   order_rest h = rw (e, replicate_more {A = ℕ} w k 0 h) (ap (λ (i : ℕ). drop (i + 1) (ordered k b ++ 0 ∷ replicate (w - (k + 1)) 0)) (sym (ordered_length b k))
@@ -286,15 +264,19 @@ module _ {w n k : ℕ} {b : ℕ → ℕ → Bool} {l : List ℕ} (d : Displaced 
     others_sorted = front_sorted m r others others_front others_long b
         (without_sorted b k (ordered n b) (ordered_sorted n b d.now n (omega arith)))
 
+    pub others_all : All (Other n k) (take m r)
+    others_all = rw others_front (without_all (λ j. j < n) (Other n k) k (λ j u v. (u, v)) (ordered n b) (ordered_all (λ j. j < n) b n (λ j u. u)))
+
+    pub others_in_order : (p q : ℕ) → p < q → q < length (take m r) → b (get_or (take m r) p 0) (get_or (take m r) q 0) ≡ true
+    others_in_order = rw others_front (sorted_at b others (without_sorted b k (ordered n b) (ordered_sorted n b d.now n (omega arith))))
+
     -- and put in at place q, where it stands now
+    pub put_where : (q : ℕ) (r' : List ℕ) → inserted b k (take m r) ≡ put_in q k (take m r) → r' ≡ put_in q k (take m r) ++ drop (m + 1) r → r' ≡ order_in w b n
+    put_where q r' e f = f ∙ rw (← e, rest, others_front, back) refl
+
     pub put_again : (q : ℕ) (r' : List ℕ) → q ≤ m → ((p : ℕ) → p < q → b (get_or r p 0) k ≡ true)
         → ((p : ℕ) → q ≤ p → p < m → b k (get_or r p 0) ≡ true) → r' ≡ put_in q k (take m r) ++ drop (m + 1) r → r' ≡ order_in w b n
-    put_again q r' h early late f = f ∙ rw (
-      ← put_in_lem d.now k d.inside m r others_listed (omega (arith, others_room)) q h early late,
-      rest,
-      others_front,
-      back,
-    ) refl
+    put_again q r' h early late = put_where q r' (put_in_lem d.now k d.inside m r others_listed (omega (arith, others_room)) q h early late)
 
 -- THE NEWEST
 

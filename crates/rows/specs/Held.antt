@@ -58,10 +58,14 @@ has_digit n t p d = some n (λ j. eqb (t j p) d)
 abbrev pub has_all : ℕ → (ℕ → Label) → ℕ → Bool
 has_all n t p = has_digit n t p 3 && has_digit n t p 4 && has_digit n t p 5
 
--- one of n labels agrees with label i before position p and has the digit d there
-abbrev pub parts_with : ℕ → (ℕ → Label) → ℕ → ℕ → ℕ → Bool
-parts_with n t i p d = some n (λ j. eqb (t j p) d && agrees p (t i) (t j))
+-- one of n labels agrees with the label a before position p and has the digit d there
+abbrev pub parts_with : ℕ → (ℕ → Label) → Label → ℕ → ℕ → Bool
+parts_with n t a p d = some n (λ j. eqb (t j p) d && agrees p a (t j))
 
--- label i has no 3 at position p with which a 4 and a 5 close a ring
+-- the label a has a 3 at position p, with which a 4 and a 5 close a ring
+abbrev pub closes_ring : ℕ → (ℕ → Label) → ℕ → Label → Bool
+closes_ring n t p a = eqb (a p) 3 && parts_with n t a p 4 && parts_with n t a p 5
+
+-- label i does not
 abbrev pub no_ring_at : ℕ → (ℕ → Label) → ℕ → ℕ → Bool
-no_ring_at n t p i = not (eqb (t i p) 3 && parts_with n t i p 4 && parts_with n t i p 5)
+no_ring_at n t p i = not (closes_ring n t p (t i))

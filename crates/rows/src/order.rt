@@ -1,6 +1,7 @@
 // The newest station and the scan order (document 01, "The digits and the labels", "The steps").
+// The C interface lends the rows of all 32 stations: how many of them count is a parameter beside them.
 ghost use Rattle.std.specs.Prelude.{◌≡◌, ◌≢◌, true, ◌∷◌, ◌++◌, ℕ, ◌+◌, ◌-◌, ◌≤◌, ◌<◌, length, get_or, take, drop, replicate};
-ghost use Rattle.basics.specs.Tests.{newest, ordered};
+ghost use Rattle.basics.specs.Tests.{newest, inserted, ordered, All};
 ghost use Rattle.label.specs.Labels.{holders};
 ghost use Rattle.rows.specs.Held.{held, stands_in, Orderly, OrderedBefore, place_among, taken_out, Leads};
 
@@ -22,6 +23,7 @@ fn alone(station: usize) -> Top
 }
 
 // The newest of the first j stations, and how many of them have its label, are known: the same of these and station j.
+#[tactic(auto, using(label::proofs::Holders::holders_few))]
 fn with_next(rows: &[[u8; 31]; 32], n: usize, top: Top, j: usize) -> Top
     requires orderly { Orderly n rows.now }
     requires j_lt_n { j < n }
@@ -44,33 +46,32 @@ fn with_next(rows: &[[u8; 31]; 32], n: usize, top: Top, j: usize) -> Top
 }
 
 // The newest of n stations, the one that all others stand before, and how many of them have its label: in one pass.
+#[tactic(auto, using(crate::proofs::NewestLaws::leads_all))]
 pub fn newest(rows: &[[u8; 31]; 32], n: usize) -> Top
     requires { Orderly n rows.now }
     ensures station_value { result.station ≡ newest n (stands_in n rows.now) }
     ensures holders_value { result.holders ≡ holders n (n - 1) (held rows.now) result.station }
 {
     let mut top = alone(0);
-    let mut j: usize = 1;
-    while j < n {
+    for j in 1..n {
         top = with_next(rows, n, top, j);
-        j += 1;
     }
     top
 }
 
-// How many of the stations in the first m places of `order`, which stand there oldest first, stand before station k: by binary search.
-fn position(rows: &[[u8; 31]; 32], n: usize, order: &[usize], m: usize, k: usize) -> usize
+// Where station k is put in among others that stand oldest first: how many of them stand before it, by binary search.
+fn position(rows: &[[u8; 31]; 32], n: usize, order: &[usize], k: usize) -> usize
     requires orderly { Orderly n rows.now }
-    requires k_lt_n { (k < n) × (m ≤ length order.now) }
-    requires by_index { (p : ℕ) → p < m → (get_or order.now p 0 < n) × (get_or order.now p 0 ≢ k) }
-    requires by_index_2 { (p q : ℕ) → p < q → q < m → stands_in n rows.now (get_or order.now p 0) (get_or order.now q 0) ≡ true }
-    ensures upper_bound { result ≤ m }
-    ensures by_index_3 { (p : ℕ) → p < result → stands_in n rows.now (get_or order.now p 0) k ≡ true }
-    ensures by_index_4 { (p : ℕ) → result ≤ p → p < m → stands_in n rows.now k (get_or order.now p 0) ≡ true }
+    requires k_lt_n { k < n }
+    requires others { All (λ i. (i < n) × (i ≢ k)) order.now }
+    requires by_index { (p q : ℕ) → p < q → q < length order.now → stands_in n rows.now (get_or order.now p 0) (get_or order.now q 0) ≡ true }
+    ensures upper_bound { result ≤ length order.now }
+    ensures placed { inserted (stands_in n rows.now) k order.now ≡ take result order.now ++ k ∷ drop result order.now }
 {
+    // `partition_point` asks that its closure takes any number, and only the n stations have labels.
     let row = rows[k];
     let mut low: usize = 0;
-    let mut high = m;
+    let mut high = order.len();
     while low < high {
         let middle = (low + high) / 2;
         let i = order[middle];
@@ -84,16 +85,13 @@ fn position(rows: &[[u8; 31]; 32], n: usize, order: &[usize], m: usize, k: usize
 }
 
 // The first k of `order` get x put in among them at place q; what stands past them stays.
+#[tactic(auto, using(crate::proofs::OrderLaws::inserted_moves))]
 pub fn insert_at(order: &mut [usize], k: usize, q: usize, x: usize)
     requires { (q ≤ k) × (k < length order.old) }
     ensures { order.new ≡ take q (take k order.old) ++ x ∷ drop q (take k order.old) ++ drop (k + 1)
         order.old }
 {
-    let mut p = k;
-    while q < p {
-        order[p] = order[p - 1];
-        p -= 1;
-    }
+    order.copy_within(q..k, q + 1);
     order[q] = x;
 }
 
@@ -103,40 +101,11 @@ pub fn order(rows: &[[u8; 31]; 32], n: usize) -> [usize; 32]
     ensures { result ≡ ordered n (stands_in n rows.now) ++ replicate (32 - n) 0 }
 {
     let mut r = [0usize; 32];
-    let mut k: usize = 0;
-    while k < n {
-        let q = position(rows, n, &r, k, k);
+    for k in 0..n {
+        let q = position(rows, n, &r[..k], k);
         insert_at(&mut r, k, q, k);
-        k += 1;
     }
     r
-}
-
-// The first of n places of `order` that holds station k; n if none does.
-fn place(order: &[usize], n: usize, k: usize) -> usize
-    requires { n ≤ length order.now }
-    ensures { result ≡ place_among n order.now k }
-{
-    let mut p: usize = 0;
-    while p < n {
-        if order[p] == k {
-            return p;
-        }
-        p += 1;
-    }
-    p
-}
-
-// The one at place q of `order` is taken out, and those behind it move up as far as place m, which is then free.
-fn remove_at(order: &mut [usize], m: usize, q: usize)
-    requires { (q ≤ m) × (m < length order.old) }
-    ensures { order.new ≡ taken_out m q order.old }
-{
-    let mut p = q;
-    while p < m {
-        order[p] = order[p + 1];
-        p += 1;
-    }
 }
 
 // Station k, one of the first n of `order`, is taken out, and those behind it move up: place n - 1 is then free.
@@ -144,8 +113,8 @@ pub fn take_out(order: &mut [usize], n: usize, k: usize)
     requires { (place_among n order.old k < n) × (n ≤ length order.old) }
     ensures { order.new ≡ taken_out (n - 1) (place_among n order.old k) order.old }
 {
-    let q = place(order, n, k);
-    remove_at(order, n - 1, q);
+    let q = order[..n].iter().position(|i| *i == k).unwrap();
+    order.copy_within(q + 1..n, q);
 }
 
 // Brings the order up to date after station k alone got another label: it is taken out, and put in where it stands now.
@@ -157,6 +126,6 @@ pub fn reorder(rows: &[[u8; 31]; 32], n: usize, order: &mut [usize], k: usize)
 {
     let m = n - 1;
     take_out(order, n, k);
-    let q = position(rows, n, order, m, k);
+    let q = position(rows, n, &order[..m], k);
     insert_at(order, m, q, k);
 }

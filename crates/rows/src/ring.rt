@@ -1,77 +1,51 @@
 // The test for rings of labels (document 01, refusal 13).
-ghost use Rattle.std.specs.Prelude.{◌≡◌, not, ◌-◌, ◌≤◌, ◌<◌};
+ghost use Rattle.std.specs.Prelude.{◌≡◌, ◌-◌, ◌≤◌, ◌<◌, length};
 ghost use Rattle.basics.specs.Tests.{every};
-ghost use Rattle.label.specs.Rows.{no_ring};
-ghost use Rattle.rows.specs.Held.{held, has_digit, has_all, parts_with, no_ring_at};
+ghost use Rattle.label.specs.Rows.{digit, no_ring};
+ghost use Rattle.rows.specs.Held.{held, has_digit, has_all, parts_with, closes_ring, no_ring_at};
 
-// Whether one of the n labels has the digit d, not 1, at position p.
-fn has_digit(d: u8, rows: &[[u8; 31]; 32], n: usize, p: usize) -> bool
-    requires { (1 < d) × (n ≤ 32) × (p < n - 1) }
-    ensures { result ≡ has_digit n (held rows.now) p d }
+// Whether one of the labels has the digit d, not 1, at position p.
+fn has_digit(d: u8, rows: &[[u8; 31]], p: usize) -> bool
+    requires { (1 < d) × (p < 31) }
+    ensures { result ≡ has_digit (length rows.now) (held rows.now) p d }
 {
-    let mut j: usize = 0;
-    while j < n {
-        if rows[j][p] == d {
-            return true;
-        }
-        j += 1;
-    }
-    false
+    rows.iter().any(|row| row[p] == d)
 }
 
 // Whether all digits of a ring stand at position p.
-fn has_all(rows: &[[u8; 31]; 32], n: usize, p: usize) -> bool
-    requires { (n ≤ 32) × (p < n - 1) }
-    ensures { result ≡ has_all n (held rows.now) p }
+fn has_all(rows: &[[u8; 31]], p: usize) -> bool
+    requires { p < 31 }
+    ensures { result ≡ has_all (length rows.now) (held rows.now) p }
 {
-    if !has_digit(3, rows, n, p) {
-        return false;
-    }
-    has_digit(4, rows, n, p) && has_digit(5, rows, n, p)
+    has_digit(3, rows, p) && has_digit(4, rows, p) && has_digit(5, rows, p)
 }
 
-// Whether one of the n labels agrees with label i before position p and has the digit d, not 1, there.
-fn parts_with(d: u8, rows: &[[u8; 31]; 32], n: usize, i: usize, p: usize) -> bool
-    requires { (1 < d) × (i < n) × (n ≤ 32) × (p < n - 1) }
-    ensures { result ≡ parts_with n (held rows.now) i p d }
+// Whether one of the labels agrees with the label a before position p and has the digit d, not 1, there.
+fn parts_with(d: u8, rows: &[[u8; 31]], a: [u8; 31], p: usize) -> bool
+    requires { (1 < d) × (p < 31) }
+    ensures { result ≡ parts_with (length rows.now) (held rows.now) (digit a) p d }
 {
-    let mut j: usize = 0;
-    while j < n {
-        if rows[j][p] == d && label::agree(rows[i], rows[j], p) {
-            return true;
-        }
-        j += 1;
-    }
-    false
+    rows.iter()
+        .any(|row| row[p] == d && label::agree(a, *row, p))
 }
 
-// Whether label i has the 3 of a ring of 3, 4, 5 at position p.
-fn closes_ring(rows: &[[u8; 31]; 32], n: usize, i: usize, p: usize) -> bool
-    requires { (i < n) × (n ≤ 32) × (p < n - 1) }
-    ensures { not result ≡ no_ring_at n (held rows.now) p i }
+// Whether the label a has the 3 of a ring of 3, 4, 5 at position p.
+fn closes_ring(rows: &[[u8; 31]], a: [u8; 31], p: usize) -> bool
+    requires { p < 31 }
+    ensures { result ≡ closes_ring (length rows.now) (held rows.now) p (digit a) }
 {
-    if rows[i][p] != 3 {
-        return false;
-    }
-    parts_with(4, rows, n, i, p) && parts_with(5, rows, n, i, p)
+    a[p] == 3 && parts_with(4, rows, a, p) && parts_with(5, rows, a, p)
 }
 
-// Whether no three of the n labels agree before position p and have the digits 3, 4, 5 there.
-fn no_ring_at(rows: &[[u8; 31]; 32], n: usize, p: usize) -> bool
-    requires { (n ≤ 32) × (p < n - 1) }
-    ensures { result ≡ every n (no_ring_at n (held rows.now) p) }
+// Whether no three of the labels agree before position p and have the digits 3, 4, 5 there.
+fn no_ring_at(rows: &[[u8; 31]], p: usize) -> bool
+    requires { p < 31 }
+    ensures { result ≡ every (length rows.now) (no_ring_at (length rows.now) (held rows.now) p) }
 {
-    if !has_all(rows, n, p) {
+    if !has_all(rows, p) {
         return true;
     }
-    let mut i: usize = 0;
-    while i < n {
-        if closes_ring(rows, n, i, p) {
-            return false;
-        }
-        i += 1;
-    }
-    true
+    !rows.iter().any(|row| closes_ring(rows, *row, p))
 }
 
 // Whether no three of the n labels agree before some position and have the digits 3, 4, 5 there.
@@ -79,12 +53,6 @@ pub fn no_ring(rows: &[[u8; 31]; 32], n: usize) -> bool
     requires { (1 ≤ n) × (n ≤ 32) }
     ensures { result ≡ no_ring (n - 1) (held rows.now) }
 {
-    let mut p: usize = 0;
-    while p < n - 1 {
-        if !no_ring_at(rows, n, p) {
-            return false;
-        }
-        p += 1;
-    }
-    true
+    let rows = &rows[..n];
+    (0..n - 1).all(|p| no_ring_at(rows, p))
 }

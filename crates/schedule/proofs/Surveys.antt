@@ -1,10 +1,11 @@
 -- The lines of a part of a file, only read: what is known after some of them.
 use Rattle.std.specs.Prelude.{Option, Some, None, Result, Ok, Err}
-use Prim.Native.Nat.{ℕ, zero, suc, ◌+◌, ◌-◌, ◌≤◌, ◌<◌}
+use Prim.Native.Nat.{ℕ, zero, suc, min, ◌+◌, ◌-◌, ◌≤◌, ◌<◌}
 use native.Mathlib.Nat.{add-zero}
 use native.Mathlib.Omega.{arith}
 use mathlib.Core.Path.{◌≡◌, refl, sym, ap, ◌∙◌}
 use mathlib.Core.Logic.{◌≢◌}
+use Rattle.std.proofs.lemmas.List.{nil_from_length}
 use mathlib.Core.Bool.{Bool, true, false, cond}
 use mathlib.Core.List as Lists
 use mathlib.Core.List.{[], ◌∷◌, ◌++◌, append-nil}
@@ -14,20 +15,19 @@ use lib.Dec.{eqb, ltb}
 use borrow.Author.Tests.{lt-ltb, ltb-false}
 use Rattle.basics.specs.Tests.{passing}
 use Rattle.basics.proofs.Passing.{passing_cons}
-use Rattle.simulation.specs.Calls.{original, Call, Buffer}
-use Rattle.moves.specs.Moves.{final_number, call_of}
+use Rattle.simulation.specs.Calls.{original, Call}
+use Rattle.moves.specs.Moves.{final_number}
 use Rattle.moves.proofs.MoveLaws.{positive, accepted}
-use Rattle.moves.specs.declared.Request.{Request}
 use Rattle.moves.specs.declared.Refusal.{Refusal}
 use Rattle.moves.specs.declared.Refusal.TheVariants.{TooManySteps}
-use Rattle.schedule.specs.Lines.{next_line, header_read}
+use Rattle.schedule.specs.Lines.{next_line, header_read, line_call}
 use Rattle.schedule.specs.Files.{cut, pieces, lines_of, step_lines}
 use Rattle.schedule.specs.Demand.{call_then, step_calls, end_then, ending, file_calls}
 use Rattle.schedule.specs.Numbers.{final_after, final_of, surveyed, snap_calls, Surveys}
 use Rattle.schedule.proofs.SessionLaws.{next_within}
 use Rattle.schedule.proofs.Cuts.{lines_append, joined, Whole}
 use Rattle.schedule.proofs.Runs.{rest_after}
-use Rattle.schedule.proofs.Places.{lines_from, calls_from, StepAt, calls_step}
+use Rattle.schedule.proofs.Places.{lines_chunk}
 use Rattle.schedule.specs.declared.Line.{Line}
 use Rattle.schedule.specs.declared.Survey.{Survey}
 
@@ -44,19 +44,17 @@ pub snap_calls_lem : (c : Call) (cs : Lists.List Call) → snap_calls (c ∷ cs)
 snap_calls_lem c cs = passing_cons (λ (c : Call). eqb c.code 3) c cs
 
 -- THE LOOP: `steps` lines are read, all of them steps, and `snaps` of them of step 3; what the whole part comes to is that and what the rest comes to
-pub record Surveyed (lines : ℕ) (chunk : Lists.List ℕ) (steps snaps at : ℕ) : Type 0 where
-  pub within : at ≤ length chunk
+pub record Surveyed (lines : ℕ) (chunk : Lists.List ℕ) (steps snaps : ℕ) (rest : Lists.List ℕ) : Type 0 where
   pub few : steps ≤ 1000001 - lines
   pub fewer : snaps ≤ steps
-  pub refusal : ending lines (lines_of chunk) ≡ ending (lines + steps) (lines_from chunk at)
-  pub counted : length (step_calls original lines (lines_of chunk)) ≡ steps + length (calls_from (lines + steps) chunk at)
-  pub snapped : snap_calls (step_calls original lines (lines_of chunk)) ≡ snaps + snap_calls (calls_from (lines + steps) chunk at)
+  pub refusal : ending lines (lines_of chunk) ≡ ending (lines + steps) (lines_of rest)
+  pub counted : length (step_calls original lines (lines_of chunk)) ≡ steps + length (step_calls original (lines + steps) (lines_of rest))
+  pub snapped : snap_calls (step_calls original lines (lines_of chunk)) ≡ snaps + snap_calls (step_calls original (lines + steps) (lines_of rest))
 
-pub surveyed_start : (lines : ℕ) (chunk : Lists.List ℕ) → Surveyed lines chunk 0 0 0
+pub surveyed_start : (lines : ℕ) (chunk : Lists.List ℕ) → Surveyed lines chunk 0 0 chunk
 surveyed_start lines chunk =
     let none : lines + 0 ≡ lines = omega arith in
     record {
-      within = omega arith;
       few = omega arith;
       fewer = omega arith;
       refusal = ap (λ k. ending k (lines_of chunk)) (sym none);
@@ -64,40 +62,58 @@ surveyed_start lines chunk =
       snapped = omega (arith, ap (λ k. snap_calls (step_calls original k (lines_of chunk))) none);
     }
 
-module _ {lines : ℕ} {chunk : Lists.List ℕ} {steps snaps at : ℕ} (f : Surveyed lines chunk steps snaps at) where
+module _ {lines : ℕ} {chunk : Lists.List ℕ} {steps snaps : ℕ} {left : Lists.List ℕ} (f : Surveyed lines chunk steps snaps left) where
   -- the reading ends with r, and no step is left
-  pub surveyed_end : (r : Option Refusal) → (calls_from (lines + steps) chunk at ≡ []) × (ending (lines + steps) (lines_from chunk at) ≡ r)
+  ended : (r : Option Refusal) → step_calls original (lines + steps) (lines_of left) ≡ [] → ending (lines + steps) (lines_of left) ≡ r
       → Surveys lines chunk (record { refusal = r; steps = steps; snaps = snaps })
   unfolding passing
-  surveyed_end r e = record {
-    refusal = sym (f.refusal ∙ e.1);
-    steps = omega (arith, f.counted, ap length e.0);
-    snaps = omega (arith, f.snapped, ap snap_calls e.0);
+  ended r none e = record {
+    refusal = sym (f.refusal ∙ e);
+    steps = omega (arith, f.counted, ap length none);
+    snaps = omega (arith, f.snapped, ap snap_calls none);
   }
 
-  -- one step more
-  pub surveyed_more : {q : Request} → StepAt (lines + steps) chunk at q → {snaps' : ℕ} → snaps' ≡ snaps + one (eqb q.code 3)
-      → Surveyed lines chunk (steps + 1) snaps' (at + 18)
-  surveyed_more {q} g {snaps'} e =
-      let w = calls_step (lines + steps) chunk at f.within g in
-      let same : lines + steps + 1 ≡ lines + (steps + 1) = omega arith in
-      let low = one_few (eqb q.code 3) in
-      let c = call_of q (Buffer 928) in
-      let rest = calls_from (lines + steps + 1) chunk (at + 18) in
-      record {
-        within = g.within;
-        few = omega (arith, g.few);
-        fewer = omega (arith, e, low, f.fewer);
-        refusal = f.refusal ∙ w.1 ∙ ap (λ k. ending k (lines_from chunk (at + 18))) same;
-        counted = omega (arith, f.counted, ap length w.0, ap (λ k. length (calls_from k chunk (at + 18))) same);
-        snapped = omega (
-          arith,
-          e,
-          f.snapped,
-          ap snap_calls w.0 ∙ snap_calls_lem c rest,
-          ap (λ k. snap_calls (calls_from k chunk (at + 18))) same,
-        );
-      }
+  -- where nothing is left
+  pub surveyed_end : length left ≡ 0 → Surveys lines chunk (record { refusal = None; steps = steps; snaps = snaps })
+  unfolding cut step_calls ending
+  surveyed_end e =
+      let none : left ≡ [] = nil_from_length left e in
+      ended None (rw none refl) (rw none refl)
+
+  module _ (line rest : Lists.List ℕ) (parts : left ≡ line ++ rest) (long : length line ≡ min 18 (length left)) (some : 0 < length left) where
+    lines_are : lines_of left ≡ line ∷ lines_of rest
+    lines_are = lines_chunk left line rest parts long some
+
+    -- a line that is refused
+    pub surveyed_stop : {r : Refusal} → next_line (lines + steps) line ≡ Err r → Surveys lines chunk (record { refusal = Some r; steps = steps; snaps = snaps })
+    unfolding step_calls ending
+    surveyed_stop {r} e = ended (Some r) (rw (lines_are, e) refl) (rw (lines_are, e) refl)
+
+    -- one step more
+    pub surveyed_more : {q : Line} → next_line (lines + steps) line ≡ Ok q → {snaps' : ℕ} → snaps' ≡ snaps + one (eqb q.code 3)
+        → Surveyed lines chunk (steps + 1) snaps' rest
+    unfolding step_calls ending
+    surveyed_more {q} g {snaps'} e =
+        let k = lines + steps in
+        let c = line_call original k q in
+        let cs = step_calls original (k + 1) (lines_of rest) in
+        let calls : step_calls original k (lines_of left) ≡ c ∷ cs = rw (lines_are, g) refl in
+        let last : ending k (lines_of left) ≡ ending (k + 1) (lines_of rest) = rw (lines_are, g) refl in
+        let same : lines + steps + 1 ≡ lines + (steps + 1) = omega arith in
+        let low = one_few (eqb q.code 3) in
+        record {
+          few = omega (arith, next_within k line q g);
+          fewer = omega (arith, e, low, f.fewer);
+          refusal = f.refusal ∙ last ∙ ap (λ i. ending i (lines_of rest)) same;
+          counted = omega (arith, f.counted, ap length calls, ap (λ i. length (step_calls original i (lines_of rest))) same);
+          snapped = omega (
+            arith,
+            e,
+            f.snapped,
+            ap snap_calls calls ∙ snap_calls_lem c cs,
+            ap (λ i. snap_calls (step_calls original i (lines_of rest))) same,
+          );
+        }
 
 -- A PART WITHOUT A FINAL REFUSAL: all its lines are steps, and none is one too many
 all_steps : (gs : Lists.List (Lists.List ℕ)) (lines : ℕ) → lines ≤ 1000001 → final_number (ending lines gs) ≡ 0

@@ -10,7 +10,7 @@ use columns::{read_column, read_three};
 use moves::{Refusal, Request};
 
 // What a step line says. The header is written like one.
-#[derive(Clone, Copy, PartialEq, Eq)]
+#[derive(Clone, Copy)]
 pub struct Line {
     pub station: u64,
     pub code: u64,
@@ -56,7 +56,7 @@ pub fn read_header(line: &[u8]) -> Result<usize, Refusal>
     if code != 0 {
         return Err(Refusal::UnknownStep);
     }
-    if station < 2 || 32 < station {
+    if !(2..=32).contains(&station) {
         return Err(Refusal::StationCount);
     }
     if job != 0 {
@@ -115,20 +115,23 @@ pub fn survey_lines(lines: u32, chunk: &[u8]) -> Survey
 {
     let mut steps: u32 = 0;
     let mut snaps: u32 = 0;
-    let mut at = 0;
-    let refusal = loop {
-        match next_call(lines + steps, chunk, at) {
-            Ok(None) => break None,
-            Err(refusal) => break Some(refusal),
-            Ok(Some(request)) => {
-                snaps += u32::from(request.code == 3);
+    for line in chunk.chunks(18) {
+        match next_line(lines + steps, line) {
+            Ok(step) => {
+                snaps += u32::from(step.code == 3);
                 steps += 1;
-                at += 18;
+            }
+            Err(refusal) => {
+                return Survey {
+                    refusal: Some(refusal),
+                    steps,
+                    snaps,
+                };
             }
         }
-    };
+    }
     Survey {
-        refusal,
+        refusal: None,
         steps,
         snaps,
     }

@@ -13,7 +13,7 @@ use Rattle.basics.specs.Tests.{newest, inserted, ordered}
 use Rattle.basics.proofs.Facts.{tf, by_here, ordered_length}
 use Rattle.label.proofs.Digits.{Tri, lt, eq, gt, compare}
 use Rattle.label.proofs.Total.{Total}
-use Rattle.rows.proofs.OrderLaws.{put_in, inserted_at, shift_starts, shift_ends, listed_below, order_in, order_front, order_turns, Displaced, last_newest}
+use Rattle.rows.proofs.OrderLaws.{put_in, inserted_at, put_last, listed_below, order_in, order_front, order_turns, Displaced, last_newest}
 use Rattle.simulation.specs.Machine.{Labelling, number_before, stands, put, pending_after, LabelStep, stay, snap, update, label_step, relabelled}
 use Rattle.simulation.specs.Numbered.{numbered}
 use Rattle.simulation.proofs.Sync.{number_less, number_more, number_same}
@@ -91,7 +91,7 @@ level_next k l e =
     (λ u. absurd (omega (arith, long)))
 
 pub level_turns : (w k : ℕ) (r : List ℕ) → r ≡ order_in w level k → k < w → k < length r → set r k k ≡ order_in w level (k + 1)
-level_turns w k r e h long = order_turns w level k r e k (set r k k) (shift_ends r k 0 long k k r (shift_starts r k 0 long) (omega arith))
+level_turns w k r e h long = order_turns w level k r e k (set r k k) (put_last r k k long)
     (level_next k r (order_front w level k r e)) h
 
 -- station k put elsewhere by another number

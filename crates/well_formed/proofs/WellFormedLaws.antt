@@ -1,9 +1,9 @@
 -- What the tests of single rows say of the table that the arrays hold.
-use Rattle.std.proofs.Common.{◌≡◌, ℕ, suc, ◌+◌, ◌-◌, ◌%◌, ◌^◌, ◌<◌, ◌≤◌, Bool, true, false, cond, not, ◌&&◌, eqb, ltb, leb, List, [], length, get_or, sym, refl, ap, ◌∙◌, ap₂, mod-eq_of_lt, zero-add, add-one, arith, ltb-true, le-ltb, lt-ltb, eq-eqb, eqb-true}
+use Rattle.std.proofs.Common.{◌≡◌, ℕ, suc, ◌+◌, ◌-◌, ◌%◌, ◌^◌, ◌<◌, ◌≤◌, Bool, true, false, cond, not, ◌&&◌, eqb, ltb, leb, List, [], get_or, sym, refl, ap, ◌∙◌, ap₂, mod-eq_of_lt, zero-add, add-one, arith, ltb-true, le-ltb, lt-ltb, eq-eqb, eqb-true}
 use native.Mathlib.Decide.{dec_lt}
 use mathlib.Core.Logic.{by_cases}
 use Rattle.basics.specs.Tests.{within, every, count}
-use Rattle.basics.proofs.Facts.{and_both, both, last, left_no, within_true, within_of, every_all, every_at, every_same, get_d_tabulate, get_d_any}
+use Rattle.basics.proofs.Facts.{and_both, both, last, left_no, within_true, within_of, every_all, every_at, every_same, get_d_tabulate}
 use Rattle.basics.proofs.Loops.{same_test, every_and}
 use Rattle.label.specs.Rows.{digit, row_fits, no_ring}
 use Rattle.well_formed.specs.Loops.{tops, fits_at, half_fits, both_fit, control_at, none_from}
@@ -34,33 +34,28 @@ parts f a b k l h = same_test _ _
     (λ v. every_at a f t.0 p v)
     (λ v. let q : p ≡ b + (p - b) = omega arith in ap f q ∙ every_at (k - b) _ t.1 (p - b) (omega arith))))
 
-row_fits_lem : (m : ℕ) (l : List ℕ) → m ≤ 31 → length l ≡ 31 → every 31 (fits_at m l) ≡ row_fits 31 m l
+row_fits_lem : (m : ℕ) (l : List ℕ) → m ≤ 31 → every 31 (fits_at m l) ≡ row_fits 31 m l
 unfolding row_fits
-row_fits_lem m l h long = parts (fits_at m l) m m 31 (omega arith) h
-    ∙ ap₂ ◌&&◌ (every_same m _ _ (λ p u. rw (lt-ltb p m u, get_d_any l p 0 1 (omega arith)) refl)) (every_same (31 - m) _ _ (λ p u. past p (omega arith)))
+row_fits_lem m l h = parts (fits_at m l) m m 31 (omega arith) h
+    ∙ ap₂ ◌&&◌ (every_same m _ _ (λ p u. rw (lt-ltb p m u) refl)) (every_same (31 - m) _ _ (λ p u. rw (le-ltb (m + p) m (omega arith)) (one (digit l (m + p)))))
   where
     one : (x : ℕ) → within 1 1 x ≡ eqb x 1
     one x = same_test _ _ (λ e. let w = within_true 1 1 x e in eq-eqb x 1 (omega arith))
         (λ e. let d = eqb-true x 1 e in within_of 1 1 x (omega arith) (omega arith))
 
-    past : (p : ℕ) → m + p < 31 → fits_at m l (m + p) ≡ eqb (digit l (m + p)) 1
-    past p u = rw (le-ltb (m + p) m (omega arith), get_d_any l (m + p) 0 1 (omega arith)) (one (digit l (m + p)))
-
 -- two labels fit if both halves do
-both_fit_lem : (m : ℕ) (x y : List ℕ) → m ≤ 31 → length x ≡ 31 → length y ≡ 31 → (half_fits m x y 0 && half_fits m x y 15) ≡ (row_fits 31 m x && row_fits 31 m y)
-both_fit_lem m x y h e f = ap (λ b. b && half_fits m x y 15) (every_same 16 _ fit (λ p _. ap fit (zero-add p)))
-    ∙ sym (parts fit 16 15 31 (omega arith) (omega arith)) ∙ every_and 31 _ _ ∙ ap₂ ◌&&◌ (row_fits_lem m x h e) (row_fits_lem m y h f)
+both_fit_lem : (m : ℕ) (x y : List ℕ) → m ≤ 31 → (half_fits m x y 0 && half_fits m x y 15) ≡ (row_fits 31 m x && row_fits 31 m y)
+both_fit_lem m x y h = ap (λ b. b && half_fits m x y 15) (every_same 16 _ fit (λ p _. ap fit (zero-add p)))
+    ∙ sym (parts fit 16 15 31 (omega arith) (omega arith)) ∙ every_and 31 _ _ ∙ ap₂ ◌&&◌ (row_fits_lem m x h) (row_fits_lem m y h)
   where
     fit : ℕ → Bool
     fit p = fits_at m x p && fits_at m y p
 
-pub all_fit : (m : ℕ) (labels : Planes) (from k : ℕ) {r s : Bool} → m ≤ 31 → from + k ≤ 32
-    → ((x : ℕ) → x < 2 → (i : ℕ) → i < 32 → length (cell labels x i []) ≡ 31)
+pub all_fit : (m : ℕ) (labels : Planes) (from k : ℕ) {r s : Bool} → m ≤ 31
     → r ≡ every k (λ i. half_fits m (cell labels 0 (from + i) []) (cell labels 1 (from + i) []) 0)
     → s ≡ every k (λ i. half_fits m (cell labels 0 (from + i) []) (cell labels 1 (from + i) []) 15)
     → (r && s) ≡ every k (λ i. both_fit m labels (from + i))
-all_fit m labels from k h l long e f = rw (e, f, ← every_and) (every_same k _ _ (λ i u.
-    both_fit_lem m _ _ h (long 0 (omega arith) (from + i) (omega arith)) (long 1 (omega arith) (from + i) (omega arith))))
+all_fit m labels from k h e f = rw (e, f, ← every_and) (every_same k _ _ (λ i u. both_fit_lem m _ _ h))
 
 -- RESULTS
 

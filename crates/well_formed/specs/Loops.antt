@@ -1,7 +1,7 @@
 -- What the loops test.
 use Rattle.std.specs.Prelude.{ℕ, ◌+◌, ◌-◌, Bool, cond, ◌&&◌, ◌||◌, List, [], nat_eq, nat_lt, slice_index}
 use Rattle.basics.specs.Tests.{within, every, tabulate}
-use Rattle.label.specs.Rows.{row_fits}
+use Rattle.label.specs.Rows.{digit, row_fits}
 use Rattle.arrays.specs.Arrays.{Rows, Planes, cell}
 use Rattle.arrays.specs.WellFormed.{control_fits, control_fresh}
 
@@ -11,7 +11,7 @@ tops = tabulate 64 0 (λ p. cond (nat_lt p 32) 5 1)
 
 -- the digit at position p is from 1 to the greatest there, in a label of m digits
 abbrev pub fits_at : ℕ → List ℕ → ℕ → Bool
-fits_at m label p = within 1 (cond (nat_lt p m) 5 1) (slice_index label p)
+fits_at m label p = within 1 (cond (nat_lt p m) 5 1) (digit label p)
 
 -- each of the 16 digits from position h on is, in two labels
 abbrev pub half_fits : ℕ → List ℕ → List ℕ → ℕ → Bool

@@ -15,11 +15,7 @@ fn tops() -> [u8; 64]
     ensures { result ≡ tops }
 {
     let mut r = [1u8; 64];
-    let mut p: usize = 0;
-    while p < 32 {
-        r[p] = 5;
-        p += 1;
-    }
+    r[..32].fill(5);
     r
 }
 
@@ -27,22 +23,21 @@ fn tops() -> [u8; 64]
 fn digit_fits(d: u8, top: u8) -> bool
     ensures { result ≡ within 1 top d }
 {
-    std::num::wrapping_sub_u8(d, 1) < top
+    d.wrapping_sub(1) < top
 }
 
 // Whether each of the 16 digits from position h on fits in two labels of m digits.
+#[tactic(auto, unfolding(basics::specs::Tests::every))]
 fn half_fits(m: usize, current: &[u8; 31], pending: &[u8; 31], most: &[u8; 64], h: usize) -> bool
     requires m_bound { (m ≤ 31) × (h ≤ 15) }
     requires most_value { most.now ≡ tops }
     ensures { result ≡ half_fits m current.now pending.now h }
 {
     let mut r = true;
-    let mut p: usize = 0;
-    while p < 16 {
+    for p in 0..16 {
         let q = h + p;
         let top = most[32 - m + q];
         r &= digit_fits(current[q], top) & digit_fits(pending[q], top);
-        p += 1;
     }
     r
 }
@@ -53,21 +48,13 @@ fn halves_fit(m: usize, labels: &Labels, from: usize, k: usize, most: &[u8; 64],
     requires most_value { most.now ≡ tops }
     ensures { result ≡ every k (λ i. half_fits m (cell labels.now 0 (from + i) []) (cell labels.now 1 (from + i) []) h) }
 {
-    let mut i: usize = 0;
-    while i < k {
-        if !half_fits(m, &labels[0][from + i], &labels[1][from + i], most, h) {
-            return false;
-        }
-        i += 1;
-    }
-    true
+    (from..from + k).all(|i| half_fits(m, &labels[0][i], &labels[1][i], most, h))
 }
 
 // Whether both labels of k stations, from the one at `from` on, fit as labels of m digits. First one half of all of them is read, then the other: the
 // halves, as long as a vector each, share position 15, and no byte is read for both at once.
 fn labels_fit(m: usize, labels: &Labels, from: usize, k: usize) -> bool
-    requires m_bound { (m ≤ 31) × (from + k ≤ 32) }
-    requires by_index { (x : ℕ) → x < 2 → (i : ℕ) → i < 32 → length (cell labels.now x i []) ≡ 31 }
+    requires { (m ≤ 31) × (from + k ≤ 32) }
     ensures { result ≡ every k (λ i. both_fit m labels.now (from + i)) }
 {
     let most = tops();
@@ -75,49 +62,46 @@ fn labels_fit(m: usize, labels: &Labels, from: usize, k: usize) -> bool
 }
 
 // Whether the control bytes of n stations fit, and those past them are fresh. All 32 places are read, and counted by bytes, as they are compared.
+#[tactic(auto, unfolding(basics::specs::Tests::every))]
 fn control_fits(n: usize, control: &Control) -> bool
     requires { n ≤ 32 }
     ensures { result ≡ every 32 (control_at n control.now) }
 {
     let end = n as u8;
     let mut r = true;
-    let mut i: usize = 0;
-    while i < 32 {
+    for i in 0..32 {
         let phase = control[0][i];
         let out = control[1][i];
         r &= (phase <= 4)
             & (out <= 1)
             & ((out == 0) | (phase == 0))
             & (((i as u8) < end) | ((phase == 0) & (out == 0)));
-        i += 1;
     }
     r
 }
 
 // Whether a row has nothing from place n on.
+#[tactic(auto, unfolding(basics::specs::Tests::every))]
 fn none_from(n: usize, row: &[u32; 32]) -> bool
     requires { n ≤ 32 }
     ensures { result ≡ none_from n row.now }
 {
     let mut r = true;
-    let mut i: usize = 0;
-    while i < 32 - n {
-        r &= row[n + i] == 0;
-        i += 1;
+    for x in &row[n..] {
+        r &= *x == 0;
     }
     r
 }
 
 // Whether each of the first k entries of a result is that of a station up to `most`, with a job.
+#[tactic(auto, using(basics::proofs::Loops::flag_more, basics::proofs::Loops::flag_up))]
 fn entries_fit(k: usize, most: u32, stations: &[u32; 32], jobs: &[u32; 32]) -> bool
     requires { k ≤ 32 }
     ensures { result ≡ every k (λ p. entry_fits most (slice_index stations.now p) (slice_index jobs.now p)) }
 {
     let mut r = true;
-    let mut p: usize = 0;
-    while p < k {
-        r &= (1 <= stations[p]) & (stations[p] <= most) & (jobs[p] != 0);
-        p += 1;
+    for (station, job) in stations[..k].iter().zip(&jobs[..k]) {
+        r &= (1 <= *station) & (*station <= most) & (*job != 0);
     }
     r
 }
@@ -129,25 +113,21 @@ fn tally(k: usize, stations: &[u32; 32]) -> [u8; 33]
     ensures { (i : ℕ) → i < 33 → slice_index result i ≡ count k (λ p. nat_eq (slice_index stations.now p) i) }
 {
     let mut r = [0u8; 33];
-    let mut p: usize = 0;
-    while p < k {
-        let s = stations[p] as usize;
-        r[s] += 1;
-        p += 1;
+    for station in &stations[..k] {
+        r[*station as usize] += 1;
     }
     r
 }
 
 // Whether none of n stations is counted twice.
+#[tactic(auto, unfolding(basics::specs::Tests::every))]
 fn none_twice(n: usize, counts: [u8; 33]) -> bool
     requires { n ≤ 32 }
     ensures { result ≡ every n (λ i. nat_le (slice_index counts (i + 1)) 1) }
 {
     let mut r = true;
-    let mut i: usize = 0;
-    while i < n {
-        r &= counts[i + 1] <= 1;
-        i += 1;
+    for c in &counts[1..n + 1] {
+        r &= *c <= 1;
     }
     r
 }
@@ -169,14 +149,7 @@ fn results_fit(n: usize, results: &Results) -> bool
     requires { n ≤ 32 }
     ensures { result ≡ every n (λ i. result_fits n (slice_index_or results.now i [])) }
 {
-    let mut i: usize = 0;
-    while i < n {
-        if !result_fits(n, &results[i]) {
-            return false;
-        }
-        i += 1;
-    }
-    true
+    results[..n].iter().all(|rows| result_fits(n, rows))
 }
 
 // Whether the results past the n stations are empty.
@@ -184,14 +157,9 @@ fn rest_is_fresh(n: usize, results: &Results) -> bool
     requires { n ≤ 32 }
     ensures { result ≡ every (32 - n) (λ i. result_fresh (slice_index_or results.now (n + i) [])) }
 {
-    let mut i: usize = 0;
-    while i < 32 - n {
-        if !(none_from(0, &results[n + i][0]) & none_from(0, &results[n + i][1])) {
-            return false;
-        }
-        i += 1;
-    }
-    true
+    results[n..]
+        .iter()
+        .all(|rows| none_from(0, &rows[0]) & none_from(0, &rows[1]))
 }
 
 // Whether the arrays hold a well-formed table.
@@ -211,7 +179,6 @@ pub fn well_formed(
         return false;
     }
     let n = count as usize;
-    arrays::shaped(*labels, *jobs, *control, *results);
     let stations = labels_fit(n - 1, labels, 0, n) & results_fit(n, results);
     let places = labels_fit(0, labels, n, 32 - n)
         & none_from(n, &jobs[0])

@@ -1,19 +1,20 @@
-use mathlib.Core.Path.{ap, sym, ◌∙◌}
+use Rattle.std.proofs.Common.{Some}
+use Rattle.std.proofs.lemmas.Bool.Decides.{Decides-eqb}
+use Rattle.std.proofs.lemmas.Slice.Eq.{strip_prefix_is}
+use mathlib.Core.Path.{◌≡◌, sym, ap, ◌∙◌}
+use mathlib.Core.List.{◌++◌}
 use native.Mathlib.Omega.{arith}
-use lib.ListN.{drop, length-drop}
+use lib.ListN.{replicate}
 use lib.Seq.{take_all}
 use Rattle.columns.specs.Reading.{column_read}
 use Rattle.columns.proofs.Scans.{blanks_passed, three_from}
 use Rattle.columns.proofs.read_column.Goals as goal
 
-pub returns-then-blank_front : goal.returns-then-blank_front
-returns-then-blank_front c =
-    let x = c in
-    let s = x.args.s.now in
-    let size = x.if-s-eq11.true in
-    let blank = sym x.blank_front.ensures ∙ x.if-blank_front.true in
-    c.read_three.ensures ∙ ap column_read (sym (three_from s 8 (omega (arith, size))) ∙ take_all 3 (drop 8 s) (omega (arith, length-drop 8 s, size)))
-    ∙ sym (blanks_passed s 8 (omega (arith, size)) blank)
-
-pub blank_front-requires : goal.blank_front-requires
-blank_front-requires c = omega arith
+-- The column is eight blanks and the three bytes behind them.
+pub returns-in-Some-len3 : goal.returns-in-Some-len3
+returns-in-Some-len3 c =
+    let s = c.args.s.now in
+    let rest = c.in-Some-len3.field-0.now in
+    let is : s ≡ replicate 8 32 ++ rest = strip_prefix_is Decides-eqb s (replicate 8 32) (Some c.in-Some-len3.field-0) c.in-Some-len3.ensures.cases in
+    let three = sym (take_all 3 rest (omega arith)) ∙ three_from rest 0 (omega arith) in
+    c.read_three.ensures ∙ sym (ap column_read (is ∙ ap (λ bs. replicate 8 32 ++ bs) three) ∙ blanks_passed _ _)

@@ -25,9 +25,3 @@ shape_of-out c = c.loop-i.invariant.wide ∙ simp length-set
 pub returns : goal.returns
 returns c = filled_last c.loop-i.invariant (omega arith) ∙ ap (λ (n : ℕ). column n c.args.v)
     (length-set c.args.out.now _ _)
-
-pub bounds-out-i-then-rest-eq0 : goal.bounds-out-i-then-rest-eq0
-bounds-out-i-then-rest-eq0 c = omega arith
-
-pub bounds-out-i-else-rest-eq0 : goal.bounds-out-i-else-rest-eq0
-bounds-out-i-else-rest-eq0 c = omega arith

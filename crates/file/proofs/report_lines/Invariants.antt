@@ -1,7 +1,7 @@
 use Prim.Native.Nat.{◌-◌}
 use lib.ListN.{length}
-use Rattle.moves.specs.declared.Refusal.TheVariants.{Accepted}
-use Rattle.arrays.specs.Arrays.{arrays}
+use Rattle.std.specs.Prelude.{Option, Some, None, Result, Ok, Err}
+use Rattle.file.specs.Tables.{arrays_in}
 use Rattle.schedule.specs.Sessions.{session}
 use Rattle.file.specs.Clauses.{Runnable}
 use Rattle.file.proofs.ChunkLaws.{Sofar}
@@ -10,8 +10,8 @@ use Rattle.file.proofs.report_lines.Given as goal
 -- The invariant is `Sofar` of ChunkLaws: what the lines before `at` left and printed.
 abbrev pub invariant-loop-out : goal.invariant-loop-out
 invariant-loop-out l =
-    Sofar (session l.lines Accepted (arrays l.n l.initial.labels l.initial.jobs l.initial.control l.initial.results)) l.chunk l.initial.out (arrays l.n l.labels l.jobs l.control l.results) l.count l.written l.at l.out
-    × Runnable (arrays l.n l.labels l.jobs l.control l.results) l.order
+    Sofar (session l.lines None (arrays_in l.initial.table)) l.chunk l.initial.out (arrays_in l.table) l.count l.written l.at l.out
+    × Runnable (arrays_in l.table) l.table.order
 
 abbrev pub decreases-loop-out : goal.decreases-loop-out
 decreases-loop-out l =

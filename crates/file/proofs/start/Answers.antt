@@ -4,9 +4,9 @@ use Rattle.file.proofs.start.Goals as goal
 
 pub returns : goal.returns
 returns c =
-    let fresh = c.refresh.ensures in
+    let fresh = c.fresh.ensures in
     record {
-      value = refl;
-      results_after = fresh.results_after;
-      underway = record { runnable = fresh.runnable; few = λ _. omega arith; fresh = λ _. fresh.results_after };
+      run_value = refl;
+      table_value = fresh.value;
+      underway = record { runnable = fresh.runnable; few = λ _. omega arith; fresh = λ _. fresh.value };
     }

@@ -1,4 +1,6 @@
-use mathlib.Core.Path.{refl}
+use mathlib.Core.Path.{ap, ◌∙◌}
+use Rattle.arrays.specs.Arrays.{Arrays}
+use Rattle.file.proofs.LineLaws.{count_after}
 use Rattle.numbering.proofs.Lines.{call_place, call_newest, call_valid, call_three, call_numbered}
 use Rattle.numbering.proofs.number_line.Goals as goal
 
@@ -10,7 +12,7 @@ renumber-requires c =
     let g = c.take_turn-t.ensures in
     record {
       place_lt_n = (call_place f g.runnable g.turns, call_newest f g.runnable g.turns, f.high);
-      by_index = call_valid f g.runnable g.turns refl;
+      by_index = call_valid f g.runnable g.turns (ap (λ (a : Arrays). a.count) g.turns.hands.table ∙ count_after f _);
       count_in_bounds = λ e. pre.count_in_bounds (call_three f g.runnable g.turns e);
       count_bound = pre.count_in_bounds_2.1;
       counted = pre.counted;

@@ -1,7 +1,14 @@
 use native.Mathlib.Omega.{arith}
-use mathlib.Core.Path.{refl}
+use mathlib.Core.Path.{◌≡◌, ap, subst, ◌∙◌}
+use Rattle.simulation.specs.Calls.{Call, Buffer, original}
+use Rattle.simulation.specs.Machine.{digits, step}
+use Rattle.transition.specs.Forms.{step_of}
+use Rattle.moves.specs.Moves.{call_of}
+use Rattle.arrays.specs.Arrays.{Arrays, state_of}
+use Rattle.arrays.specs.Form.{lent}
+use Rattle.file.specs.Tables.{arrays_in}
 use Rattle.schedule.proofs.Places.{StepAt, at_end, at_refused, at_call, calls_none, calls_refused}
-use Rattle.file.proofs.LineLaws.{fresh_orderly, fresh_runnable, next_state}
+use Rattle.file.proofs.LineLaws.{next_state, count_after}
 use Rattle.arrays.proofs.Planes.{none_beside}
 use Rattle.numbering.proofs.Lines.{sofar_start, sofar_end, sofar_more, step_room}
 use Rattle.numbering.proofs.number_lines.Goals as goal
@@ -15,16 +22,12 @@ here x =
     let k = x in
     at_call _ _ _ k.loop-request.invariant.0.within _ k.next_call.ensures _ x.in-Call.is
 
-pub order-order-requires : goal.order-order-requires
-order-order-requires c =
-    fresh_orderly c.args.n c.requires.le_n.0 c.requires.le_n.1 c.refresh.ensures
-
 pub loop-request-init : goal.loop-request-init
 loop-request-init c =
     let low = c.requires.le_n.0 in
     let high = c.requires.le_n.1 in
-    let fresh = c.refresh.ensures in
-    (sofar_start c.args.n low high _ _ c.requires.rest_in_bounds fresh none_beside, fresh_runnable c.args.n low high fresh c.order-order.ensures)
+    let fresh = c.fresh-table.ensures in
+    (sofar_start c.args.n low high _ _ c.requires.rest_in_bounds fresh.value none_beside, fresh.runnable, fresh.count_value)
 
 pub returns-in-End : goal.returns-in-End
 returns-in-End c =
@@ -52,8 +55,14 @@ number_line-count-requires c =
 pub loop-request-preserved : goal.loop-request-preserved
 loop-request-preserved c =
     let l = c.loop-request in
+    let call : Call = call_of c.in-Call.request (Buffer 928) in
     let g = c.number_line-count.ensures in
-    (sofar_more l.invariant.0 (here (goal.at.loop-request-preserved c).In-Call) refl g.numbers_call (next_state l.invariant.1 _), g.runnable_2)
+    (sofar_more l.invariant.0 (here (goal.at.loop-request-preserved c).In-Call) l.invariant.2 g.numbers_call 
+          (subst (λ n. state_of (step_of lent (arrays_in l.table) call).table ≡ (step original n (digits original n) (state_of (arrays_in l.table)) call).state)
+              l.invariant.2 (next_state l.invariant.1 call)),
+      g.runnable_2,
+      ap (λ (a : Arrays). a.count) g.numbers_call.table ∙ count_after l.invariant.1 _ ∙ l.invariant.2,
+    )
 
 pub next_call-requires : goal.next_call-requires
 next_call-requires c = c.loop-request.invariant.0.within

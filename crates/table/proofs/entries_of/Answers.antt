@@ -1,16 +1,10 @@
-use native.Mathlib.Omega.{arith}
-use mathlib.Core.Path.{refl, ◌∙◌}
-use Rattle.basics.proofs.Filled.{filled_none, filled_more}
-use Rattle.table.specs.Tables.{blank}
-use Rattle.table.proofs.Apart.{filled_end}
-use borrow.Author.Rules.{rules}
+use Rattle.std.proofs.Common.{rules, tests}
+use Rattle.basics.proofs.Chains.{made_each}
+use Rattle.arrays.specs.Arrays.{cell}
+use Rattle.table.specs.Tables.{declared_entry}
 use Rattle.table.proofs.entries_of.Goals as goal
 
-pub loop-p-init : goal.loop-p-init
-loop-p-init c = (search rules, filled_none 32 _ blank)
-
-pub loop-p-preserved : goal.loop-p-preserved
-loop-p-preserved c = let l = c.loop-p in (search rules, rw l.invariant.1 (filled_more 32 _ blank l.p _ (search rules) refl))
-
 pub returns : goal.returns
-returns c = let l = c.loop-p in l.invariant.1 ∙ filled_end _ blank l.p (omega arith)
+returns c =
+    let rows = c.args.rows.now in
+    made_each (λ p. declared_entry (cell rows 0 p 0) (cell rows 1 p 0)) c.from_fn.ensures.items (λ j y q k. search (rules, tests))

@@ -11,7 +11,6 @@ use Rattle.table.proofs.take_apart.Goals as goal
 
 pub loop-i-init : goal.loop-i-init
 loop-i-init c = (
-  search rules,
   filled_none 32 _ (replicate 31 0),
   filled_none 32 _ (replicate 31 0),
   filled_none 32 _ 0,
@@ -24,14 +23,13 @@ loop-i-init c = (
 pub loop-i-preserved : goal.loop-i-preserved
 loop-i-preserved c =
     let l = c.loop-i in (
-      search rules,
+      rw l.invariant.0 (filled_more 32 _ (replicate 31 0) l.i _ (search rules) refl),
       rw l.invariant.1 (filled_more 32 _ (replicate 31 0) l.i _ (search rules) refl),
-      rw l.invariant.2 (filled_more 32 _ (replicate 31 0) l.i _ (search rules) refl),
+      rw l.invariant.2 (filled_more 32 _ 0 l.i _ (search rules) refl),
       rw l.invariant.3 (filled_more 32 _ 0 l.i _ (search rules) refl),
-      rw l.invariant.4 (filled_more 32 _ 0 l.i _ (search rules) refl),
-      rw l.invariant.5 (filled_more 32 _ 0 l.i _ (search rules) c.phase_number.ensures),
-      rw l.invariant.6 (filled_more 32 _ 0 l.i _ (search rules) c.service_number.ensures),
-      rw l.invariant.7 (filled_more 32 _ (replicate 2 (replicate 32 0)) l.i _ (search rules) c.rows_of.ensures),
+      rw l.invariant.4 (filled_more 32 _ 0 l.i _ (search rules) c.phase_number.ensures),
+      rw l.invariant.5 (filled_more 32 _ 0 l.i _ (search rules) (search rules)),
+      rw l.invariant.6 (filled_more 32 _ (replicate 2 (replicate 32 0)) l.i _ (search rules) c.rows_of.ensures),
     )
 
 pub returns : goal.returns
@@ -40,7 +38,7 @@ returns c =
     let l = c.loop-i in
     let e : l.i ≡ 32 = omega arith in
     λ x. arrays c.args.t.count
-    ((l.invariant.1 ∙ filled_end _ (replicate 31 0) _ e) x ∷ (l.invariant.2 ∙ filled_end _ (replicate 31 0) _ e) x ∷ [])
-    ((l.invariant.3 ∙ filled_end _ 0 _ e) x ∷ (l.invariant.4 ∙ filled_end _ 0 _ e) x ∷ [])
-    ((l.invariant.5 ∙ filled_end _ 0 _ e) x ∷ (l.invariant.6 ∙ filled_end _ 0 _ e) x ∷ [])
-    ((l.invariant.7 ∙ filled_end _ (replicate 2 (replicate 32 0)) _ e) x)
+    ((l.invariant.0 ∙ filled_end _ (replicate 31 0) _ e) x ∷ (l.invariant.1 ∙ filled_end _ (replicate 31 0) _ e) x ∷ [])
+    ((l.invariant.2 ∙ filled_end _ 0 _ e) x ∷ (l.invariant.3 ∙ filled_end _ 0 _ e) x ∷ [])
+    ((l.invariant.4 ∙ filled_end _ 0 _ e) x ∷ (l.invariant.5 ∙ filled_end _ 0 _ e) x ∷ [])
+    ((l.invariant.6 ∙ filled_end _ (replicate 2 (replicate 32 0)) _ e) x)

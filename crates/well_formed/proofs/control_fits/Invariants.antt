@@ -1,10 +1,7 @@
-use Rattle.std.proofs.Common.{◌≡◌, ◌-◌, ◌≤◌}
+use Rattle.std.proofs.Common.{◌≡◌}
 use Rattle.basics.specs.Tests.{every}
 use Rattle.well_formed.specs.Loops.{control_at}
 use Rattle.well_formed.proofs.control_fits.Given as goal
 
 abbrev pub invariant-loop-i : goal.invariant-loop-i
-invariant-loop-i l = (l.i ≤ 32) × (l.r ≡ every l.i (control_at l.n l.control))
-
-abbrev pub decreases-loop-i : goal.decreases-loop-i
-decreases-loop-i l = 32 - l.i
+invariant-loop-i l = l.r ≡ every l.i (control_at l.n l.control)

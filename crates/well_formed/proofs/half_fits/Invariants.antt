@@ -1,10 +1,7 @@
-use Rattle.std.proofs.Common.{◌≡◌, ◌+◌, ◌-◌, ◌≤◌, ◌&&◌}
+use Rattle.std.proofs.Common.{◌≡◌, ◌+◌, ◌&&◌}
 use Rattle.basics.specs.Tests.{every}
 use Rattle.well_formed.specs.Loops.{fits_at}
 use Rattle.well_formed.proofs.half_fits.Given as goal
 
 abbrev pub invariant-loop-p : goal.invariant-loop-p
-invariant-loop-p l = (l.p ≤ 16) × (l.r ≡ every l.p (λ q. fits_at l.m l.current (l.h + q) && fits_at l.m l.pending (l.h + q)))
-
-abbrev pub decreases-loop-p : goal.decreases-loop-p
-decreases-loop-p l = 16 - l.p
+invariant-loop-p l = l.r ≡ every l.p (λ q. fits_at l.m l.current (l.h + q) && fits_at l.m l.pending (l.h + q))

@@ -1,19 +1,14 @@
-use mathlib.Core.Path.{◌∙◌}
-use Rattle.std.proofs.Common.{sym, arith, rules}
-use Rattle.basics.proofs.Facts.{every_no}
-use Rattle.basics.proofs.Loops.{every_none, every_more, every_done}
+use Rattle.std.proofs.Common.{◌+◌, [], ◌∙◌, rules, tests}
+use Rattle.std.proofs.lemmas.Iterator.{YieldsList-from_range}
+use Rattle.std.proofs.lemmas.Iterator.Search.{all_from_yields_List}
+use Rattle.basics.proofs.Chains.{all_range}
+use Rattle.arrays.specs.Arrays.{cell}
+use Rattle.well_formed.specs.Loops.{half_fits}
 use Rattle.well_formed.proofs.halves_fit.Goals as goal
 
-pub loop-i-init : goal.loop-i-init
-loop-i-init c = (search rules, every_none _)
-
-pub returns-then-not-half_fits : goal.returns-then-not-half_fits
-returns-then-not-half_fits c =
-    sym (every_no _ _ c.loop-i.i (search rules) (sym c.half_fits.ensures ∙ c.if-not-half_fits.true))
-
-pub loop-i-preserved : goal.loop-i-preserved
-loop-i-preserved c =
-    (search rules, every_more _ _ c.loop-i.invariant.1 (sym c.half_fits.ensures ∙ c.if-not-half_fits.false))
-
 pub returns : goal.returns
-returns c = every_done _ c.loop-i.invariant.1 (omega arith)
+returns c =
+    let a = c.args in
+    all_from_yields_List (λ i. half_fits a.m (cell a.labels.now 0 i []) (cell a.labels.now 1 i []) a.h) _ _ _ c.all.ensures.ran
+    (YieldsList-from_range a.from (a.from + a.k) a.k (search rules) (search rules)) (λ x b q k. search (rules, tests))
+    ∙ all_range _ a.from a.k

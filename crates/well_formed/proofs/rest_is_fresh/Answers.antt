@@ -1,25 +1,16 @@
-use Rattle.std.proofs.Common.{◌+◌, ◌&&◌, [], get_or, sym, ◌∙◌, ap₂, arith, rules}
-use Rattle.basics.proofs.Facts.{every_no}
-use Rattle.basics.proofs.Loops.{every_none, every_more, every_done}
+use Rattle.std.proofs.Common.{◌&&◌, ◌-◌, List, ℕ, [], take, drop, get_or, ◌∙◌, rules, tests, arith}
+use Rattle.std.proofs.lemmas.Iterator.{YieldsList-from_slice}
+use Rattle.std.proofs.lemmas.Iterator.Search.{all_from_yields_List}
+use Rattle.basics.proofs.Facts.{every_same}
+use Rattle.basics.proofs.Chains.{all_part}
+use Rattle.well_formed.specs.Loops.{none_from}
 use Rattle.well_formed.proofs.WellFormedLaws.{fresh_result}
 use Rattle.well_formed.proofs.rest_is_fresh.Goals as goal
 
-pub loop-i-init : goal.loop-i-init
-loop-i-init c = (search rules, every_none _)
-
-pub returns-then-not-none_from : goal.returns-then-not-none_from
-returns-then-not-none_from c =
-    let a = c.args in
-    sym (every_no _ _ c.loop-i.i (search rules) (sym (fresh_result (get_or a.results.now (a.n + c.loop-i.i) []))
-    ∙ (sym (ap₂ ◌&&◌ c.none_from.ensures c.none_from-in-loop-i.ensures) ∙ c.if-not-none_from.true)))
-
-pub loop-i-preserved : goal.loop-i-preserved
-loop-i-preserved c =
-    let a = c.args in (
-      search rules,
-      every_more _ _ c.loop-i.invariant.1 (sym (fresh_result (get_or a.results.now (a.n + c.loop-i.i) []))
-          ∙ (sym (ap₂ ◌&&◌ c.none_from.ensures c.none_from-in-loop-i.ensures) ∙ c.if-not-none_from.false)),
-    )
-
 pub returns : goal.returns
-returns c = every_done _ c.loop-i.invariant.1 (omega arith)
+returns c =
+    let a = c.args in
+    all_from_yields_List (λ (rows : List (List ℕ)). none_from 0 (get_or rows 0 []) && none_from 0 (get_or rows 1 [])) _ _ _ c.all.ensures.ran
+    (YieldsList-from_slice (take (32 - a.n) (drop a.n a.results.now)) cc) (λ x b q k. search (rules, tests))
+    ∙ all_part _ a.n (32 - a.n) a.results.now [] (omega arith)
+    ∙ every_same _ _ _ (λ i l. fresh_result _)

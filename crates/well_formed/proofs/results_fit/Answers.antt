@@ -1,19 +1,12 @@
-use mathlib.Core.Path.{◌∙◌}
-use Rattle.std.proofs.Common.{sym, arith, rules}
-use Rattle.basics.proofs.Facts.{every_no}
-use Rattle.basics.proofs.Loops.{every_none, every_more, every_done}
+use Rattle.std.proofs.Common.{[], take, ◌∙◌, rules, tests, arith}
+use Rattle.std.proofs.lemmas.Iterator.{YieldsList-from_slice}
+use Rattle.std.proofs.lemmas.Iterator.Search.{all_from_yields_List}
+use Rattle.basics.proofs.Chains.{all_front}
+use Rattle.arrays.specs.WellFormed.{result_fits}
 use Rattle.well_formed.proofs.results_fit.Goals as goal
 
-pub loop-i-init : goal.loop-i-init
-loop-i-init c = (search rules, every_none _)
-
-pub returns-then-not-result_fits : goal.returns-then-not-result_fits
-returns-then-not-result_fits c =
-    sym (every_no _ _ c.loop-i.i (search rules) (sym c.result_fits.ensures ∙ c.if-not-result_fits.true))
-
-pub loop-i-preserved : goal.loop-i-preserved
-loop-i-preserved c =
-    (search rules, every_more _ _ c.loop-i.invariant.1 (sym c.result_fits.ensures ∙ c.if-not-result_fits.false))
-
 pub returns : goal.returns
-returns c = every_done _ c.loop-i.invariant.1 (omega arith)
+returns c =
+    let a = c.args in
+    all_from_yields_List (result_fits a.n) _ _ _ c.all.ensures.ran (YieldsList-from_slice (take a.n a.results.now) cc) (λ x b q k. search (rules, tests))
+    ∙ all_front _ a.n a.results.now [] (omega arith)

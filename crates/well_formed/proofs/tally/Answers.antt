@@ -1,43 +1,34 @@
-use Rattle.std.proofs.Common.{ℕ, ◌<◌, true, eqb, get_or, refl, ap, ◌∙◌, arith, length-set, rules}
+use Rattle.std.proofs.Common.{◌<◌, true, eqb, get_or, refl, arith, length-set}
+use Rattle.std.proofs.lemmas.List.{get_or-take, length-take-le}
 use lib.ListN.{get_or-replicate}
 use Rattle.basics.specs.Tests.{count}
 use Rattle.basics.proofs.Facts.{count_bound}
 use Rattle.basics.proofs.Counts.{tally_hit}
 use Rattle.well_formed.proofs.tally.Goals as goal
-use Rattle.well_formed.proofs.tally.Goals.{In-loop-p}
+use Rattle.well_formed.proofs.tally.Goals.{In-loop-station}
 
--- the next station has its count
-station-here : (y : goal.In-loop-p) → get_or y.args.stations.now y.loop-p.p 0 < 33
-station-here y = let l = y in omega (arith, l.requires.by_index l.loop-p.p (omega arith))
+-- the next station, which has its count
+next : (y : goal.In-loop-station) → y.loop-station.station-index < y.args.k
+next y = let l = y in omega (arith, length-take-le y.args.k y.args.stations.now (omega arith))
 
-pub loop-p-init : goal.loop-p-init
+pub loop-station-init : goal.loop-station-init
 unfolding count
-loop-p-init c = (search rules, search rules, λ i h. get_or-replicate 33 i 0 0 h)
+loop-station-init c = (refl, λ i h. get_or-replicate 33 i 0 0 h)
 
 pub overflow_add-r : goal.overflow_add-r
 overflow_add-r c =
-    let l = c.loop-p in
+    let l = c.loop-station in
     let stations = c.args.stations.now in
-    let s = get_or stations l.p 0 in
-    omega (arith, l.invariant.2 s (station-here (goal.at.overflow_add-r c).In-loop-p), count_bound l.p (λ q. eqb (get_or stations q 0) s))
+    let h = next (goal.at.overflow_add-r c).In-loop-station in
+    let s = get_or stations l.station-index 0 in
+    rw (get_or-take c.args.k stations l.station-index 0 h)
+    (omega (arith, c.requires.by_index l.station-index h, l.invariant.1 s (omega (arith, c.requires.by_index l.station-index h)), count_bound l.station-index (λ q. eqb (get_or stations q 0) s)))
 
-pub loop-p-preserved : goal.loop-p-preserved
-loop-p-preserved c =
-    let l = c.loop-p in
-    let f : ℕ → ℕ = λ q. get_or c.args.stations.now q 0 in
-    (search rules, simp length-set l.invariant.1, tally_hit 33 (λ _. true) f l.r l.p l.invariant.2 refl (station-here (goal.at.loop-p-preserved c).In-loop-p) (omega (arith, station-here (goal.at.loop-p-preserved c).In-loop-p)))
-
-pub returns : goal.returns
-returns c = λ i h.
-    let l = c.loop-p in
-    let a = c.args in
-    l.invariant.2 i h ∙ ap (λ k. count k (λ p. eqb (get_or a.stations.now p 0) i)) {x = l.p} {y = a.k} (omega arith)
-
-pub overflow_cast-s : goal.overflow_cast-s
-overflow_cast-s c = omega (arith, station-here (goal.at.overflow_cast-s c).In-loop-p)
-
-pub bounds-r-s : goal.bounds-r-s
-bounds-r-s c = omega (arith, station-here (goal.at.bounds-r-s c).In-loop-p)
-
-pub bounds-r-s-in-loop-p : goal.bounds-r-s-in-loop-p
-bounds-r-s-in-loop-p c = omega (arith, station-here (goal.at.bounds-r-s-in-loop-p c).In-loop-p)
+pub loop-station-preserved : goal.loop-station-preserved
+loop-station-preserved c =
+    let l = c.loop-station in
+    let stations = c.args.stations.now in
+    let h = next (goal.at.loop-station-preserved c).In-loop-station in
+    let small : get_or stations l.station-index 0 < 33 = omega (arith, c.requires.by_index l.station-index h) in
+    rw (get_or-take c.args.k stations l.station-index 0 h)
+    (simp length-set l.invariant.0, tally_hit 33 (λ _. true) (λ q. get_or stations q 0) l.r l.station-index l.invariant.1 refl small (omega arith))

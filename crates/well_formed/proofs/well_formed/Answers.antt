@@ -1,4 +1,4 @@
-use Rattle.std.proofs.Common.{◌≤◌, ◌&&◌, leb, arith, rules}
+use Rattle.std.proofs.Common.{◌≤◌, ◌&&◌, leb, arith}
 use borrow.Author.Tests.{lt-leb}
 use Rattle.basics.proofs.Facts.{left_no, right_no}
 use Rattle.well_formed.proofs.WellFormedLaws.{wrong_count, stations, places, all_tests}
@@ -9,18 +9,6 @@ returns-then-count-lt2 c = wrong_count _ (left_no _ (lt-leb 2 _ c.if-count-lt2.t
 
 pub returns-then-count-gt32 : goal.returns-then-count-gt32
 returns-then-count-gt32 c = wrong_count _ (right_no (leb 2 c.args.count) (lt-leb _ 32 c.if-count-gt32.true))
-
-pub labels_fit-requires : goal.labels_fit-requires
-labels_fit-requires c = record {
-  m_bound = search rules;
-  by_index = λ x h. ((c.shaped.ensures 0).label x h).each;
-}
-
-pub labels_fit-requires-2 : goal.labels_fit-requires-2
-labels_fit-requires-2 c = record {
-  m_bound = search rules;
-  by_index = λ x h. ((c.shaped.ensures 0).label x h).each;
-}
 
 pub returns : goal.returns
 returns c =

@@ -1,6 +1,5 @@
-use Prim.Native.Nat.{ℕ}
 use native.Mathlib.Omega.{arith}
-use mathlib.Core.Path.{◌≡◌, ap, ◌∙◌}
+use mathlib.Core.Path.{◌≡◌, ap}
 use mathlib.Core.Bool.{not, ◌&&◌}
 use lib.ListN.{length, get_or, length-set, get_or-replicate}
 use lib.Dec.{eqb}
@@ -14,13 +13,7 @@ use Rattle.rows.proofs.choice.histogram.Goals.{else-j-k, then-j-k}
 
 pub loop-j-init : goal.loop-j-init
 unfolding count
-loop-j-init c = (search rules, search rules, λ q h. get_or-replicate 32 q 0 0 h)
-
-pub offset_bounds-r-q : goal.offset_bounds-r-q
-offset_bounds-r-q c = omega (arith, c.requires.by_index c.loop-j.j (omega arith))
-
-pub bounds-r-q : goal.bounds-r-q
-bounds-r-q c = omega (arith, c.requires.by_index c.loop-j.j (omega arith))
+loop-j-init c = (search rules, λ q h. get_or-replicate 32 q 0 0 h)
 
 pub overflow_add-r : goal.overflow_add-r
 overflow_add-r c =
@@ -30,15 +23,9 @@ overflow_add-r c =
     let q = get_or s j 0 in
     omega (
       arith,
-      c.loop-j.invariant.2 q (c.requires.by_index c.loop-j.j (omega arith)),
+      c.loop-j.invariant.1 q (c.requires.by_index c.loop-j.j (omega arith)),
       count_bound j (λ i. not (eqb i k) && eqb (get_or s i 0) q),
     )
-
-pub offset_bounds-r-q-then-j-k : goal.offset_bounds-r-q-then-j-k
-offset_bounds-r-q-then-j-k c = omega (arith, c.requires.by_index c.loop-j.j (omega arith))
-
-pub bounds-r-q-then-j-k : goal.bounds-r-q-then-j-k
-bounds-r-q-then-j-k c = omega (arith, c.requires.by_index c.loop-j.j (omega arith))
 
 pub loop-j-preserved : goal.loop-j-preserved
 loop-j-preserved c =
@@ -46,18 +33,13 @@ loop-j-preserved c =
     let k = c.args.k in
     let r = c.loop-j.r in
     let j = c.loop-j.j in
-    let old = c.loop-j.invariant.2 in
-    let l : length r ≡ 32 = c.loop-j.invariant.1 in
+    let old = c.loop-j.invariant.1 in
+    let l : length r ≡ 32 = c.loop-j.invariant.0 in
     let small = c.requires.by_index c.loop-j.j (omega arith) in
     elim c.if-j-k.branch [
       | then-j-k w ↦ (
-        search rules,
         rw w.r-is (simp length-set l),
         rw w.r-is (tally_hit 32 (λ i. not (eqb i k)) (λ i. get_or s i 0) r j old (ap not (ne_eqb j k w.if-j-k.true)) small (omega arith)),
       )
-      | else-j-k w ↦ (search rules, rw w.r-is l, rw w.r-is (tally_miss 32 (λ i. not (eqb i k)) (λ i. get_or s i 0) r j old (ap not (eq-eqb j k w.if-j-k.false))))
+      | else-j-k w ↦ (rw w.r-is l, rw w.r-is (tally_miss 32 (λ i. not (eqb i k)) (λ i. get_or s i 0) r j old (ap not (eq-eqb j k w.if-j-k.false))))
     ]
-
-pub returns : goal.returns
-returns c = λ q h. c.loop-j.invariant.2 q h ∙ ap (λ (n : ℕ). count n (λ i. not (eqb i c.args.k) && eqb
-    (get_or c.args.shared.now i 0) q)) (omega arith)

@@ -1,4 +1,4 @@
-use Prim.Native.Nat.{ℕ, ◌-◌, ◌≤◌, ◌<◌}
+use Prim.Native.Nat.{ℕ, ◌<◌}
 use mathlib.Core.Path.{◌≡◌}
 use mathlib.Core.Bool.{not, ◌&&◌}
 use lib.ListN.{length, get_or}
@@ -7,7 +7,4 @@ use Rattle.basics.specs.Tests.{count}
 use Rattle.rows.proofs.choice.histogram.Given as goal
 
 abbrev pub invariant-loop-j : goal.invariant-loop-j
-invariant-loop-j l = (l.j ≤ l.n) × (length l.r ≡ 32) × ((q : ℕ) → q < 32 → get_or l.r q 0 ≡ count l.j (λ i. not (eqb i l.k) && eqb (get_or l.shared i 0) q))
-
-abbrev pub decreases-loop-j : goal.decreases-loop-j
-decreases-loop-j l = l.n - l.j
+invariant-loop-j l = (length l.r ≡ 32) × ((q : ℕ) → q < 32 → get_or l.r q 0 ≡ count l.j (λ i. not (eqb i l.k) && eqb (get_or l.shared i 0) q))

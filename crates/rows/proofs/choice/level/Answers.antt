@@ -1,13 +1,13 @@
-use Prim.Native.Nat.{◌+◌}
+use Prim.Native.Nat.{◌+◌, ◌-◌}
+use mathlib.Core.Path.{◌≡◌, ◌∙◌, sym}
 use native.Mathlib.Omega.{arith}
-use lib.ListN.{get_or}
+use lib.ListN.{length, get_or}
 use borrow.Author.Count.{below_more}
-use borrow.Author.Rules.{rules}
 use Rattle.rows.proofs.ChoiceLaws.{upto_none, upto_more, upto_small, level_is}
 use Rattle.rows.proofs.choice.level.Goals as goal
 
 pub loop-p-init : goal.loop-p-init
-loop-p-init c = (search rules, upto_none _, λ q h. absurd (omega arith))
+loop-p-init c = (upto_none _, λ q h. absurd (omega arith))
 
 pub overflow_add-few : goal.overflow_add-few
 overflow_add-few c =
@@ -17,7 +17,7 @@ overflow_add-few c =
     omega (
       arith,
       upto_more r p,
-      upto_small a.n a.k (λ j. get_or a.shared.now j 0) 32 r c.histogram-exact.ensures (omega arith) (p + 1)
+      upto_small (length a.shared.now) a.k (λ j. get_or a.shared.now j 0) 32 r c.histogram-exact.ensures (omega arith) (p + 1)
           (omega arith),
     )
 
@@ -26,18 +26,19 @@ returns-then-few-p c =
     let a = c.args in
     let r = c.histogram-exact.result in
     let p = c.loop-p.p in
-    level_is a.n a.k (λ j. get_or a.shared.now j 0) 32 r c.histogram-exact.ensures (omega arith) p (omega arith) (omega arith)
-    c.loop-p.invariant.2 (λ h. omega (arith, upto_more r p))
+    level_is (length a.shared.now) a.k (λ j. get_or a.shared.now j 0) 32 r c.histogram-exact.ensures (omega arith) p (omega arith) (omega arith)
+    c.loop-p.invariant.1 (λ h. omega (arith, upto_more r p))
 
 pub loop-p-preserved : goal.loop-p-preserved
 loop-p-preserved c =
     let r = c.histogram-exact.result in
     let p = c.loop-p.p in
-    (search rules, omega (arith, upto_more r p), below_more _ _ c.loop-p.invariant.2 (omega (arith, upto_more r p)))
+    (omega (arith, upto_more r p), below_more _ _ c.loop-p.invariant.1 (omega (arith, upto_more r p)))
 
 pub returns : goal.returns
 returns c =
     let a = c.args in
-    level_is a.n a.k (λ j. get_or a.shared.now j 0) 32 c.histogram-exact.result c.histogram-exact.ensures (omega arith)
+    let e : c.loop-p.p ≡ length a.shared.now - 1 = omega arith in
+    sym e ∙ level_is (length a.shared.now) a.k (λ j. get_or a.shared.now j 0) 32 c.histogram-exact.result c.histogram-exact.ensures (omega arith)
     c.loop-p.p (omega arith) (omega arith)
-    c.loop-p.invariant.2 (λ h. absurd (omega arith))
+    c.loop-p.invariant.1 (λ h. absurd (omega arith))

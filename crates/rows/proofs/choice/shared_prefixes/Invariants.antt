@@ -1,4 +1,3 @@
-use Prim.Native.Nat.{◌-◌, ◌≤◌}
 use mathlib.Core.Path.{◌≡◌}
 use Rattle.label.specs.Labels.{first_difference}
 use Rattle.label.specs.Rows.{digit}
@@ -7,7 +6,4 @@ use Rattle.basics.proofs.Filled.{filled}
 use Rattle.rows.proofs.choice.shared_prefixes.Given as goal
 
 abbrev pub invariant-loop-j : goal.invariant-loop-j
-invariant-loop-j l = (l.j ≤ l.n) × (l.shared ≡ filled 32 l.j (λ q. first_difference l.m (held l.rows q) (digit l.top)) 0)
-
-abbrev pub decreases-loop-j : goal.decreases-loop-j
-decreases-loop-j l = l.n - l.j
+invariant-loop-j l = l.shared ≡ filled 32 l.j (λ q. first_difference l.m (held l.rows q) (digit l.top)) 0

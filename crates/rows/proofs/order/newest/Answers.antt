@@ -1,22 +1,5 @@
-use native.Mathlib.Omega.{arith}
-use Rattle.rows.proofs.NewestLaws.{leads_one, leads_all}
-use borrow.Author.Rules.{rules}
+use Rattle.rows.proofs.NewestLaws.{leads_one}
 use Rattle.rows.proofs.order.newest.Goals as goal
 
 pub loop-j-init : goal.loop-j-init
-loop-j-init c = (search rules, omega (arith, c.requires.low), rw c.alone-top.ensures (leads_one c.requires))
-
-pub with_next-top-requires : goal.with_next-top-requires
-with_next-top-requires c = record {
-  orderly = c.requires;
-  j_lt_n = search rules;
-  leads = c.loop-j.invariant.2;
-}
-
-pub loop-j-preserved : goal.loop-j-preserved
-loop-j-preserved c = (search rules, search rules, c.with_next-top.ensures)
-
-pub returns : goal.returns
-returns c =
-    let all = leads_all c.requires (omega arith) c.loop-j.invariant.2 in
-    record { station_value = all.0; holders_value = all.1 }
+loop-j-init c = rw c.alone-top.ensures (leads_one c.requires)

@@ -1,8 +1,10 @@
 use Prim.Native.Nat.{◌+◌, ◌/◌, ◌<◌}
 use mathlib.Core.Path.{◌≡◌}
 use native.Mathlib.Omega.{arith}
-use lib.ListN.{get_or}
-use Rattle.rows.proofs.OrderLaws.{orderly_total, before_front, before_back}
+use lib.ListN.{length, get_or}
+use Rattle.rows.proofs.OrderLaws.{orderly_total, Other, put_in_lem, before_front, before_back}
+use Rattle.basics.proofs.Facts.{all_at}
+use lib.Seq.{take_all}
 use borrow.Author.Rules.{rules}
 use Rattle.rows.proofs.order.position.Goals as goal
 use Rattle.rows.proofs.order.position.Goals.{In-loop-low}
@@ -10,7 +12,7 @@ use Rattle.rows.proofs.order.position.Goals.{In-loop-low}
 listed : (c : goal.In-loop-low)
     → get_or c.args.order.now ((c.loop-low.low + c.loop-low.high) / 2) 0
     < c.args.n
-listed c = (c.requires.by_index ((c.loop-low.low + c.loop-low.high) / 2) (omega arith)).0
+listed c = (all_at (Other c.args.n c.args.k) c.args.order.now 0 c.requires.others ((c.loop-low.low + c.loop-low.high) / 2) (omega arith)).0
 
 pub loop-low-init : goal.loop-low-init
 loop-low-init c = (search rules, search rules, λ p h. absurd (omega arith), λ p h u. absurd (omega arith))
@@ -35,7 +37,7 @@ pub loop-low-preserved-then-label_before : goal.loop-low-preserved-then-label_be
 loop-low-preserved-then-label_before c = (
   omega arith,
   search rules,
-  before_front (orderly_total _ _ c.requires.orderly) _ c.requires.k_lt_n.0 _ c.args.order.now c.requires.by_index c.requires.by_index_2 _
+  before_front (orderly_total _ _ c.requires.orderly) _ c.requires.k_lt_n _ c.args.order.now (all_at (Other c.args.n c.args.k) c.args.order.now 0 c.requires.others) c.requires.by_index _
       (omega arith) c.label_before.ensures c.if-label_before.true,
   c.loop-low.invariant.3,
 )
@@ -45,15 +47,16 @@ loop-low-preserved c = (
   omega arith,
   omega arith,
   c.loop-low.invariant.2,
-  before_back (orderly_total _ _ c.requires.orderly) _ c.requires.k_lt_n.0 _ c.args.order.now c.requires.by_index c.requires.by_index_2 _
+  before_back (orderly_total _ _ c.requires.orderly) _ c.requires.k_lt_n _ c.args.order.now (all_at (Other c.args.n c.args.k) c.args.order.now 0 c.requires.others) c.requires.by_index _
       (omega arith) c.label_before.ensures c.if-label_before.false,
 )
 
 pub returns : goal.returns
 returns c =
+    let l = c.args.order.now in
     let e : c.loop-low.low ≡ c.loop-low.high = omega arith in
     record {
       upper_bound = search rules;
-      by_index_3 = c.loop-low.invariant.2;
-      by_index_4 = λ p h. c.loop-low.invariant.3 p (omega arith);
+      placed = rw (take_all (length l) l (omega arith)) at (put_in_lem (orderly_total _ _ c.requires.orderly) _ c.requires.k_lt_n (length l) l
+          (all_at (Other c.args.n c.args.k) l 0 c.requires.others) (omega arith) c.loop-low.low (omega arith) c.loop-low.invariant.2 (λ p h. c.loop-low.invariant.3 p (omega arith)));
     }

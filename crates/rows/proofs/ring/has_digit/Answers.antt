@@ -1,28 +1,11 @@
-use mathlib.Core.Path.{ap, sym}
-use mathlib.Core.Bool.{not}
-use native.Mathlib.Omega.{arith}
-use lib.Dec.{eqb}
-use borrow.Author.Rules.{rules}
-use Rattle.rows.specs.Held.{held}
-use Rattle.basics.proofs.Loops.{every_none, every_more, every_done}
-use Rattle.rows.proofs.Rings.{some_here, reads, reads_not}
+use Rattle.std.proofs.Common.{◌∙◌, get_or, eqb, rules, tests}
+use Rattle.std.proofs.lemmas.Iterator.{YieldsList-from_slice}
+use Rattle.std.proofs.lemmas.Iterator.Search.{any_from_yields_List}
+use Rattle.rows.proofs.Rings.{has_any}
 use Rattle.rows.proofs.ring.has_digit.Goals as goal
 
-pub loop-j-init : goal.loop-j-init
-loop-j-init c = (search rules, every_none _)
-
-pub returns-then-rows-j : goal.returns-then-rows-j
-returns-then-rows-j c =
-    let a = c.args in
-    let j = c.loop-j.j in
-    sym (some_here a.n (λ k. eqb (held a.rows.now k a.p) a.d) j (search rules)
-    (reads a.rows.now j a.p a.d (search rules) c.if-rows-j.true))
-
-pub loop-j-preserved : goal.loop-j-preserved
-loop-j-preserved c =
-    let a = c.args in
-    let j = c.loop-j.j in
-    (search rules, every_more _ _ c.loop-j.invariant.1 (ap not (reads_not a.rows.now j a.p a.d (search rules) c.if-rows-j.false)))
-
 pub returns : goal.returns
-returns c = ap not (every_done _ c.loop-j.invariant.1 (omega arith))
+returns c =
+    let a = c.args in
+    any_from_yields_List (λ row. eqb (get_or row a.p 0) a.d) _ _ c.any.result c.any.ensures.ran (YieldsList-from_slice a.rows.now cc) (λ x b q k. search (rules, tests))
+    ∙ has_any a.rows.now a.p a.d c.requires.0

@@ -1,20 +1,14 @@
-use native.Mathlib.Omega.{arith}
-use mathlib.Core.Path.{sym, ◌∙◌}
-use borrow.Author.Rules.{rules}
-use Rattle.basics.proofs.Facts.{every_no}
-use Rattle.basics.proofs.Loops.{every_none, every_more, every_done}
-use Rattle.rows.proofs.Rings.{no_ring_each}
+use Rattle.std.proofs.Common.{◌-◌, ◌∙◌, refl, length, take, arith, rules, tests}
+use Rattle.std.proofs.lemmas.Iterator.{YieldsList-from_range}
+use Rattle.std.proofs.lemmas.Iterator.Search.{all_from_yields_List}
+use Rattle.basics.specs.Tests.{every}
+use Rattle.rows.specs.Held.{held, no_ring_at}
+use Rattle.rows.proofs.Rings.{all_positions}
 use Rattle.rows.proofs.ring.no_ring.Goals as goal
 
-pub loop-p-init : goal.loop-p-init
-loop-p-init c = (search rules, every_none _)
-
-pub returns-then-not-no_ring_at : goal.returns-then-not-no_ring_at
-returns-then-not-no_ring_at c = sym (no_ring_each _ _ (search rules) ∙ every_no _ _ c.loop-p.p (search rules)
-    (sym c.no_ring_at.ensures ∙ c.if-not-no_ring_at.true))
-
-pub loop-p-preserved : goal.loop-p-preserved
-loop-p-preserved c = (search rules, every_more _ _ c.loop-p.invariant.1 (sym c.no_ring_at.ensures ∙ c.if-not-no_ring_at.false))
-
 pub returns : goal.returns
-returns c = every_done _ c.loop-p.invariant.1 (omega arith) ∙ sym (no_ring_each _ _ (search rules))
+returns c =
+    let rows = c.args.rows.now in
+    let n = c.args.n in
+    all_from_yields_List (λ p. every (length (take n rows)) (no_ring_at (length (take n rows)) (held (take n rows)) p)) _ _ c.all.result c.all.ensures.ran (YieldsList-from_range 0 (n - 1) (n - 1) refl (omega arith)) (λ x b q k. search (rules, tests))
+    ∙ all_positions rows n (omega arith) (omega arith)
