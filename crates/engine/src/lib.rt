@@ -205,9 +205,9 @@ pub fn carry_out(
         (arrays n labels.new jobs.new control.new results.new) result }
 {
     arrays::shaped(*labels, *jobs, *control, *results);
-    let task = task?;
-    relabel(task.action, task.place, task.newest, n, labels);
-    carry_rest(n, Ok(task), order, jobs, control, results)
+    let accepted = task?;
+    relabel(accepted.action, accepted.place, accepted.newest, n, labels);
+    carry_rest(n, task, order, jobs, control, results)
 }
 
 // Judges a call on a table of n stations with what is lent for its report; `top` is the newest station, as far as it is known.
@@ -229,11 +229,9 @@ pub fn judge(
     } else {
         0
     };
-    let own = Standing {
-        phase: arrays::phase_of(number),
-        out: arrays::is_out(control[SERVICE][place]),
-        shown,
-    };
+    let phase = arrays::phase_of(number);
+    let out = arrays::is_out(control[SERVICE][place]);
+    let own = Standing { phase, out, shown };
     let action = moves::judge(n, own, q.code, q.station, q.job, room)?;
     Ok(Task {
         action,
@@ -369,8 +367,10 @@ pub fn top_holders(
     ensures { Tells lent (arrays count labels.now jobs.now control.now results.now)
         (told_number result) (told_count result) }
 {
-    if !well_formed::well_formed(count, labels, jobs, control, results) {
-        return Err(Refusal::IllFormedTable);
+    if well_formed::well_formed(count, labels, jobs, control, results) {
+        let top = rows::order::newest(&labels[CURRENT], count as usize);
+        Ok(top.holders)
+    } else {
+        Err(Refusal::IllFormedTable)
     }
-    Ok(rows::order::newest(&labels[CURRENT], count as usize).holders)
 }

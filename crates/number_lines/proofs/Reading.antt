@@ -13,7 +13,7 @@ use borrow.Author.Tests.{eqb-true, eq-eqb, ne_eqb, ltb-true, ltb-false}
 use Rattle.basics.proofs.Filled.{taken_more}
 use Rattle.columns.specs.Columns.{column}
 use Rattle.columns.specs.Reading.{column_read}
-use Rattle.columns.proofs.ColumnLaws.{length_column, bad_value, column_iff}
+use Rattle.columns.proofs.ColumnLaws.{length_column, column_iff}
 use Rattle.number_lines.specs.Lines.{number_line, number_lines, NumberLine, NumberLines, number_read, lines_read, NumbersRead}
 use Rattle.number_lines.proofs.Printing.{length_number, length_numbers}
 
@@ -37,7 +37,7 @@ pub line_long : (bs : List ℕ) (v : ℕ) → number_read bs ≡ Some v → 12 �
 line_long bs v e = go (ltb (length bs) 12) refl
   where
     go : (b : Bool) → ltb (length bs) 12 ≡ b → 12 ≤ length bs
-    go true t = absurd (bad_value (sym (line_short bs (ltb-true (length bs) 12 t)) ∙ e))
+    go true t = cc (sym (line_short bs (ltb-true (length bs) 12 t)) ∙ e)
     go false t = ltb-false (length bs) 12 t
 
 -- a number is read exactly where its line stands at the front
@@ -57,7 +57,7 @@ module _ (bs : List ℕ) (v : ℕ) where
         line = take-suc bs 11 0 (omega (arith, long)) ∙ ap₂ (λ x y. x ++ (y ∷ [])) (f.0 ∙ ap (λ w. column w v) wide) (eqb-true (get_or bs 11 0) 10 t);
         fits = (rw wide at f).1;
       }
-      go false t k = absurd (bad_value k)
+      go false t k = cc
 
   line_read : NumberLine (take 12 bs) v → number_read bs ≡ Some v
   unfolding number_line

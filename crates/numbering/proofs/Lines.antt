@@ -35,13 +35,16 @@ use Rattle.schedule.proofs.Places.{calls_from, StepAt, calls_step}
 use Rattle.schedule.proofs.Surveys.{one, one_few, snap_calls_lem}
 use Rattle.file.specs.Clauses.{Runnable, Turns}
 use Rattle.file.proofs.LineLaws.{run_passes, next_state}
+use Rattle.std.specs.Prelude.{Ok, Err}
+use Rattle.moves.specs.declared.Refusal.{Refusal}
+use Rattle.numbering.proofs.Kept.{none_given}
 use Rattle.file.specs.declared.Turn.{Turn}
 use Rattle.numbering.specs.Clauses.{renumber_in, Renumbered, Counted, NumbersCall}
 use Rattle.numbering.proofs.Renumbering.{Snapped, snapped_after, renumber_is, counted_kept}
 
 -- A CALL, served on a table that calls leave of the fresh one
 module _ {a : Arrays} {order : Lists.List ℕ} (f : Runnable a order) {c : Call} {a' : Arrays} {order' : Lists.List ℕ} (f' : Runnable a' order')
-    {t : Turn} (g : Turns a c a' t) where
+    {t : Turn} (g : Turns a c a' (Ok t)) where
   abbrev n : ℕ
   n = a.count
 
@@ -56,7 +59,7 @@ module _ {a : Arrays} {order : Lists.List ℕ} (f : Runnable a order) {c : Call}
   same_step = step_any t.handed.place c.job t.action ∙ ap label_step g.action
 
   pub call_place : t.handed.place < n
-  call_place = omega (arith, g.hands.place ∙ ap (λ b. cond b (place_of n c.station) 0) (run_passes f), place_below n c.station f.low)
+  call_place = omega (arith, g.hands.handed.place ∙ ap (λ b. cond b (place_of n c.station) 0) (run_passes f), place_below n c.station f.low)
 
   pub call_newest : t.newest < n
   call_newest = omega (arith, g.newest, newest_station a (run_passes f))
@@ -106,6 +109,17 @@ module _ {a : Arrays} {order : Lists.List ℕ} (f : Runnable a order) {c : Call}
 
       r' : Renumbered (renumber_in n pending t.newest N asked) (label_snap asked) count list numbers' count' list'
       r' = subst (λ w. Renumbered (renumber_in n pending t.newest N w) (label_snap w) count list numbers' count' list') same_step r
+
+-- a call that is refused leaves the numbers
+pub call_refused : {a : Arrays} {order : Lists.List ℕ} → Runnable a order → {c : Call} {a' : Arrays} {r : Refusal} → Turns a c a' (Err r)
+    → {numbers : Rows} {count : ℕ} {list : Lists.List ℕ} → Counted count numbers list → NumbersCall a c numbers count list a' numbers count list
+unfolding renumber
+call_refused {a} f {c} g {numbers} {count} {list} k = record {
+  table = g.hands.table;
+  renumbered = subst (λ w. Renumbered (renumber a.count (digits original a.count) (slot_of (a.count - 1)) (state_of a).labels (Planes.beside numbers) w) (label_snap w)
+      count list numbers count list) (ap label_step g.action) (none_given refl);
+  counted = k;
+}
 
 -- THE LOOP: the numbers of all lines are those that the lines left make of the ones given so far
 pub record Sofar (n : ℕ) (rest list₀ : Lists.List ℕ) (a : Arrays) (numbers : Rows) (count lines at : ℕ) (list : Lists.List ℕ) : Type 0 where

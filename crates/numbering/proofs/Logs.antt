@@ -4,7 +4,7 @@ use mathlib.Core.Path.{◌≡◌, refl, sym, ap, subst, ◌∙◌}
 use mathlib.Core.List as Lists
 use lib.ListN.{length, take, drop}
 use lib.Seq.{take_at}
-use Rattle.moves.specs.Moves.{refusal_number}
+use Rattle.moves.specs.Moves.{final_number}
 use Rattle.arrays.specs.Form.{lent}
 use Rattle.arrays.proofs.States.{lent_lawful}
 use Rattle.schedule.specs.Tables.{tables}
@@ -19,12 +19,12 @@ use Rattle.numbering.specs.Files.{numbering_refusal, file_numbers, NumbersFile}
 use Rattle.simulation.specs.Calls.{original}
 
 -- a file that is served has no final refusal
-served_final : (bs : Lists.List ℕ) (room : ℕ) → refusal_number (numbering_refusal bs room) ≡ 0 → refusal_number (final_of bs) ≡ 0
+served_final : (bs : Lists.List ℕ) (room : ℕ) → final_number (numbering_refusal bs room) ≡ 0 → final_number (final_of bs) ≡ 0
 unfolding numbering_refusal
 served_final bs room z = (surveyed_none (final_of bs) (length (file_calls original bs)) _ z).0
 
 -- nor is it refused as the file of a log
-pub served_reading : (bs : Lists.List ℕ) (room : ℕ) → refusal_number (numbering_refusal bs room) ≡ 0 → refusal_number (reading_refusal bs) ≡ 0
+pub served_reading : (bs : Lists.List ℕ) (room : ℕ) → final_number (numbering_refusal bs room) ≡ 0 → final_number (reading_refusal bs) ≡ 0
 unfolding numbering_refusal reading_refusal
 served_reading bs room z = surveyed_served (final_of bs) (length (file_calls original bs)) _ z
 
@@ -33,7 +33,7 @@ pub numbered_log : {bs list list' : Lists.List ℕ} {written : ℕ} → NumbersF
 numbered_log {bs} {list} {list'} {written} f =
     let s = f.served refl in
     let ns = file_numbers bs (length list) in
-    let z = sym (ap (λ h. refusal_number (final_after h (step_lines bs))) s.1) ∙ served_final bs (length list) (sym f.number) in
+    let z = sym (ap (λ h. final_number (final_after h (step_lines bs))) s.1) ∙ served_final bs (length list) (sym f.number) in
     let written_here : take written list' ≡ ns = ap (take written) f.left ∙ take_at ns (drop (length ns) list) written (sym f.count) in
     subst (λ x. RightLog bs x (scan_lines (file_report (tables lent) bs))) (sym written_here)
     (subst (RightLog bs ns) (sym (lists_struck lent lent_lawful bs s.0 s.1 z)) (right_log refl s.1 s.2))

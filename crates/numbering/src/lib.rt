@@ -11,7 +11,7 @@ ghost use Rattle.simulation.specs.Calls.{Buffer, original};
 ghost use Rattle.simulation.specs.Machine.{put, label_step, label_snap, snap};
 ghost use Rattle.simulation.specs.Numbering.{through, bump, number, placed, numbers_of};
 ghost use Rattle.transition.specs.Forms.{over};
-ghost use Rattle.moves.specs.Moves.{refusal_number, move_of, call_of};
+ghost use Rattle.moves.specs.Moves.{told_number, told_count, move_of, call_of};
 ghost use Rattle.moves.specs.declared.Move.TheVariants.{SnapLabel};
 ghost use Rattle.arrays.specs.Planes.{beside};
 ghost use Rattle.schedule.specs.Demand.{step_calls};
@@ -23,10 +23,9 @@ ghost use Rattle.numbering.specs.Clauses.{slot_for, slot_in, renumber_in, Renumb
 ghost use Rattle.numbering.specs.Files.{refused_by, NumbersFile};
 
 use arrays::{CURRENT, PENDING};
-use engine::Reply;
 use file::OrderedTable;
 use moves::{Move, Refusal, Request};
-use schedule::{Header, Next, Survey};
+use schedule::Survey;
 
 // Where the number of a new label goes among those in use: it is one of them, or it comes right after one.
 #[derive(Clone, Copy)]
@@ -49,10 +48,8 @@ fn bump(list: &mut [u32], n: usize, c: u32)
     requires by_index { (i : ℕ) → i < n → get_or list.old i 0 < 4294967295 }
     ensures { list.new ≡ map (bump c) (take n list.old) ++ drop n list.old }
 {
-    let mut i: usize = 0;
-    while i < n {
+    for i in 0..n {
         list[i] = bumped(list[i], c);
-        i += 1;
     }
 }
 
@@ -81,8 +78,7 @@ fn slot_of(rows: &[[u8; 31]; 32], n: usize, k: usize, pending: &[u32; 32], top: 
     let m = n - 1;
     let new = rows[k];
     let mut highest = top;
-    let mut i: usize = 0;
-    while i < n {
+    for i in 0..n {
         if i != k {
             let p = label::first_difference(rows[i], new, m);
             if p == m {
@@ -90,7 +86,6 @@ fn slot_of(rows: &[[u8; 31]; 32], n: usize, k: usize, pending: &[u32; 32], top: 
             }
             highest = higher(highest, pending[i], rows[i], new, p);
         }
-        i += 1;
     }
     Slot::After(highest)
 }
@@ -213,20 +208,22 @@ fn number_line(
     ensures runnable_2 { Runnable (arrays_in table.new) table.new.order }
 {
     let n = table.count;
-    let t = file::take_turn(request, table);
-    let m = t.action;
-    let handed = t.handed;
-    let parts = &table.parts;
-    renumber(
-        m,
-        handed.place,
-        t.newest,
-        &parts.labels[PENDING],
-        n,
-        numbers,
-        given,
-        count,
-    )
+    match file::take_turn(request, table) {
+        Err(_) => count,
+        Ok(turn) => {
+            let parts = &table.parts;
+            renumber(
+                turn.action,
+                turn.handed.place,
+                turn.newest,
+                &parts.labels[PENDING],
+                n,
+                numbers,
+                given,
+                count,
+            )
+        }
+    }
 }
 
 // Runs the lines after a header of n stations, up to one that ends the reading, from the fresh table; the numbers are written to the front of the list.
@@ -243,54 +240,42 @@ fn number_lines(n: usize, rest: &[u8], list: &mut [u32]) -> usize
     let mut at = 0;
     loop {
         match schedule::next_call(lines, rest, at) {
-            Next::Call(request) => {
+            Ok(Some(request)) => {
                 count = number_line(request, &mut table, &mut numbers, list, count);
                 lines += 1;
                 at += 18;
             }
-            Next::End => return count,
-            Next::Refused(_) => return count,
+            Ok(None) => return count,
+            Err(_) => return count,
         }
     }
 }
 
 // The refusal of a schedule whose lines after the header come to this, for a list of so many entries.
-fn refusal_of(s: Survey, entries: usize) -> Refusal
+fn refusal_of(s: Survey, entries: usize) -> Option<Refusal>
     ensures { result ≡ refused_by s.refusal s.steps s.snaps entries }
 {
     let refusal = schedule::refusal_of(s);
-    if refusal.refuses() {
+    if refusal.is_some() {
         return refusal;
     }
     if entries < s.snaps as usize {
-        return Refusal::ListTooShort;
+        return Some(Refusal::ListTooShort);
     }
-    Refusal::Accepted
+    None
 }
 
-// The numbers of a whole file: one for each accepted snap for a label, in their order, at the front of the list; `written` counts them. What is refused is
-// refused before any step is run.
-pub fn numbers(file: &[u8], list: &mut [u32]) -> Reply
-    ensures { NumbersFile file.now list.old (refusal_number result.refusal) result.written list.new }
+// The numbers of a whole file: one for each accepted snap for a label, in their order, at the front of the list; how many there are is handed back. What is
+// refused is refused before any step is run.
+pub fn numbers(file: &[u8], list: &mut [u32]) -> Result<usize, Refusal>
+    ensures { NumbersFile file.now list.old (told_number result) (told_count result) list.new }
 {
     let header = schedule::line_at(file, 0);
-    match schedule::read_header(header) {
-        Header::Refused(refusal) => Reply {
-            refusal,
-            written: 0,
-        },
-        Header::Stations(n) => {
-            let rest = schedule::from(file, header.len());
-            let survey = schedule::survey_lines(1, rest);
-            let refusal = refusal_of(survey, list.len());
-            if refusal.refuses() {
-                return Reply {
-                    refusal,
-                    written: 0,
-                };
-            }
-            let written = number_lines(n, rest, list);
-            Reply { refusal, written }
-        }
+    let n = schedule::read_header(header)?;
+    let rest = schedule::from(file, header.len());
+    let survey = schedule::survey_lines(1, rest);
+    if let Some(refusal) = refusal_of(survey, list.len()) {
+        return Err(refusal);
     }
+    Ok(number_lines(n, rest, list))
 }

@@ -3,17 +3,22 @@ use Prim.Native.Nat.{ℕ, ◌+◌, ◌-◌, ◌≤◌, ◌<◌}
 use native.Mathlib.Omega.{arith}
 use mathlib.Core.Path.{◌≡◌, refl, sym, ap, ap₂, ◌∙◌, fun_ext}
 use mathlib.Core.Logic.{◌≢◌, ◌⊎◌, inl, inr}
-use mathlib.Core.Bool.{Bool, true, false, cond}
-use mathlib.Core.List.{List, [], ◌++◌}
-use lib.ListN.{length, get_or, set, take, replicate}
-use lib.Seq.{get_or-take}
+use mathlib.Core.Bool.{Bool, true, false, cond, ◌&&◌, ◌||◌}
+use mathlib.Core.List.{List, [], ◌++◌, append_assoc}
+use lib.ListN.{length, get_or, set, take, drop, replicate, drop_of_length-le}
+use lib.Seq.{get_or-take, take_all, length-take-le}
+use native.Mathlib.Numerals.{add-one}
+use Rattle.std.proofs.lemmas.List.{set_split}
 use lib.Dec.{eqb, ltb}
 use borrow.Author.Tests.{ltb-true, lt-ltb, le-ltb, ne_eqb}
+use Rattle.std.specs.Prelude.{Some}
+use Rattle.std.specs.Ordering.{is_some_and, is_lt, partial_ordering_then}
+use Rattle.std.specs.declared.cmp.Ordering.TheVariants.{Less, Equal, Greater}
 use Rattle.basics.specs.Tests.{newest, inserted, ordered}
 use Rattle.basics.proofs.Facts.{tf, by_here, ordered_length}
 use Rattle.label.proofs.Digits.{Tri, lt, eq, gt, compare}
 use Rattle.label.proofs.Total.{Total}
-use Rattle.rows.proofs.OrderLaws.{put_in, inserted_at, put_last, listed_below, order_in, order_front, order_turns, Displaced, last_newest}
+use Rattle.rows.proofs.OrderLaws.{put_in, inserted_at, listed_below, order_in, order_front, order_turns, Displaced, last_newest}
 use Rattle.simulation.specs.Machine.{Labelling, number_before, stands, put, pending_after, LabelStep, stay, snap, update, label_step, relabelled}
 use Rattle.simulation.specs.Numbered.{numbered}
 use Rattle.simulation.proofs.Sync.{number_less, number_more, number_same}
@@ -28,16 +33,24 @@ use Rattle.unbounded.specs.Numbers.{stands_by, order_by, NumberedBefore, stepped
 
 -- STANDS BEFORE
 
-pub number_equal : (u i v j : ℕ) → u ≡ v → ltb i j ≡ number_before u i v j
+number_equal : (u i v j : ℕ) → u ≡ v → ltb i j ≡ number_before u i v j
 number_equal u i v j e = rw e (sym (number_same v i j))
 
-pub number_apart : (u i v j : ℕ) → u ≢ v → ltb u v ≡ number_before u i v j
-number_apart u i v j d = go (compare u v)
+-- the order of pairs
+abbrev pair_lt : Bool → Bool → Bool → Bool → Bool
+pair_lt a b c d =
+    is_some_and is_lt (partial_ordering_then (Some (cond a Less (cond b Equal Greater))) (Some (cond c Less (cond d Equal Greater))))
+
+pub pair_before : (u i v j : ℕ) → pair_lt (ltb u v) (eqb u v) (ltb i j) (eqb i j) ≡ number_before u i v j
+unfolding number_before
+pair_before u i v j = go (ltb u v) (eqb u v) (ltb i j) (eqb i j)
   where
-    go : Tri (u < v) (u ≡ v) (v < u) → ltb u v ≡ number_before u i v j
-    go (lt h) = lt-ltb u v h ∙ sym (number_less u i v j h)
-    go (eq e) = absurd (d e)
-    go (gt h) = le-ltb u v (omega arith) ∙ sym (number_more u i v j h)
+    go : (a b c d : Bool) → pair_lt a b c d ≡ (a || (b && c))
+    go true b c d = refl
+    go false true true d = refl
+    go false true false true = refl
+    go false true false false = refl
+    go false false c d = refl
 
 -- what a passed test says
 number_true : (u i v j : ℕ) → number_before u i v j ≡ true → (u < v) ⊎ ((u ≡ v) × (i < j))
@@ -90,8 +103,18 @@ level_next k l e =
     (λ p u. rw (get_or-take k l p 0 u) (number_same 0 k (get_or l p 0) ∙ le-ltb k (get_or l p 0) (omega (arith, listed_below level k l e p u))))
     (λ u. absurd (omega (arith, long)))
 
+-- an element stored behind k others
+set_last : (r : List ℕ) (k : ℕ) → k < length r → set r k k ≡ put_in k k (take k r) ++ drop (k + 1) r
+set_last r k h = rw (
+  set_split r k k h,
+  take_all k (take k r) (omega (arith, length-take-le k r (omega arith))),
+  drop_of_length-le (take k r) {i = k} (omega (arith, length-take-le k r (omega arith))),
+  append_assoc,
+  add-one,
+) refl
+
 pub level_turns : (w k : ℕ) (r : List ℕ) → r ≡ order_in w level k → k < w → k < length r → set r k k ≡ order_in w level (k + 1)
-level_turns w k r e h long = order_turns w level k r e k (set r k k) (put_last r k k long)
+level_turns w k r e h long = order_turns w level k r e k (set r k k) (set_last r k long)
     (level_next k r (order_front w level k r e)) h
 
 -- station k put elsewhere by another number
@@ -137,13 +160,13 @@ module _ (n v : ℕ) (N : Labelling ℕ) (k : ℕ) where
     pub current_stays : m ≢ Update → N' false i ≡ N false i
     unfolding relabelled
     current_stays d = ap (λ M. M false i) e
-        ∙ by_move (λ m. m ≢ Update → Stays m) (λ x d. refl) (λ d. refl) (λ d. refl) (λ d. refl) (λ d. absurd (d refl)) (λ d. refl) (λ d. refl) (λ d. refl)
+        ∙ by_move (λ m. m ≢ Update → Stays m) (λ d. refl) (λ d. refl) (λ d. refl) (λ d. absurd (d refl)) (λ d. refl) (λ d. refl) (λ d. refl)
         (λ d. refl) m d
 
     pub current_others : i ≢ k → N' false i ≡ N false i
     unfolding relabelled
     current_others d = ap (λ M. M false i) e
-        ∙ by_move Stays (λ x. refl) refl refl refl (rw (ne_eqb i k d) refl) refl refl refl refl m
+        ∙ by_move Stays refl refl refl (rw (ne_eqb i k d) refl) refl refl refl refl m
 
 -- an order kept through a move: it is still the one by the current plane, or, after an update, was so before the station got its number
 module _ (n v k job : ℕ) (m : Move) (numbers numbers' : Rows)

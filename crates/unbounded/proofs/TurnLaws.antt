@@ -11,9 +11,11 @@ use mathlib.Core.List.{[], ◌++◌}
 use lib.ListN.{length, get_or, take, drop, replicate, drop_of_length-le}
 use lib.Seq.{drop-cons}
 use lib.Dec.{eqb, ltb, leb}
+use mir.Val.{bool_byte}
+use Rattle.std.specs.Prelude.{Option, Some, None, is_some, Result, Ok, Err, IfOk}
 use borrow.Author.Tests.{eqb-true, leb-true}
 use Rattle.basics.specs.Tests.{newest, ordered, All}
-use Rattle.basics.proofs.Facts.{tf, and_both, all_at, all_weaken, length_tabulate, get_d_tabulate, ordered_length}
+use Rattle.basics.proofs.Facts.{and_both, all_at, all_weaken, length_tabulate, get_d_tabulate, ordered_length}
 use Rattle.rows.proofs.OrderLaws.{listed_below, order_front, order_long}
 use Rattle.simulation.specs.Calls.{Call, Buffer, Entry, Rest, judge, report_lines, original}
 use Rattle.simulation.specs.Machine.{Labelling, number_before, stands, snap, label_step, label_snap, relabelled, scan_of, Outcome, carry_out}
@@ -23,24 +25,24 @@ use Rattle.simulation.proofs.Touched.{results_all}
 use Rattle.transition.specs.Logs.{fits_next}
 use Rattle.transition.proofs.Written.{original_sized, WritableRest, rest_step}
 use Rattle.transition.proofs.Reached.{scan_sound, rest_fresh}
-use Rattle.moves.specs.Moves.{move_of, call_of}
+use Rattle.moves.specs.Moves.{move_of, call_of, place_of}
 use Rattle.moves.proofs.MoveLaws.{by_move, step_any}
 use Rattle.moves.specs.declared.Move.{Move}
 use Rattle.moves.specs.declared.Move.TheVariants.{SnapLabel, Update}
-use Rattle.moves.specs.declared.Refusal.TheVariants.{Accepted}
+use Rattle.moves.specs.declared.Refusal.{Refusal}
 use Rattle.arrays.specs.Arrays.{Rows, Planes, cell, entries_in, Holds}
 use Rattle.arrays.specs.Planes.{beside}
 use Rattle.arrays.proofs.Results.{entries_listed}
 use Rattle.arrays.proofs.States.{number_kept, held_phases, rest_held}
 use Rattle.arrays.proofs.Planes.{none_beside}
-use Rattle.engine.specs.Clauses.{action_of, PreparedRest, rest_after, CarriesRest, Judges, Named}
-use Rattle.engine.proofs.Served.{place_inside, judged_few, rest_ready, rest_judged}
+use Rattle.engine.specs.Clauses.{action_of, hands_out, handed_by, PreparedRest, rest_after, CarriesRest, Judges, Named}
+use Rattle.engine.proofs.Carried.{refused}
+use Rattle.engine.proofs.Served.{task_inside, judged_few, rest_ready, rest_judged}
 use Rattle.engine.specs.declared.Handed.{Handed}
 use Rattle.moves.specs.declared.Request.{Request}
 use Rattle.engine.specs.declared.Task.{Task}
 use Rattle.unbounded.specs.Numbers.{order_by, NumberedBefore, stepped_by}
-use Rattle.unbounded.specs.Tables.{Table, table, restᵘ, stateᵘ, Runnableᵘ, GivenTo, Turnsᵘ}
-use Rattle.unbounded.specs.declared.Given.{Given}
+use Rattle.unbounded.specs.Tables.{Table, table, restᵘ, stateᵘ, Runnableᵘ, taken, GivenTo, Handsᵘ, Servedᵘ, Turnsᵘ}
 use Rattle.unbounded.proofs.NumberLaws.{newest_step, order_first, order_newest, order_stays, order_before}
 
 -- WHAT A MOVE IS GIVEN
@@ -66,40 +68,32 @@ module _ (m : Move) (k z : ℕ) (current log : Lists.List ℕ) (used : ℕ) wher
         (ap₂ (λ y (u : ℕ → ℕ). cond (eqb k y) (eqb (get_or log used 0) 0) (ltb (u y) (get_or log used 0) && leb (get_or log used 0) 4294967295)) q (sym same))
 
     pub number_given : used < length log → {v w : ℕ} → v ≡ get_or log used 0 → w ≡ v → true ≡ test k z current v
-        → GivenTo m k z current log used (record { fits = true; number = w; taken = 1 })
+        → GivenTo m k z current log used (Some (Some w))
     number_given h a b d = record {
       passes = λ n job N same q. d ∙ ap (test k z current) a ∙ snap_fits h n job N same q;
-      next = λ _ _. b ∙ a ∙ sym (ap (λ (l : Lists.List ℕ). get_or l 0 0) (drop-cons log used 0 h));
-      counted = λ _ job. rw e refl;
+      next = λ _. ap Some (b ∙ a ∙ sym (ap (λ (l : Lists.List ℕ). get_or l 0 0) (drop-cons log used 0 h)));
+      counted = λ job. rw e refl;
       inside = omega (arith, h);
     }
 
-    none_given : used ≤ length log → ((n job : ℕ) (N : Labelling ℕ) → N false ≡ (λ i. get_or current i 0) → z ≡ newest n (stands (numbered 0) N)
-        → false ≡ fits_next n N (label_step (move_of k job m)) (drop used log)) → GivenTo m k z current log used (record { fits = false; number = 0; taken = 0 })
-    none_given low f = record {
-      passes = f;
-      next = λ t. absurd (tf t refl);
-      counted = λ t. absurd (tf t refl);
-      inside = omega (arith, low);
-    }
+    pub number_unfit : used < length log → {v : ℕ} → v ≡ get_or log used 0 → false ≡ test k z current v → GivenTo m k z current log used None
+    number_unfit h a d =
+        record { passes = λ n job N same q. d ∙ ap (test k z current) a ∙ snap_fits h n job N same q; next = tt; counted = tt; inside = tt }
 
-    pub number_unfit : used < length log → {v : ℕ} → v ≡ get_or log used 0 → false ≡ test k z current v
-        → GivenTo m k z current log used (record { fits = false; number = 0; taken = 0 })
-    number_unfit h a d = none_given (omega (arith, h)) (λ n job N same q. d ∙ ap (test k z current) a ∙ snap_fits h n job N same q)
-
-    pub none_left : used ≤ length log → length log ≤ used → GivenTo m k z current log used (record { fits = false; number = 0; taken = 0 })
+    pub none_left : length log ≤ used → GivenTo m k z current log used None
     unfolding fits_next
-    none_left low h = none_given low (λ n job N same q. rw (e, drop_of_length-le log {i = used} h) refl)
+    none_left h =
+        record { passes = λ n job N same q. rw (e, drop_of_length-le log {i = used} h) refl; next = tt; counted = tt; inside = tt }
 
   -- any other move
-  pub none_taken : m ≢ SnapLabel → used ≤ length log → GivenTo m k z current log used (record { fits = true; number = 0; taken = 0 })
+  pub none_taken : m ≢ SnapLabel → used ≤ length log → GivenTo m k z current log used (Some None)
   unfolding fits_next
   none_taken d low = record {
     passes = λ n job N same q. by_move (λ x. x ≢ SnapLabel → true ≡ fits_next n N (label_step (move_of k job x)) (drop used log))
-        (λ x d. refl) (λ d. refl) (λ d. absurd (d refl)) (λ d. refl) (λ d. refl) (λ d. refl) (λ d. refl) (λ d. refl) (λ d. refl) m d;
-    next = λ _ e. absurd (d e);
-    counted = λ _ job. by_move (λ x. x ≢ SnapLabel → 0 ≡ label_snap (label_step (move_of k job x)))
-        (λ x d. refl) (λ d. refl) (λ d. absurd (d refl)) (λ d. refl) (λ d. refl) (λ d. refl) (λ d. refl) (λ d. refl) (λ d. refl) m d;
+        (λ d. refl) (λ d. absurd (d refl)) (λ d. refl) (λ d. refl) (λ d. refl) (λ d. refl) (λ d. refl) (λ d. refl) m d;
+    next = λ e. absurd (d e);
+    counted = λ job. by_move (λ x. x ≢ SnapLabel → 0 ≡ label_snap (label_step (move_of k job x)))
+        (λ d. refl) (λ d. absurd (d refl)) (λ d. refl) (λ d. refl) (λ d. refl) (λ d. refl) (λ d. refl) (λ d. refl) m d;
     inside = omega (arith, low);
   }
 
@@ -109,10 +103,14 @@ number_unused : (n u v : ℕ) (N : Labelling ℕ) (k job : ℕ) (m : Move) → (
 unfolding relabelled
 number_unused n u v N k job = by_move
     (λ m. (m ≡ SnapLabel → u ≡ v) → relabelled n (numbered u) N (label_step (move_of k job m)) ≡ relabelled n (numbered v) N (label_step (move_of k job m)))
-    (λ x f. refl) (λ f. refl) (λ f. ap (λ w. relabelled n (numbered w) N (snap k)) (f refl)) (λ f. refl) (λ f. refl) (λ f. refl) (λ f. refl) (λ f. refl)
-    (λ f. refl)
+    (λ f. refl) (λ f. ap (λ w. relabelled n (numbered w) N (snap k)) (f refl)) (λ f. refl) (λ f. refl) (λ f. refl) (λ f. refl) (λ f. refl) (λ f. refl)
 
 -- A TURN
+
+-- a number taken, as the code counts it
+pub taken_byte : (u : Option ℕ) {b : Bool} → b ≡ is_some u → bool_byte b ≡ taken u
+taken_byte None e = rw e refl
+taken_byte (Some v) e = rw e refl
 
 -- a result of stations up to n names them in its rows
 rows_named : (n : ℕ) (rows : Rows) → n ≤ 32 → (k : ℕ) → All (λ (e : Entry). e.station ≤ n) (entries_in k rows) → Named k rows
@@ -163,110 +161,147 @@ module _ {t : Table} {order : Lists.List ℕ} (f : Runnableᵘ t order) where
   pub turn_low : get_or order (n - 1) 0 < 32
   turn_low = omega (arith, listed_below in_order n order front (n - 1) (omega (arith, f.low)), f.high)
 
-  module _ {q : Request} {x : Task} (j : Judges n t.control t.results q (Buffer 928) (get_or order (n - 1) 0) x) where
+  abbrev newest_there : ℕ
+  newest_there = get_or order (n - 1) 0
+
+  module _ {q : Request} {x : Result Task Refusal} (j : Judges n t.control t.results q (Buffer 928) newest_there x) where
     abbrev c : Call
     c = call_of q (Buffer 928)
 
-    pub turn_place : x.place < n
-    turn_place = place_inside n f.low t.jobs t.control t.results known q (Buffer 928) _ x j
-
     pub turn_prepared : PreparedRest n t.jobs t.control t.results x order
-    turn_prepared = rest_ready n f.low t.jobs t.control t.results known q (Buffer 928) _ x j order f.holds f.high
+    turn_prepared = rest_ready n f.low t.jobs t.control t.results known q (Buffer 928) newest_there x j order f.holds f.high
         (omega (arith, order_long 32 in_order n order f.is_order f.high, f.high), λ p h. omega (arith, listed_below in_order n order front p h, f.high))
-        (rows_named n (get_or t.results x.place []) f.high _ (f.named x.place))
+        (rows_named n (get_or t.results (place_of n q.station) []) f.high _ (f.named (place_of n q.station)))
 
     judged : action_of x ≡ judge original n (restᵘ t) c
-    judged = rest_judged n f.low t.jobs t.control t.results known q (Buffer 928) _ x j
+    judged = rest_judged n f.low t.jobs t.control t.results known q (Buffer 928) newest_there j
 
-    module _ {log : Lists.List ℕ} {used : ℕ} {v : Given} (g : GivenTo x.action x.place (get_or order (n - 1) 0) current log used v) where
-      turn_fits : v.fits ≡ fits_next n (beside t.numbers) (label_step (judge original n (restᵘ t) c)) (drop used log)
-      turn_fits = g.passes n x.job (beside t.numbers) refl turn_newest
-          ∙ ap (λ w. fits_next n (beside t.numbers) (label_step w) (drop used log)) judged
+    fits_judged : {b : Bool} (log : Lists.List ℕ) → b ≡ fits_next n (beside t.numbers) (label_step (action_of x)) log
+        → b ≡ fits_next n (beside t.numbers) (label_step (judge original n (restᵘ t) c)) log
+    fits_judged log e = e ∙ ap (λ w. fits_next n (beside t.numbers) (label_step w) log) judged
 
-      -- its number does not fit
-      pub turn_unfit : v.fits ≡ false → Turnsᵘ t order c log used t order
-          (record { fits = false; used = used; handed = record { refusal = Accepted; place = x.place; entries = 0 } })
-      turn_unfit e = record {
-        fits = sym e ∙ turn_fits;
-        served = λ y. absurd (tf y refl);
-        kept = λ _. record {
-          table = refl;
-          listed = refl;
-          turn = ap (λ i. record { fits = false; used = used; handed = record { refusal = Accepted; place = i; entries = 0 } }) j.place;
-        };
+    -- the rest is carried out, and the numbers are, where v is given
+    module _ {j' c' : Rows} {r' : Planes} {h : Result Handed Refusal} (k : CarriesRest (rest_after n t.jobs t.control t.results x order) x j' c' r' h)
+        (numbers' : Rows) (v : ℕ) (l : beside numbers' ≡ stepped_by newest_there v (beside t.numbers) (label_step (action_of x))) where
+      abbrev left : Table
+      left = table n numbers' j' c' r'
+
+      renumbered : beside numbers' ≡ relabelled n (numbered v) (beside t.numbers) (label_step (action_of x))
+      renumbered = l ∙ newest_step n newest_there v (beside t.numbers) (label_step (action_of x)) turn_newest
+
+      -- what the machine comes to
+      outcome : rest_after n t.jobs t.control t.results x order ≡ carry_out original (ordered n in_order) (restᵘ t) (judge original n (restᵘ t) c)
+      outcome = ap₂ (λ l w. carry_out original l (restᵘ t) w) front judged
+
+      abbrev after : Outcome
+      after = carry_out original (ordered n in_order) (restᵘ t) (judge original n (restᵘ t) c)
+
+      held : Holds after.rest j' c' r'
+      held = subst (λ (y : Outcome). Holds y.rest j' c' r') outcome k.holds
+
+      after_writable : WritableRest original n after.rest
+      after_writable = rest_step original n (original_sized n f.low f.high) (restᵘ t) writable c (ordered n in_order) (ordered_length in_order n)
+
+      rest_left : restᵘ left ≡ after.rest
+      rest_left = rest_held n f.high after.rest after_writable held
+
+      hands_it : (y : Result Task Refusal) → Judges n t.control t.results q (Buffer 928) newest_there y → (g : Result Handed Refusal) → g ≡ handed_by y
+          → IfOk g (λ u. Named u.entries (get_or r' u.place [])) → IfOk g (Handsᵘ t c left)
+      hands_it (Ok y) i (Ok u) e named =
+          let p : u.place ≡ y.place = cc in
+          let d : u.entries ≡ hands_out y.shown y.action = cc in
+          record {
+            place = p ∙ i.task.place;
+            inside = omega (arith, p, task_inside n f.low t.jobs t.control t.results known q (Buffer 928) newest_there i, f.high);
+            few = omega (arith, d, judged_few n f.low t.jobs t.control t.results known q (Buffer 928) newest_there i f.high);
+            named = named;
+          }
+      hands_it (Err y) i (Ok u) e named = absurd (cc)
+      hands_it y i (Err u) e named = tt
+
+      pub turn_served : {log : Lists.List ℕ} {used used' : ℕ}
+          → relabelled n (numbered v) (beside t.numbers) (label_step (action_of x))
+          ≡ relabelled n (numbered (get_or (drop used log) 0 0)) (beside t.numbers) (label_step (action_of x))
+          → used' ≡ used + label_snap (label_step (action_of x)) → used' ≤ length log
+          → Servedᵘ t c log used left (record { used = used'; handed = h })
+      unfolding step snaps_of
+      turn_served {log} {used} {used'} same counted enough =
+          let labels : beside numbers' ≡ relabelled n (numbered (get_or (drop used log) 0 0)) (beside t.numbers) (label_step (judge original n (restᵘ t) c))
+          = renumbered ∙ same ∙ ap (λ w. relabelled n (numbered (get_or (drop used log) 0 0)) (beside t.numbers) (label_step w)) judged in
+          record {
+            state = λ y. record { labels = labels y; rest = rest_left y };
+            counted = counted ∙ ap (λ w. used + label_snap (label_step w)) judged;
+            enough = enough;
+            number = k.number ∙ ap (λ (y : Outcome). y.refusal) outcome;
+            handed = hands_it x j h k.told k.named;
+            report = ap (report_lines c.line 1) (sym (ap (λ (y : Outcome). y.handed) outcome) ∙ k.handed);
+          }
+
+      pub turn_runnable : {order' : Lists.List ℕ} → order' ≡ order_by n (get_or numbers' 0 []) → Runnableᵘ left order'
+      turn_runnable o = record {
+        low = f.low;
+        high = f.high;
+        holds = subst (λ y. Holds y j' c' r') (sym rest_left) held;
+        past = λ i u. (
+          ap (λ (o : Rest). o.process i) rest_left ∙ after_writable.past i u,
+          ap (λ (o : Rest). o.result i) rest_left ∙ after_writable.unused i (omega arith),
+        );
+        named = λ i. subst (λ (o : Rest). Names (o.result i)) (sym rest_left)
+            (results_all original (ordered n in_order) (restᵘ t) Names scan_names f.named (judge original n (restᵘ t) c) i);
+        is_order = o;
       }
 
-      -- its number fits: the rest is carried out, and the numbers are
-      module _ (e : v.fits ≡ true) {j' c' : Rows} {r' : Planes} {h : Handed} (k : CarriesRest (rest_after n t.jobs t.control t.results x order) x j' c' r' h)
-          (numbers' : Rows) (l : beside numbers' ≡ stepped_by (get_or order (n - 1) 0) v.number (beside t.numbers) (label_step (move_of x.place 0 x.action))) where
-        abbrev left : Table
-        left = table n numbers' j' c' r'
+  -- a refused call
+  pub turn_refused : {q : Request} {r : Refusal} → Judges n t.control t.results q (Buffer 928) newest_there (Err r) → {log : Lists.List ℕ} {used : ℕ}
+      → used ≤ length log → Turnsᵘ t order (call_of q (Buffer 928)) log used t order (Some (record { used = used; handed = Err r }))
+  unfolding fits_next relabelled
+  turn_refused j {log} {used} low = record {
+    fits = fits_judged j (drop used log) refl;
+    served = turn_served j (refused (turn_prepared j)) t.numbers 0 refl {used' = used} refl (omega arith) low;
+    kept = tt;
+  }
 
-        abbrev next : ℕ
-        next = get_or (drop used log) 0 0
+  -- a task, and what it is given
+  module _ {q : Request} {x : Task} (j : Judges n t.control t.results q (Buffer 928) newest_there (Ok x)) where
+    pub turn_place : x.place < n
+    turn_place = task_inside n f.low t.jobs t.control t.results known q (Buffer 928) newest_there j
 
-        renumbered : beside numbers' ≡ relabelled n (numbered v.number) (beside t.numbers) (label_step (action_of x))
-        renumbered = l ∙ ap (stepped_by (get_or order (n - 1) 0) v.number (beside t.numbers)) (step_any x.place x.job x.action)
-            ∙ newest_step n (get_or order (n - 1) 0) v.number (beside t.numbers) (label_step (action_of x)) turn_newest
+    fits_given : {b : Bool} (log : Lists.List ℕ) (used : ℕ)
+        → ((n' job : ℕ) (N : Labelling ℕ) → N false ≡ (λ i. get_or current i 0) → newest_there ≡ newest n' (stands (numbered 0) N)
+        → b ≡ fits_next n' N (label_step (move_of x.place job x.action)) (drop used log))
+        → b ≡ fits_next n (beside t.numbers) (label_step (judge original n (restᵘ t) (call_of q (Buffer 928)))) (drop used log)
+    fits_given log used g = fits_judged j (drop used log) (g n x.job (beside t.numbers) refl turn_newest)
 
-        pub turn_before : NumberedBefore n (get_or numbers' 0 []) x.place order
-        turn_before = order_before n v.number x.place x.job x.action t.numbers numbers' renumbered f.is_order
+    -- its number does not fit
+    pub turn_unfit : {log : Lists.List ℕ} {used : ℕ} → GivenTo x.action x.place newest_there current log used None
+        → Turnsᵘ t order (call_of q (Buffer 928)) log used t order None
+    turn_unfit {log} {used} g = record { fits = fits_given log used g.passes; served = tt; kept = record { table = refl; listed = refl } }
 
-        pub turn_kept : x.action ≢ Update → order ≡ order_by n (get_or numbers' 0 [])
-        turn_kept d = f.is_order ∙ order_stays n v.number x.place x.job x.action t.numbers numbers' renumbered d
+    -- its number fits
+    module _ {log : Lists.List ℕ} {used : ℕ} {u : Option ℕ} (g : GivenTo x.action x.place newest_there current log used (Some u)) {j' c' : Rows} {r' : Planes}
+        {h : Result Handed Refusal} (k : CarriesRest (rest_after n t.jobs t.control t.results (Ok x) order) (Ok x) j' c' r' h) (numbers' : Rows) (v : ℕ)
+        (l : beside numbers' ≡ stepped_by newest_there v (beside t.numbers) (label_step (move_of x.place 0 x.action))) where
+      stepped : beside numbers' ≡ stepped_by newest_there v (beside t.numbers) (label_step (action_of (Ok x)))
+      stepped = l ∙ ap (stepped_by newest_there v (beside t.numbers)) (step_any x.place x.job x.action)
 
-        -- what the machine comes to
-        outcome : rest_after n t.jobs t.control t.results x order ≡ carry_out original (ordered n in_order) (restᵘ t) (judge original n (restᵘ t) c)
-        outcome = ap₂ (λ l w. carry_out original l (restᵘ t) w) front judged
+      pub turn_before : NumberedBefore n (get_or numbers' 0 []) x.place order
+      turn_before = order_before n v x.place x.job x.action t.numbers numbers' (renumbered j k numbers' v stepped) f.is_order
 
-        abbrev after : Outcome
-        after = carry_out original (ordered n in_order) (restᵘ t) (judge original n (restᵘ t) c)
+      pub turn_kept : x.action ≢ Update → order ≡ order_by n (get_or numbers' 0 [])
+      turn_kept d = f.is_order ∙ order_stays n v x.place x.job x.action t.numbers numbers' (renumbered j k numbers' v stepped) d
 
-        held : Holds after.rest j' c' r'
-        held = subst (λ (y : Outcome). Holds y.rest j' c' r') outcome k.holds
+      pub turn_done : {order' : Lists.List ℕ} {used' : ℕ} → (u ≡ Some (get_or (drop used log) 0 0) → v ≡ get_or (drop used log) 0 0) → used' ≡ used + taken u
+          → Turnsᵘ t order (call_of q (Buffer 928)) log used (table n numbers' j' c' r') order' (Some (record { used = used'; handed = h }))
+      turn_done e d = record {
+        fits = fits_given log used g.passes;
+        served = turn_served j k numbers' v stepped
+            (number_unused n v (get_or (drop used log) 0 0) (beside t.numbers) x.place x.job x.action (λ y. e (g.next y)))
+            (d ∙ ap (λ y. used + y) (g.counted x.job)) (omega (arith, g.inside));
+        kept = tt;
+      }
 
-        after_writable : WritableRest original n after.rest
-        after_writable = rest_step original n (original_sized n f.low f.high) (restᵘ t) writable c (ordered n in_order) (ordered_length in_order n)
-
-        rest_left : restᵘ left ≡ after.rest
-        rest_left = rest_held n f.high after.rest after_writable held
-
-        labels_left : beside numbers' ≡ relabelled n (numbered next) (beside t.numbers) (label_step (judge original n (restᵘ t) c))
-        labels_left = renumbered ∙ number_unused n v.number next (beside t.numbers) x.place x.job x.action (g.next e)
-            ∙ ap (λ w. relabelled n (numbered next) (beside t.numbers) (label_step w)) judged
-
-        pub turn_served : {order' : Lists.List ℕ} → Turnsᵘ t order c log used left order' (record { fits = true; used = used + v.taken; handed = h })
-        unfolding step snaps_of
-        turn_served = record {
-          fits = sym e ∙ turn_fits;
-          served = λ _. record {
-            state = λ y. record { labels = labels_left y; rest = rest_left y };
-            counted = ap (λ y. used + y) (g.counted e x.job ∙ ap (λ w. label_snap (label_step w)) judged);
-            enough = g.inside;
-            number = k.number ∙ ap (λ (y : Outcome). y.refusal) outcome;
-            place = k.place ∙ j.place;
-            inside = omega (arith, k.place, turn_place, f.high);
-            few = omega (arith, k.entries, judged_few n f.low t.jobs t.control t.results known q (Buffer 928) _ x j f.high);
-            named = subst (λ y. Named h.entries (get_or r' y [])) (sym k.place) k.named;
-            report = ap (report_lines c.line 1) (sym (ap (λ (y : Outcome). y.handed) outcome) ∙ k.handed
-                ∙ ap (λ z. entries_in h.entries (get_or r' z [])) (sym k.place));
-          };
-          kept = λ y. absurd (tf refl y);
-        }
-
-        pub turn_runnable : {order' : Lists.List ℕ} → order' ≡ order_by n (get_or numbers' 0 []) → Runnableᵘ left order'
-        turn_runnable o = record {
-          low = f.low;
-          high = f.high;
-          holds = subst (λ y. Holds y j' c' r') (sym rest_left) held;
-          past = λ i u. (
-            ap (λ (o : Rest). o.process i) rest_left ∙ after_writable.past i u,
-            ap (λ (o : Rest). o.result i) rest_left ∙ after_writable.unused i (omega arith),
-          );
-          named = λ i. subst (λ (o : Rest). Names (o.result i)) (sym rest_left)
-              (results_all original (ordered n in_order) (restᵘ t) Names scan_names f.named (judge original n (restᵘ t) c) i);
-          is_order = o;
-        }
+      pub turn_ready : {order' : Lists.List ℕ} → order' ≡ order_by n (get_or numbers' 0 []) → Runnableᵘ (table n numbers' j' c' r') order'
+      turn_ready = turn_runnable j k numbers' v stepped
 
 -- the fresh table
 module _ (n : ℕ) (low : 2 ≤ n) (high : n ≤ 32) {j c : Rows} {r : Planes} (h : Holds fresh_rest j c r) where

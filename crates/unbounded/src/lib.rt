@@ -31,48 +31,33 @@ pub fn refresh(
     ensures results_after { stateᵘ (table n numbers.new jobs.new control.new results.new) ≡ fresh 0 }
     ensures fact { Runnableᵘ (table n numbers.new jobs.new control.new results.new) order.new }
 {
-    *numbers = [[0u32; 32]; 2];
+    *numbers = [[0; 32]; 2];
     arrays::refresh_rest(jobs, control, results);
     *order = numbers::first_order(n);
 }
 
-// The number that a move is given, if it takes one, and how many it takes; and whether it fits.
-#[derive(Clone, Copy)]
-struct Given {
-    fits: bool,
-    number: u32,
-    taken: usize,
-}
-
 // What a move of the station at a place is given, where `used` of the numbers of the log are used up and z is the newest station: only a snap for a label
-// takes a number, the next one.
-fn given_to(m: Move, place: usize, z: usize, current: &[u32; 32], log: &[u64], used: usize) -> Given
+// takes a number, the next one. `None` if that is missing or does not fit; else the number, if the move takes one.
+fn given_to(
+    m: Move,
+    place: usize,
+    z: usize,
+    current: &[u32; 32],
+    log: &[u64],
+    used: usize,
+) -> Option<Option<u32>>
     requires { (z < 32) × (used ≤ length log.now) }
     ensures { GivenTo m place z current.now log.now used result }
 {
     match m {
         Move::SnapLabel => {
-            if used < log.len() {
-                let v = log[used];
-                if numbers::fits(current, z, place, v) {
-                    return Given {
-                        fits: true,
-                        number: v as u32,
-                        taken: 1,
-                    };
-                }
+            let v = *log.get(used)?;
+            if !numbers::fits(current, z, place, v) {
+                return None;
             }
-            Given {
-                fits: false,
-                number: 0,
-                taken: 0,
-            }
+            Some(Some(v as u32))
         }
-        _ => Given {
-            fits: true,
-            number: 0,
-            taken: 0,
-        },
+        _ => Some(None),
     }
 }
 
@@ -83,21 +68,20 @@ fn refresh_order(m: Move, place: usize, current: &[u32; 32], n: usize, order: &m
     requires order_value { m ≢ Update → order.old ≡ order_by n current.now }
     ensures { order.new ≡ order_by n current.now }
 {
-    match m {
-        Move::Update => numbers::reorder(current, n, order, place),
-        _ => {}
+    if let Move::Update = m {
+        numbers::reorder(current, n, order, place);
     }
 }
 
-// What a step call comes to: whether its number fits, how many numbers are used up then, and what it hands out. A refused call takes no number.
+// What a step call comes to: how many numbers are used up then, and what it hands out. A refused call takes no number.
 #[derive(Clone, Copy)]
 pub struct NumberedTurn {
-    pub fits: bool,
     pub used: usize,
-    pub handed: Handed,
+    pub handed: Result<Handed, Refusal>,
 }
 
-// Serves a step call, up to what is written of it, where `used` of the numbers of the log are used up. If the next number does not fit it, nothing changes.
+// Serves a step call, up to what is written of it, where `used` of the numbers of the log are used up. `None` if the next number does not fit it:
+// nothing changes then.
 pub fn take_turn(
     n: usize,
     request: Request,
@@ -108,7 +92,7 @@ pub fn take_turn(
     jobs: &mut Jobs,
     control: &mut Control,
     results: &mut Results,
-) -> NumberedTurn
+) -> Option<NumberedTurn>
     requires fact { Runnableᵘ (table n numbers.old jobs.old control.old results.old) order.old }
     requires used_in_bounds { used ≤ length log.now }
     ensures fact_2 { Turnsᵘ (table n numbers.old jobs.old control.old results.old) order.old
@@ -117,28 +101,19 @@ pub fn take_turn(
     ensures fact_3 { Runnableᵘ (table n numbers.new jobs.new control.new results.new) order.new }
 {
     let z = order[n - 1];
-    let task = engine::judge(n, request, control, results, Room::Buffer(928), z);
+    let task = match engine::judge(n, request, control, results, Room::Buffer(928), z) {
+        Ok(task) => task,
+        Err(refusal) => {
+            let handed = Err(refusal);
+            return Some(NumberedTurn { used, handed });
+        }
+    };
     let m = task.action;
     let place = task.place;
-    let given = given_to(m, place, z, &numbers[CURRENT], log, used);
-    if !given.fits {
-        let handed = Handed {
-            refusal: Refusal::Accepted,
-            place,
-            entries: 0,
-        };
-        return NumberedTurn {
-            fits: false,
-            used,
-            handed,
-        };
-    }
-    let handed = engine::carry_rest(n, task, order, jobs, control, results);
-    numbers::renumber(m, place, z, given.number, numbers);
+    let number = given_to(m, place, z, &numbers[CURRENT], log, used)?;
+    let handed = engine::carry_rest(n, Ok(task), order, jobs, control, results);
+    numbers::renumber(m, place, z, number.unwrap_or(0), numbers);
     refresh_order(m, place, &numbers[CURRENT], n, order);
-    NumberedTurn {
-        fits: true,
-        used: used + given.taken,
-        handed,
-    }
+    let used = used + usize::from(number.is_some());
+    Some(NumberedTurn { used, handed })
 }

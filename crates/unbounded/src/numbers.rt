@@ -13,10 +13,7 @@ use moves::Move;
 fn before(u: u32, i: usize, v: u32, j: usize) -> bool
     ensures { result ≡ number_before u i v j }
 {
-    if u == v {
-        return i < j;
-    }
-    u < v
+    (u, i) < (v, j)
 }
 
 // The order of n stations that all have the number 0, and 0s past them: the lower station is the older.
@@ -25,10 +22,8 @@ pub fn first_order(n: usize) -> [usize; 32]
     ensures { result ≡ ordered n (λ i j. number_before 0 i 0 j) ++ replicate (32 - n) 0 }
 {
     let mut r = [0usize; 32];
-    let mut k: usize = 0;
-    while k < n {
+    for k in 0..n {
         r[k] = k;
-        k += 1;
     }
     r
 }
@@ -44,15 +39,13 @@ fn position(numbers: &[u32; 32], order: &[usize], m: usize, k: usize) -> usize
     ensures by_index_4 { (p : ℕ) → result ≤ p → p < m → stands_by numbers.now k (get_or order.now p 0) ≡ true }
 {
     let v = numbers[k];
-    let mut q = m;
-    while 0 < q {
-        let i = order[q - 1];
+    for q in (0..m).rev() {
+        let i = order[q];
         if before(numbers[i], i, v, k) {
-            return q;
+            return q + 1;
         }
-        q -= 1;
     }
-    q
+    0
 }
 
 // Brings the order of n stations up to date after station k alone got another number: it is taken out, and put in where it stands now.
@@ -67,13 +60,6 @@ pub fn reorder(numbers: &[u32; 32], n: usize, order: &mut [usize], k: usize)
     rows::order::insert_at(order, m, q, k);
 }
 
-// A number in 64 bits.
-fn wide(x: u32) -> u64
-    ensures { result ≡ x }
-{
-    x as u64
-}
-
 // Whether the number v can be given to a snap for a label by station k, where z is the newest: 0 to the newest itself, to another one above the top number.
 pub fn fits(numbers: &[u32; 32], z: usize, k: usize, v: u64) -> bool
     requires { z < 32 }
@@ -82,10 +68,7 @@ pub fn fits(numbers: &[u32; 32], z: usize, k: usize, v: u64) -> bool
     if k == z {
         return v == 0;
     }
-    if v <= wide(numbers[z]) {
-        return false;
-    }
-    v <= 4294967295
+    u64::from(numbers[z]) < v && v <= 4294967295
 }
 
 // What a move of the station at this place makes of the numbers, where v is the number that a snap is given, unless by station z, the newest.
@@ -95,10 +78,8 @@ pub fn renumber(m: Move, place: usize, z: usize, v: u32, numbers: &mut [[u32; 32
 {
     arrays::sized(*numbers);
     match m {
-        Move::SnapLabel => {
-            if place != z {
-                numbers[PENDING][place] = v;
-            }
+        Move::SnapLabel if place != z => {
+            numbers[PENDING][place] = v;
         }
         Move::Update => {
             numbers[CURRENT][place] = numbers[PENDING][place];

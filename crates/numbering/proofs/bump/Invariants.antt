@@ -8,6 +8,3 @@ use Rattle.numbering.proofs.bump.Given as goal
 -- After i turns the first i numbers have been bumped.
 abbrev pub invariant-loop-i : goal.invariant-loop-i
 invariant-loop-i l = (l.i ≤ l.n) × (length l.list ≡ length l.initial.list) × (l.list ≡ mapped (bump l.c) l.i l.initial.list)
-
-abbrev pub decreases-loop-i : goal.decreases-loop-i
-decreases-loop-i l = l.n - l.i

@@ -7,20 +7,21 @@ use Rattle.moves.specs.Moves.{call_of}
 use Rattle.arrays.specs.Arrays.{Arrays, state_of}
 use Rattle.arrays.specs.Form.{lent}
 use Rattle.file.specs.Tables.{arrays_in}
+use Rattle.std.specs.Prelude.{Ok}
 use Rattle.schedule.proofs.Places.{StepAt, at_end, at_refused, at_call, calls_none, calls_refused}
 use Rattle.file.proofs.LineLaws.{next_state, count_after}
 use Rattle.arrays.proofs.Planes.{none_beside}
 use Rattle.numbering.proofs.Lines.{sofar_start, sofar_end, sofar_more, step_room}
 use Rattle.numbering.proofs.number_lines.Goals as goal
-use Rattle.numbering.proofs.number_lines.Goals.{In-Call}
+use Rattle.numbering.proofs.number_lines.Goals.{In-Ok-Some}
 
 -- the call that stands at a place
-here : (x : goal.In-Call) → let l = x.loop-request in
+here : (x : goal.In-Ok-Some) → let l = x.loop-request in
     StepAt l.lines x.args.rest.now l.at
-    x.in-Call.request
+    x.in-Ok-Some.request
 here x =
     let k = x in
-    at_call _ _ _ k.loop-request.invariant.0.within _ k.next_call.ensures _ x.in-Call.is
+    at_call _ _ _ k.loop-request.invariant.0.within _ k.next_call.ensures _ (x.in-Ok-Some.is ∙ ap Ok x.in-Ok-Some.field-0-is)
 
 pub loop-request-init : goal.loop-request-init
 loop-request-init c =
@@ -29,22 +30,22 @@ loop-request-init c =
     let fresh = c.fresh-table.ensures in
     (sofar_start c.args.n low high _ _ c.requires.rest_in_bounds fresh.value none_beside, fresh.runnable, fresh.count_value)
 
-pub returns-in-End : goal.returns-in-End
-returns-in-End c =
+pub returns-in-Ok-None : goal.returns-in-Ok-None
+returns-in-Ok-None c =
     let f = c.loop-request.invariant.0 in
-    let e = sofar_end f (calls_none _ _ _ f.within (at_end _ _ _ f.within _ c.next_call.ensures c.in-End.is)).0 in
+    let e = sofar_end f (calls_none _ _ _ f.within (at_end _ _ _ f.within _ c.next_call.ensures (c.in-Ok-None.is ∙ ap Ok c.in-Ok-None.field-0-is))).0 in
     record { value = e.0; list_after = e.1 }
 
-pub returns-in-Refused : goal.returns-in-Refused
-returns-in-Refused c =
+pub returns-in-Err : goal.returns-in-Err
+returns-in-Err c =
     let f = c.loop-request.invariant.0 in
-    let e = sofar_end f (calls_refused _ _ _ f.within (at_refused _ _ _ f.within _ c.next_call.ensures _ c.in-Refused.is)).0 in
+    let e = sofar_end f (calls_refused _ _ _ f.within (at_refused _ _ _ f.within _ c.next_call.ensures _ c.in-Err.is)).0 in
     record { value = e.0; list_after = e.1 }
 
 pub number_line-count-requires : goal.number_line-count-requires
 number_line-count-requires c =
     let l = c.loop-request in
-    let room = step_room l.invariant.0 (here (goal.at.number_line-count-requires c).In-Call) in
+    let room = step_room l.invariant.0 (here (goal.at.number_line-count-requires c).In-Ok-Some) in
     record {
       runnable = l.invariant.1;
       count_in_bounds = room.1;
@@ -55,11 +56,11 @@ number_line-count-requires c =
 pub loop-request-preserved : goal.loop-request-preserved
 loop-request-preserved c =
     let l = c.loop-request in
-    let call : Call = call_of c.in-Call.request (Buffer 928) in
-    let g = c.number_line-count.ensures in
-    (sofar_more l.invariant.0 (here (goal.at.loop-request-preserved c).In-Call) l.invariant.2 g.numbers_call 
+    let call : Call = call_of c.in-Ok-Some.request (Buffer 928) in
+    let g = c.number_line-count.ensures in (
+      sofar_more l.invariant.0 (here (goal.at.loop-request-preserved c).In-Ok-Some) l.invariant.2 g.numbers_call
           (subst (λ n. state_of (step_of lent (arrays_in l.table) call).table ≡ (step original n (digits original n) (state_of (arrays_in l.table)) call).state)
-              l.invariant.2 (next_state l.invariant.1 call)),
+          l.invariant.2 (next_state l.invariant.1 call)),
       g.runnable_2,
       ap (λ (a : Arrays). a.count) g.numbers_call.table ∙ count_after l.invariant.1 _ ∙ l.invariant.2,
     )
@@ -68,16 +69,16 @@ pub next_call-requires : goal.next_call-requires
 next_call-requires c = c.loop-request.invariant.0.within
 
 pub overflow_add-lines : goal.overflow_add-lines
-overflow_add-lines c = let f = here (goal.at.overflow_add-lines c).In-Call in omega (arith, f.few)
+overflow_add-lines c = let f = here (goal.at.overflow_add-lines c).In-Ok-Some in omega (arith, f.few)
 
 pub overflow_add-at : goal.overflow_add-at
-overflow_add-at c = let f = here (goal.at.overflow_add-at c).In-Call in omega (arith, f.within, c.well_formed.1.0.0)
+overflow_add-at c = let f = here (goal.at.overflow_add-at c).In-Ok-Some in omega (arith, f.within, c.well_formed.1.0.0)
 
 pub loop-request-smaller : goal.loop-request-smaller
-loop-request-smaller c = let f = here (goal.at.loop-request-smaller c).In-Call in omega (arith, f.within)
+loop-request-smaller c = let f = here (goal.at.loop-request-smaller c).In-Ok-Some in omega (arith, f.within)
 
-pub shape_of-list-in-End : goal.shape_of-list-in-End
-shape_of-list-in-End c = c.loop-request.invariant.0.same
+pub shape_of-list-in-Ok-None : goal.shape_of-list-in-Ok-None
+shape_of-list-in-Ok-None c = c.loop-request.invariant.0.same
 
-pub shape_of-list-in-Refused : goal.shape_of-list-in-Refused
-shape_of-list-in-Refused c = c.loop-request.invariant.0.same
+pub shape_of-list-in-Err : goal.shape_of-list-in-Err
+shape_of-list-in-Err c = c.loop-request.invariant.0.same

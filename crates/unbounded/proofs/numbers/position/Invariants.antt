@@ -5,8 +5,6 @@ use lib.ListN.{get_or}
 use Rattle.unbounded.specs.Numbers.{stands_by}
 use Rattle.unbounded.proofs.numbers.position.Given as goal
 
+-- Station k stands before all from place q on.
 abbrev pub invariant-loop-q : goal.invariant-loop-q
-invariant-loop-q l = (l.q ≤ l.m) × ((p : ℕ) → l.q ≤ p → p < l.m → stands_by l.numbers l.k (get_or l.order p 0) ≡ true)
-
-abbrev pub decreases-loop-q : goal.decreases-loop-q
-decreases-loop-q l = l.q
+invariant-loop-q l = (p : ℕ) → l.q ≤ p → p < l.m → stands_by l.numbers l.k (get_or l.order p 0) ≡ true
