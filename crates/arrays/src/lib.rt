@@ -34,20 +34,6 @@ pub struct Parts<L, J, C, R> {
     pub results: R,
 }
 
-impl<L: Copy + Drop, J: Copy + Drop, C: Copy + Drop, R: Copy + Drop> Parts<L, J, C, R> {
-    // These four.
-    pub fn of(labels: L, jobs: J, control: C, results: R) -> Self
-        ensures { result ≡ record { labels = labels; jobs = jobs; control = control; results = results } }
-    {
-        Parts {
-            labels,
-            jobs,
-            control,
-            results,
-        }
-    }
-}
-
 // The four arrays of a table of labels.
 pub type LabelParts = Parts<Labels, Jobs, Control, Results>;
 
@@ -142,4 +128,41 @@ pub fn refresh(
 {
     *labels = [[[1; 31]; 32]; 2];
     refresh_rest(jobs, control, results);
+}
+
+// These four in one value.
+fn together<L: Copy + Drop, J: Copy + Drop, C: Copy + Drop, R: Copy + Drop>(
+    labels: L,
+    jobs: J,
+    control: C,
+    results: R,
+) -> Parts<L, J, C, R>
+    ensures { result ≡ record { labels = labels; jobs = jobs; control = control; results = results } }
+{
+    Parts {
+        labels,
+        jobs,
+        control,
+        results,
+    }
+}
+
+// These labels or numbers, and what a fresh table holds beside its labels.
+pub fn fresh_beside<L: Copy + Drop>(labels: L) -> Parts<L, Jobs, Control, Results>
+    ensures labels_value { result.labels ≡ labels }
+    ensures rest { Holds fresh_rest result.jobs result.control result.results }
+{
+    together(
+        labels,
+        [[0; 32]; 2],
+        [[IDLE; 32], [IN_SERVICE; 32]],
+        [[[0; 32]; 2]; 32],
+    )
+}
+
+// The fresh table, of any number of stations.
+pub fn fresh_parts() -> LabelParts
+    ensures { (n : ℕ) → arrays n result.labels result.jobs result.control result.results ≡ fresh_table lent n }
+{
+    fresh_beside([[[1; 31]; 32]; 2])
 }

@@ -15,7 +15,7 @@ ghost use Rattle.file.specs.Tables.{arrays_in};
 ghost use Rattle.file.specs.Clauses.{Runnable, Turns, Prints, Reports, RunsFile, ReportsFile};
 ghost use Rattle.file.specs.Feeds.{Underway, Feeds, fed_of, Opens};
 
-use arrays::{CURRENT, LabelParts, OrderedTable, Parts};
+use arrays::{CURRENT, LabelParts, OrderedTable};
 use engine::Handed;
 use moves::{Move, Refusal, Request, Room};
 
@@ -210,19 +210,7 @@ pub fn fresh(n: usize) -> OrderedTable<LabelParts>
     ensures value { arrays_in result ≡ fresh_table lent n }
     ensures runnable { Runnable (arrays_in result) result.order }
 {
-    let mut parts = Parts::of(
-        [[[0; 31]; 32]; 2],
-        [[0; 32]; 2],
-        [[0; 32]; 2],
-        [[[0; 32]; 2]; 32],
-    );
-    arrays::refresh(
-        n,
-        &mut parts.labels,
-        &mut parts.jobs,
-        &mut parts.control,
-        &mut parts.results,
-    );
+    let parts = arrays::fresh_parts();
     let order = rows::order::order(&parts.labels[CURRENT], n);
     OrderedTable {
         count: n,

@@ -28,12 +28,10 @@ pub fn fresh(n: usize) -> OrderedTable<NumberParts>
     ensures value { stateᵘ (numbers_in result) ≡ fresh 0 }
     ensures runnable { Runnableᵘ (numbers_in result) result.order }
 {
-    let mut parts = Parts::of([[0; 32]; 2], [[0; 32]; 2], [[0; 32]; 2], [[[0; 32]; 2]; 32]);
-    arrays::refresh_rest(&mut parts.jobs, &mut parts.control, &mut parts.results);
     OrderedTable {
         count: n,
         order: numbers::first_order(n),
-        parts,
+        parts: arrays::fresh_beside([[0; 32]; 2]),
     }
 }
 

@@ -4,11 +4,11 @@ use Rattle.file.proofs.fresh.Goals as goal
 
 pub order-order-requires : goal.order-order-requires
 order-order-requires c =
-    fresh_orderly c.args.n c.requires.0 c.requires.1 c.refresh.ensures
+    fresh_orderly c.args.n c.requires.0 c.requires.1 (c.fresh_parts-parts.ensures c.args.n)
 
 pub returns : goal.returns
 returns c =
-    let fresh = c.refresh.ensures in
+    let fresh = (c.fresh_parts-parts.ensures c.args.n) in
     record {
       count_value = refl;
       value = fresh;
