@@ -1,4 +1,5 @@
-// A table in four arrays, which are lent: their types, the fresh table, and how far a scan result goes.
+// A table in four arrays, which are lent: their types, the fresh table, and how far a scan result goes. C lends four arrays; and the prover does not cover a
+// struct of them, whose literal would have a field that is an array of arrays.
 #![tactic(auto)]
 
 ghost use Rattle.std.specs.Prelude.{◌≡◌, ℕ, ◌≤◌};
@@ -50,12 +51,20 @@ impl<L: Copy + Drop, J: Copy + Drop, C: Copy + Drop, R: Copy + Drop> Parts<L, J,
 // The four arrays of a table of labels.
 pub type LabelParts = Parts<Labels, Jobs, Control, Results>;
 
+// A table that calls are served on one after the other: how many stations it has, their scan order, and its arrays.
+#[derive(Clone, Copy)]
+pub struct OrderedTable<P> {
+    pub count: usize,
+    pub order: [usize; 32],
+    pub parts: P,
+}
+
 // The planes of what is current and of what is pending.
 pub const CURRENT: usize = 0;
 
 pub const PENDING: usize = 1;
 
-// The numbers of the phases.
+// The numbers of the phases, in the control bytes that C lends.
 pub const IDLE: u8 = 0;
 
 pub const SNAP: u8 = 1;
@@ -71,7 +80,7 @@ pub const IN_SERVICE: u8 = 0;
 
 pub const OUT_OF_SERVICE: u8 = 1;
 
-// The phase that a number stands for.
+// The phase that a number stands for. `Phase` is declared in `moves`, so an impl of `From` cannot stand here.
 pub fn phase_of(b: u8) -> Phase
     ensures { phase_of result ≡ phase_for b }
 {
@@ -91,7 +100,7 @@ pub fn is_out(b: u8) -> bool
     b != IN_SERVICE
 }
 
-// The lengths of two planes of numbers, which are known of an array passed by value.
+// The lengths of two planes of numbers, which are known of an array passed by value. Of a lent array the prover knows its own length, and none of its rows'.
 pub fn sized(numbers: [[u32; 32]; 2])
     ensures { Sized 2 32 numbers }
 {}

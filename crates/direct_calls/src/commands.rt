@@ -1,112 +1,193 @@
 // The lines of the command file.
-ghost use Rattle.std.specs.Prelude.{◌+◌, ◌≤◌, length};
+ghost use Rattle.std.specs.Prelude.{◌<◌};
 
-use columns::Column;
+use moves::Step;
+use table::Entry;
 
-// A command: its letter, and its numbers. The letter of a bad line is 0, and that of a title #.
+// A number below N.
 #[derive(Clone, Copy)]
-pub struct Command {
-    pub letter: u8,
-    pub a: u64,
-    pub b: u64,
-    pub c: u64,
-    pub d: u64,
+pub struct Below<const N: usize> {
+    pub value: usize,
+    ghost below: { value < N },
 }
 
-// What a malformed column is read as; no bound is above it.
-const BAD: u64 = 18446744073709551615;
-
-fn below(n: Command, a: u64, b: u64, c: u64, d: u64) -> bool {
-    (n.a < a) & (n.b < b) & (n.c < c) & (n.d < d)
-}
-
-// Whether the numbers of a command are below the bounds that its letter sets.
-fn fits(n: Command) -> bool {
-    let letter = n.letter;
-    match letter {
-        b'f' => below(n, BAD, 1, 1, 1),
-        b's' => below(n, BAD, BAD, BAD, 930),
-        b'n' => below(n, 8, BAD, BAD, 930),
-        b'r' => below(n, BAD, BAD, BAD, 34),
-        b'l' => below(n, 32, 1, 1, 1),
-        b'd' | b'p' => below(n, 32, 31, 256, 1),
-        b'e' => below(n, 32, 32, 256, 4294967296),
-        b'j' | b'w' => below(n, 32, 1, 1, 4294967296),
-        b'u' => below(n, 32, 1, 2, 1),
-        b'c' => below(n, 32, 32, 1, 1),
-        b'a' | b't' => below(n, 1, 1, 1, 1),
-        b'x' => below(n, 4294967296, 1, 1, 1),
-        _ => false,
+impl<const N: usize> Below<N> {
+    fn new(v: u64) -> Option<Self> {
+        let value = v as usize;
+        if value < N {
+            Some(Below { value })
+        } else {
+            None
+        }
     }
 }
 
-// The number in the column that starts at a place.
-fn column_at(line: &[u8], at: usize) -> u64
-    requires at_bound { at ≤ 37 }
-    requires at_in_bounds { at + 12 ≤ length line.now }
-{
-    let Column::Value(v) = columns::read_column(&line[at..at + 12]) else {
-        return BAD;
-    };
-    v
+// A place in a table or a scan result.
+pub type Place = Below<32>;
+
+// A position in a label.
+pub type Position = Below<31>;
+
+// How many bytes a call lends.
+pub type Room = Below<930>;
+
+// Which function makes a step call: the one for all codes, or the one that has the step's name.
+#[derive(Clone, Copy)]
+pub enum Function {
+    Coded(u64),
+    Named(Step),
 }
 
-fn plain(letter: u8) -> Command {
-    Command {
-        letter,
-        a: 0,
-        b: 0,
-        c: 0,
-        d: 0,
-    }
+// A step call.
+#[derive(Clone, Copy)]
+pub struct Call {
+    pub function: Function,
+    pub station: u64,
+    pub job: u64,
+    pub room: Room,
 }
 
-// Shows a title.
-fn title(rt: &HostRuntime, line: &[u8]) -> Command {
-    crate::text(rt, line);
-    crate::text(rt, b"\n");
-    plain(b'#')
+// A change of one record of a table.
+#[derive(Clone, Copy)]
+pub enum Edit {
+    Digit(Position, u8),
+    PendingDigit(Position, u8),
+    Entry(Place, Entry),
+    Job(u32),
+    PendingJob(u32),
+    OutOfService(bool),
+    CopyOf(Place),
 }
 
-// Reads a command.
-fn read_columns(letter: u8, line: &[u8]) -> Command {
-    if line.len() != 49 {
-        return plain(0);
-    }
-    let n = Command {
-        letter,
-        a: column_at(line, 1),
-        b: column_at(line, 13),
-        c: column_at(line, 25),
-        d: column_at(line, 37),
-    };
-    if fits(n) { n } else { plain(0) }
+// What a line asks for.
+#[derive(Clone, Copy)]
+pub enum Command<'a> {
+    Title(&'a [u8]),
+    Fresh(u64),
+    Call(Call),
+    Panel {
+        code: u64,
+        station: u64,
+        job: u64,
+        records: usize,
+    },
+    Ask,
+    Label(Place),
+    Edit(Place, Edit),
+    Open(&'a [u8]),
+    Serve {
+        shown: usize,
+        line: &'a [u8],
+    },
+    Put,
+    Count(u32),
 }
 
-// Reads the room for a line of a schedule file, which stands behind it.
-fn read_room(letter: u8, line: &[u8]) -> Command {
-    if line.len() < 13 {
-        return plain(0);
-    }
-    let room = column_at(line, 1);
-    if 929 < room {
-        return plain(0);
-    }
-    Command {
-        letter,
-        a: 0,
-        b: 0,
-        c: 0,
-        d: room,
-    }
+// The command with this letter and these numbers.
+fn from_numbers(letter: u8, a: u64, b: u64, c: u64, d: u64) -> Option<Command<'static>> {
+    Some(match (letter, a, b, c, d) {
+        (b'f', n, 0, 0, 0) => Command::Fresh(n),
+        (b's', code, station, job, room) => Command::Call(Call {
+            function: Function::Coded(code),
+            station,
+            job,
+            room: Room::new(room)?,
+        }),
+        // No step has the code 0.
+        (b'n', 0, station, job, room) => Command::Call(Call {
+            function: Function::Coded(0),
+            station,
+            job,
+            room: Room::new(room)?,
+        }),
+        (b'n', code, station, job, room) => Command::Call(Call {
+            function: Function::Named(Step::try_from(code).ok()?),
+            station,
+            job,
+            room: Room::new(room)?,
+        }),
+        (b'r', code, station, job, records) if records < 34 => Command::Panel {
+            code,
+            station,
+            job,
+            records: records as usize,
+        },
+        (b'a', 0, 0, 0, 0) => Command::Ask,
+        (b'l', place, 0, 0, 0) => Command::Label(Place::new(place)?),
+        (b'd', place, position, digit, 0) => Command::Edit(
+            Place::new(place)?,
+            Edit::Digit(Position::new(position)?, u8::try_from(digit).ok()?),
+        ),
+        (b'p', place, position, digit, 0) => Command::Edit(
+            Place::new(place)?,
+            Edit::PendingDigit(Position::new(position)?, u8::try_from(digit).ok()?),
+        ),
+        (b'e', place, entry, station, job) => Command::Edit(
+            Place::new(place)?,
+            Edit::Entry(
+                Place::new(entry)?,
+                Entry {
+                    station: u32::from(u8::try_from(station).ok()?),
+                    job: u32::try_from(job).ok()?,
+                },
+            ),
+        ),
+        (b'j', place, 0, 0, job) => {
+            Command::Edit(Place::new(place)?, Edit::Job(u32::try_from(job).ok()?))
+        }
+        (b'w', place, 0, 0, job) => Command::Edit(
+            Place::new(place)?,
+            Edit::PendingJob(u32::try_from(job).ok()?),
+        ),
+        (b'u', place, 0, out, 0) if out < 2 => {
+            Command::Edit(Place::new(place)?, Edit::OutOfService(out == 1))
+        }
+        (b'c', place, other, 0, 0) => {
+            Command::Edit(Place::new(place)?, Edit::CopyOf(Place::new(other)?))
+        }
+        (b't', 0, 0, 0, 0) => Command::Put,
+        (b'x', lines, 0, 0, 0) => Command::Count(u32::try_from(lines).ok()?),
+        _ => return None,
+    })
 }
 
-// Reads a line that starts with this byte, 10 if it is empty.
-pub fn read(rt: &HostRuntime, letter: u8, line: &[u8]) -> Command {
-    match letter {
-        b'#' | 10 => title(rt, line),
-        b'o' => plain(letter),
-        b'v' => read_room(letter, line),
-        _ => read_columns(letter, line),
+// Reads four columns, behind the letter; the byte 10 stands behind them.
+fn read_columns(letter: u8, rest: &[u8]) -> Option<Command<'static>> {
+    if rest.len() != 49 {
+        return None;
+    }
+    let a = columns::read_column(&rest[..12])?;
+    let b = columns::read_column(&rest[12..24])?;
+    let c = columns::read_column(&rest[24..36])?;
+    let d = columns::read_column(&rest[36..48])?;
+    from_numbers(letter, a, b, c, d)
+}
+
+// Reads how many bytes are shown of the buffer of a line of a schedule file, which stands behind them.
+fn read_served(rest: &[u8]) -> Option<Command<'_>> {
+    if rest.len() < 13 {
+        return None;
+    }
+    let shown = columns::read_column(&rest[..12])?;
+    if 929 < shown {
+        return None;
+    }
+    Some(Command::Serve {
+        shown: shown as usize,
+        line: &rest[12..],
+    })
+}
+
+// Reads a line with the byte 10 at its end.
+pub fn read(line: &[u8]) -> Option<Command<'_>> {
+    if line.last() != Some(&b'\n') {
+        return None;
+    }
+    let (letter, rest) = line.split_first()?;
+    match *letter {
+        b'#' | b'\n' => Some(Command::Title(line)),
+        b'o' => Some(Command::Open(rest)),
+        b'v' => read_served(rest),
+        other => read_columns(other, rest),
     }
 }

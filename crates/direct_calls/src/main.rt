@@ -25,171 +25,108 @@
 //     x lines                    makes it so many lines that the session has counted, the header among them
 #![tactic(auto)]
 
+mod calls;
 mod commands;
 mod edits;
 mod owners;
 mod panels;
 mod sessions;
 
-ghost use Rattle.std.specs.Prelude.{◌≤◌, length};
-
-use commands::Command;
-use engine::{Holders, Reply};
-use memchr::memchr;
-use std::io::{Print, Read};
+use calls::{ByValue, Calls};
+use commands::{Call, Command, Function};
+use moves::{Refusal, Step};
+use owners::Lent;
+use session::Session;
+use std::io::{self, Cursor, Print, Read};
 use step::Outcome;
 use table::Table;
 
 // What cannot be written is lost.
-pub fn text(rt: &HostRuntime, bytes: &[u8]) {
+fn text(rt: &HostRuntime, bytes: &[u8]) {
     let _ = rt.write_all(bytes);
 }
 
-// A number, and a byte before it.
-pub fn number(rt: &HostRuntime, before: u8, v: u64) {
-    text(rt, &[before]);
-    let _ = rt.print(v);
-}
-
-// A form of the calls: on a lent table. Any other is the one on a table by value.
-const LENT: u64 = 1;
-
-// Makes a step call on a table by value: 1 to 7 are the calls with the names of these steps, and any other is the call by code.
-fn by_value(t: Table, name: u64, c: Command, report: &mut [u8]) -> Outcome {
-    match name {
-        1 => step::begin_label(t, c.b, c.c),
-        2 => step::scan(t, c.b),
-        3 => step::snap(t, c.b),
-        4 => step::update(t, c.b),
-        5 => step::end(t, c.b, report),
-        6 => step::leave_service(t, c.b),
-        7 => step::return_to_service(t, c.b),
-        _ => step::step(t, c.a, c.b, c.c, report),
-    }
-}
-
-// The same on a lent table.
-fn lent(t: Table, name: u64, c: Command, report: &mut [u8]) -> Outcome {
-    match name {
-        1 => owners::begin_label(t, c.b, c.c),
-        2 => owners::scan(t, c.b),
-        3 => owners::snap(t, c.b),
-        4 => owners::update(t, c.b),
-        5 => owners::end(t, c.b, report),
-        6 => owners::leave_service(t, c.b),
-        7 => owners::return_to_service(t, c.b),
-        _ => lent_table::step_owned(t, c.a, c.b, c.c, report),
-    }
-}
-
-// Makes a step call in one of its forms.
-fn stepped(t: Table, form: u64, name: u64, c: Command, report: &mut [u8]) -> Outcome {
-    match form {
-        LENT => lent(t, name, c, report),
-        _ => by_value(t, name, c, report),
-    }
+// The number of a reply's refusal, and its count.
+fn told(reply: Result<usize, Refusal>) -> (u64, usize) {
+    (moves::number_of(reply.err()), reply.unwrap_or(0))
 }
 
 // Shows the buffer that a call has lent, and its reply.
-pub fn show(rt: &HostRuntime, report: &[u8], r: Reply) {
-    let refusal = r.refusal;
+pub fn show(rt: &HostRuntime, report: &[u8], reply: Result<usize, Refusal>) {
+    let (number, count) = told(reply);
     text(rt, report);
-    number(rt, b' ', refusal.number());
-    number(rt, b'/', r.written as u64);
+    let _ = print!(rt; " {number}/{count}");
 }
 
-// Makes a step call, and shows its buffer and its reply.
-fn shown(rt: &HostRuntime, t: Table, form: u64, name: u64, c: Command, report: &mut [u8]) -> Table {
-    let o = stepped(t, form, name, c, report);
-    let r = o.reply;
-    show(rt, report, r);
+// Makes a step call.
+fn make<C: Calls>(t: Table, c: Call, report: &mut [u8]) -> Outcome {
+    match c.function {
+        Function::Coded(code) => C::step(t, code, c.station, c.job, report),
+        Function::Named(Step::BeginLabel) => C::begin_label(t, c.station, c.job),
+        Function::Named(Step::Scan) => C::scan(t, c.station),
+        Function::Named(Step::Snap) => C::snap(t, c.station),
+        Function::Named(Step::Update) => C::update(t, c.station),
+        Function::Named(Step::End) => C::end(t, c.station, report),
+        Function::Named(Step::LeaveService) => C::leave_service(t, c.station),
+        Function::Named(Step::ReturnToService) => C::return_to_service(t, c.station),
+    }
+}
+
+// Lends a buffer for a step call, and shows it and the reply.
+fn call<C: Calls>(rt: &HostRuntime, t: Table, c: Call) -> Table {
+    let mut buffer = [b'.'; 929];
+    let report = &mut buffer[..c.room.value];
+    let o = make::<C>(t, c, report);
+    show(rt, report, o.reply);
     o.table
 }
 
-// Lends a buffer for a step call. A command has room for 929 bytes at most (`fits`).
-fn call(rt: &HostRuntime, t: Table, form: u64, name: u64, c: Command) -> Table {
-    let mut buffer = [b'.'; 929];
-    let n = (c.d % 930) as usize;
-    shown(rt, t, form, name, c, &mut buffer[..n])
-}
-
-// Puts the question to a table in one of its forms.
-fn told(t: Table, form: u64) -> Holders {
-    match form {
-        LENT => lent_table::top_holders_owned(t),
-        _ => step::top_holders(t),
-    }
-}
-
 // Asks how many stations have the newest's label, and shows the answer.
-fn ask(rt: &HostRuntime, t: Table, form: u64) -> Table {
-    let h = told(t, form);
-    let refusal = h.refusal;
-    number(rt, b' ', refusal.number());
-    number(rt, b':', h.stations as u64);
-    t
+fn ask<C: Calls>(rt: &HostRuntime, t: Table) {
+    let (number, count) = told(C::top_holders(t));
+    let _ = print!(rt; " {number}:{count}");
 }
 
-// Obeys a command on the table.
-fn obey(rt: &HostRuntime, t: Table, form: u64, c: Command) -> Table {
-    let letter = c.letter;
-    match letter {
-        b'#' | b'o' | b'v' | b't' | b'x' => t,
-        b'f' => Table::fresh(c.a as usize),
-        b's' => call(rt, t, form, 0, c),
-        b'n' => call(rt, t, form, c.a, c),
-        b'r' => panels::call(rt, t, c),
-        b'a' => ask(rt, t, form),
-        _ => edits::edited(rt, t, c),
+// Obeys a command on the table or the session.
+fn obey<C: Calls>(rt: &HostRuntime, t: &mut Table, s: &mut Session, c: Command<'_>) {
+    match c {
+        Command::Title(line) => text(rt, line),
+        Command::Fresh(n) => *t = Table::fresh(n as usize),
+        Command::Call(c) => *t = call::<C>(rt, *t, c),
+        Command::Panel {
+            code,
+            station,
+            job,
+            records,
+        } => *t = panels::call(rt, *t, code, station, job, records),
+        Command::Ask => ask::<C>(rt, *t),
+        Command::Label(place) => edits::show_label(rt, *t, place),
+        Command::Edit(place, edit) => edits::edit(t, place, edit),
+        Command::Open(header) => *s = sessions::open(rt, header),
+        Command::Serve { shown, line } => *s = sessions::serve(rt, *s, line, shown),
+        Command::Put => s.table = *t,
+        Command::Count(lines) => s.lines = lines,
     }
-}
-
-fn bad(rt: &HostRuntime) {
-    text(rt, b"\nbad command\n");
 }
 
 // Obeys the lines of a file, up to a bad one.
-fn run(rt: &HostRuntime, form: u64, file: &[u8])
-    requires { length file.now ≤ 262144 }
-{
+fn run<C: Calls>(rt: &HostRuntime, file: &[u8]) {
     let mut t = Table::fresh(2);
-    let mut s = session::open(&file[..0]);
-    let mut at = 0;
-    while at < file.len() {
-        let Some(length) = memchr(b'\n', &file[at..]) else {
-            return bad(rt);
+    let mut s = session::open(b"");
+    for line in file.split_inclusive(|b| *b == b'\n') {
+        let Some(c) = commands::read(line) else {
+            return text(rt, b"\nbad command\n");
         };
-        let end = at + length;
-        let c = commands::read(rt, file[at], &file[at..end]);
-        if c.letter == 0 {
-            return bad(rt);
-        }
-        s = sessions::obey(rt, s, t, c, &file[at..end + 1]);
-        t = obey(rt, t, form, c);
-        at = end + 1;
+        obey::<C>(rt, &mut t, &mut s, c);
     }
 }
 
-// Reads until `buf` is full, the input ends or a read fails.
-fn read_full<R: Read>(input: &mut R, buf: &mut [u8]) -> usize
-    ensures { result ≤ length buf.new }
-{
-    let mut done = 0;
-    while done < buf.len() {
-        let Ok(n) = input.read(&mut buf[done..]) else {
-            break;
-        };
-        if n == 0 {
-            break;
-        }
-        done += n;
-    }
-    done
-}
-
+// Reads the input, at most as many bytes as there is room for; what cannot be read ends it.
 fn main(rt: HostRuntime) {
-    let mut buffer = [0; 262144];
-    let n = read_full(&mut rt.stdin(), &mut buffer);
-    run(&rt, 0, &buffer[..n]);
-    run(&rt, LENT, &buffer[..n]);
+    let mut file = Cursor::new([0; 262144]);
+    let _ = io::copy(&mut rt.stdin().take(262144), &mut file);
+    let n = (file.position() as usize).min(262144);
+    let bytes = file.into_inner();
+    run::<ByValue>(&rt, &bytes[..n]);
+    run::<Lent>(&rt, &bytes[..n]);
 }

@@ -1,79 +1,61 @@
 // Owners of a table: each lends it to the call on a lent table that has its name, and hands it back. Whoever calls these has no reference to a table.
-ghost use Rattle.std.specs.Prelude.{[], length};
-ghost use Rattle.simulation.specs.Calls.{Buffer, Bytes};
-ghost use Rattle.transition.specs.Sequences.{Steps};
-ghost use Rattle.moves.specs.Moves.{refusal_number, called};
-ghost use Rattle.table.specs.Tables.{declared};
+ghost use Rattle.std.specs.Fn.{FnOnceReturnsAtMut};
 
+use crate::calls::Calls;
+use moves::Refusal;
 use step::Outcome;
 use table::Table;
 
-// A station begins to take a label for a job.
-pub fn begin_label(t: Table, station: u64, job: u64) -> Outcome
-    ensures { Steps declared t (called 0 1 station job (Buffer 0)) (Bytes []) result.table (refusal_number result.reply.refusal) result.reply.written
-        (Bytes []) }
+// The owner of a table lends it to a call, and hands it back.
+fn owned<F: FnOnce(&mut Table) -> Result<usize, Refusal>>(t: Table, call: F) -> Outcome
+    requires { F.IsAlwaysCallable call }
+    ensures { FnOnceReturnsAtMut F.FnOnce call t result.reply result.table }
 {
     let mut own = t;
-    let reply = lent_table::begin_label(&mut own, station, job);
+    let reply = call(&mut own);
     Outcome { table: own, reply }
 }
 
-// A station scans.
-pub fn scan(t: Table, station: u64) -> Outcome
-    ensures { Steps declared t (called 0 2 station 0 (Buffer 0)) (Bytes []) result.table (refusal_number result.reply.refusal) result.reply.written
-        (Bytes []) }
-{
-    let mut own = t;
-    let reply = lent_table::scan(&mut own, station);
-    Outcome { table: own, reply }
-}
+// The calls on a table that its owner lends.
+pub struct Lent;
 
-// A station takes its snapshot for a label.
-pub fn snap(t: Table, station: u64) -> Outcome
-    ensures { Steps declared t (called 0 3 station 0 (Buffer 0)) (Bytes []) result.table (refusal_number result.reply.refusal) result.reply.written
-        (Bytes []) }
-{
-    let mut own = t;
-    let reply = lent_table::snap(&mut own, station);
-    Outcome { table: own, reply }
-}
+impl Calls for Lent {
+    fn step(t: Table, code: u64, station: u64, job: u64, report: &mut [u8]) -> Outcome {
+        lent_table::step_owned(t, code, station, job, report)
+    }
 
-// A station writes its pending label and job.
-pub fn update(t: Table, station: u64) -> Outcome
-    ensures { Steps declared t (called 0 4 station 0 (Buffer 0)) (Bytes []) result.table (refusal_number result.reply.refusal) result.reply.written
-        (Bytes []) }
-{
-    let mut own = t;
-    let reply = lent_table::update(&mut own, station);
-    Outcome { table: own, reply }
-}
+    fn begin_label(t: Table, station: u64, job: u64) -> Outcome {
+        owned(t, |own| lent_table::begin_label(own, station, job))
+    }
 
-// A station ends its operation; a scan is reported.
-pub fn end(t: Table, station: u64, report: &mut [u8]) -> Outcome
-    ensures { Steps declared t (called 0 5 station 0 (Buffer (length report.old))) (Bytes report.old)
-        result.table (refusal_number result.reply.refusal) result.reply.written (Bytes report.new) }
-{
-    let mut own = t;
-    let reply = lent_table::end(&mut own, station, report);
-    Outcome { table: own, reply }
-}
+    fn scan(t: Table, station: u64) -> Outcome {
+        owned(t, |own| lent_table::scan(own, station))
+    }
 
-// A station leaves service.
-pub fn leave_service(t: Table, station: u64) -> Outcome
-    ensures { Steps declared t (called 0 6 station 0 (Buffer 0)) (Bytes []) result.table (refusal_number result.reply.refusal) result.reply.written
-        (Bytes []) }
-{
-    let mut own = t;
-    let reply = lent_table::leave_service(&mut own, station);
-    Outcome { table: own, reply }
-}
+    fn snap(t: Table, station: u64) -> Outcome {
+        owned(t, |own| lent_table::snap(own, station))
+    }
 
-// A station returns to service.
-pub fn return_to_service(t: Table, station: u64) -> Outcome
-    ensures { Steps declared t (called 0 7 station 0 (Buffer 0)) (Bytes []) result.table (refusal_number result.reply.refusal) result.reply.written
-        (Bytes []) }
-{
-    let mut own = t;
-    let reply = lent_table::return_to_service(&mut own, station);
-    Outcome { table: own, reply }
+    fn update(t: Table, station: u64) -> Outcome {
+        owned(t, |own| lent_table::update(own, station))
+    }
+
+    fn end(t: Table, station: u64, report: &mut [u8]) -> Outcome {
+        // A closure that holds the report buffer doesn't say what it leaves in it.
+        let mut own = t;
+        let reply = lent_table::end(&mut own, station, report);
+        Outcome { table: own, reply }
+    }
+
+    fn leave_service(t: Table, station: u64) -> Outcome {
+        owned(t, |own| lent_table::leave_service(own, station))
+    }
+
+    fn return_to_service(t: Table, station: u64) -> Outcome {
+        owned(t, |own| lent_table::return_to_service(own, station))
+    }
+
+    fn top_holders(t: Table) -> Result<usize, Refusal> {
+        lent_table::top_holders_owned(t)
+    }
 }

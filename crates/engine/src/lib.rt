@@ -1,4 +1,5 @@
-// The one engine: step calls on a table in four arrays, which are lent and changed in place, and a question to it, which changes nothing.
+// The one engine: step calls on a table in four arrays, which are lent and changed in place, and a question to it, which changes nothing. They are four
+// parameters, as the C interface lends four arrays.
 #![tactic(auto)]
 
 ghost use Rattle.std.specs.Prelude.{◌≡◌, ◌≢◌, true, map, ℕ, ◌*◌, ◌≤◌, ◌<◌, length, get_or, replicate};
@@ -206,8 +207,9 @@ pub fn carry_out(
 {
     arrays::shaped(*labels, *jobs, *control, *results);
     let accepted = task?;
+    let handed = carry_rest(n, task, order, jobs, control, results);
     relabel(accepted.action, accepted.place, accepted.newest, n, labels);
-    carry_rest(n, task, order, jobs, control, results)
+    handed
 }
 
 // Judges a call on a table of n stations with what is lent for its report; `top` is the newest station, as far as it is known.

@@ -2,7 +2,7 @@
 // their reports, their numbers and their logs. `exports_c` exports them.
 #![tactic(auto)]
 
-ghost use Rattle.std.specs.Prelude.{◌≡◌, cond, map, length};
+ghost use Rattle.std.specs.Prelude.{◌≡◌, map, length};
 ghost use Rattle.simulation.specs.Calls.{Buffer, Panel, Bytes, Records};
 ghost use Rattle.transition.specs.Questions.{Tells};
 ghost use Rattle.transition.specs.Sequences.{Steps};
@@ -35,10 +35,7 @@ pub fn tickets_fresh(
     ensures { Starts n (arrays n labels.old jobs.old control.old results.old)
         (arrays n labels.new jobs.new control.new results.new) result }
 {
-    if n < 2 {
-        return 1;
-    }
-    if 32 < n {
+    if !(2..=32).contains(&n) {
         return 1;
     }
     arrays::refresh(n as usize, labels, jobs, control, results);
@@ -173,16 +170,6 @@ pub struct Verdict {
     pub right: u64,
 }
 
-// Yes as 1, no as 0.
-fn flag(yes: bool) -> u64
-    ensures { result ≡ cond yes 1 0 }
-{
-    if yes {
-        return 1;
-    }
-    0
-}
-
 // Checks the log of a whole schedule file, its numbers and its report, against the unbounded table. A refusal is answered before any step is run.
 pub fn tickets_check_log(schedule: &[u8], numbers: &[u64], report: &[u8]) -> Verdict
     ensures { TellsOfLog schedule.now numbers.now report.now result.refusal result.right }
@@ -191,6 +178,6 @@ pub fn tickets_check_log(schedule: &[u8], numbers: &[u64], report: &[u8]) -> Ver
     let refusal = verdict.refusal;
     Verdict {
         refusal: refusal.number(),
-        right: flag(verdict.right),
+        right: u64::from(verdict.right),
     }
 }

@@ -15,20 +15,12 @@ ghost use Rattle.file.specs.Tables.{arrays_in};
 ghost use Rattle.file.specs.Clauses.{Runnable, Turns, Prints, Reports, RunsFile, ReportsFile};
 ghost use Rattle.file.specs.Feeds.{Underway, Feeds, fed_of, Opens};
 
-use arrays::{CURRENT, LabelParts, Parts};
+use arrays::{CURRENT, LabelParts, OrderedTable, Parts};
 use engine::Handed;
 use moves::{Move, Refusal, Request, Room};
 
 // The most bytes that a line prints: 32 report lines of 29.
 const ROOM: usize = 928;
-
-// A table that a file's lines are served on: how many stations it has, their scan order, and its arrays.
-#[derive(Clone, Copy)]
-pub struct OrderedTable {
-    pub count: usize,
-    pub order: [usize; 32],
-    pub parts: LabelParts,
-}
 
 // What lines leave beside the table and the output buffer: how many lines are counted, the final refusal if there is one, the
 // bytes of the part that were read, and the bytes that were printed.
@@ -79,7 +71,7 @@ pub struct Turn {
 }
 
 // Serves a step call, up to what is written of it, and brings the scan order up to date.
-pub fn take_turn(request: Request, table: &mut OrderedTable) -> Result<Turn, Refusal>
+pub fn take_turn(request: Request, table: &mut OrderedTable<LabelParts>) -> Result<Turn, Refusal>
     requires { Runnable (arrays_in table.old) table.old.order }
     ensures turns { Turns (arrays_in table.old) (call_of request (Buffer 928)) (arrays_in table.new) result }
     ensures runnable { Runnable (arrays_in table.new) table.new.order }
@@ -120,7 +112,7 @@ pub fn take_turn(request: Request, table: &mut OrderedTable) -> Result<Turn, Ref
 }
 
 // Serves a step line: prints its report or its refusal to the front of `out`, and hands back its bytes.
-fn serve_line(request: Request, table: &mut OrderedTable, out: &mut [u8]) -> usize
+fn serve_line(request: Request, table: &mut OrderedTable<LabelParts>, out: &mut [u8]) -> usize
     requires runnable { Runnable (arrays_in table.old) table.old.order }
     requires out_len { length out.old ≡ 928 }
     ensures prints { Prints (arrays_in table.old) (call_of request (Buffer 928)) out.old (arrays_in table.new) result out.new }
@@ -137,7 +129,12 @@ fn serve_line(request: Request, table: &mut OrderedTable, out: &mut [u8]) -> usi
 
 // Serves the lines of a part of the file after `lines` others, and writes what they print: up to a final refusal, or until there is no room for the report
 // of another line.
-fn report_lines(lines: u32, table: &mut OrderedTable, chunk: &[u8], out: &mut [u8]) -> Progress
+fn report_lines(
+    lines: u32,
+    table: &mut OrderedTable<LabelParts>,
+    chunk: &[u8],
+    out: &mut [u8],
+) -> Progress
     requires { Runnable (arrays_in table.old) table.old.order }
     ensures reports { Reports
         (session lines None (arrays_in table.old)) chunk.now
@@ -207,7 +204,7 @@ pub struct Fed {
 }
 
 // The fresh table of n stations, with its scan order.
-pub fn fresh(n: usize) -> OrderedTable
+pub fn fresh(n: usize) -> OrderedTable<LabelParts>
     requires { (2 ≤ n) × (n ≤ 32) }
     ensures count_value { result.count ≡ n }
     ensures value { arrays_in result ≡ fresh_table lent n }
@@ -235,7 +232,7 @@ pub fn fresh(n: usize) -> OrderedTable
 }
 
 // A run before its first line, and its table.
-pub fn start() -> (Run, OrderedTable)
+pub fn start() -> (Run, OrderedTable<LabelParts>)
     ensures run_value { result.0 ≡ record { lines = 0; refusal = None } }
     ensures table_value { arrays_in result.1 ≡ fresh_table lent 2 }
     ensures underway { Underway result.0 (arrays_in result.1) result.1.order }
@@ -284,7 +281,7 @@ struct Opening {
 fn open_part(
     run: Run,
     last: bool,
-    table: &mut OrderedTable,
+    table: &mut OrderedTable<LabelParts>,
     part: &[u8],
 ) -> Result<Option<Opening>, Refusal>
     requires { Underway run (arrays_in table.old) table.old.order }
@@ -309,7 +306,13 @@ fn open_part(
 
 // Serves a part of the file, the header first where it is still to come, and writes what the lines print. What is left unread of the part, a line that is
 // not whole or lines for whose report there is no room, stands at the front of the next one.
-pub fn feed(run: Run, last: bool, table: &mut OrderedTable, part: &[u8], out: &mut [u8]) -> Fed
+pub fn feed(
+    run: Run,
+    last: bool,
+    table: &mut OrderedTable<LabelParts>,
+    part: &[u8],
+    out: &mut [u8],
+) -> Fed
     requires underway { Underway run (arrays_in table.old) table.old.order }
     requires in_bounds { 928 ≤ length out.old }
     ensures feeds { Feeds run (arrays_in table.old) last

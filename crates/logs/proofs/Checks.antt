@@ -20,12 +20,16 @@ use Rattle.transition.specs.Logs.{fits_next, at_front, right}
 use Rattle.transition.proofs.Logs.{front_from, front_end, front_short}
 use Rattle.moves.specs.Moves.{call_of}
 use Rattle.moves.specs.declared.Request.{Request}
-use Rattle.arrays.specs.Arrays.{Planes, Rows, entries_in}
+use Rattle.arrays.specs.Arrays.{entries_in}
 use Rattle.arrays.specs.Planes.{beside}
 use Rattle.engine.proofs.Reports.{result_length}
 use Rattle.schedule.proofs.Places.{calls_from, StepAt, calls_step}
-use Rattle.unbounded.specs.Tables.{table, Table, restᵘ, stateᵘ, answeredᵘ, Turnsᵘ, Runnableᵘ}
+use Rattle.unbounded.specs.Tables.{Table, restᵘ, stateᵘ, answeredᵘ, Turnsᵘ, Runnableᵘ}
 use Rattle.unbounded.specs.declared.NumberedTurn.{NumberedTurn}
+use Rattle.std.specs.Prelude.{Option, Some, None, is_some, Ok, Err}
+use Rattle.moves.specs.declared.Refusal.{Refusal}
+use Rattle.engine.specs.Clauses.{entries_told}
+use Rattle.engine.specs.declared.Handed.{Handed}
 use Rattle.logs.specs.Files.{answer_bytes}
 use Rattle.logs.specs.Clauses.{writes, RunsCall, numbers_left, pending, calls_left, ahead_log, placed_at, Checking, work_left, Drained, FeedsReport, Finishes}
 use Rattle.logs.specs.declared.Ran.{Ran}
@@ -76,33 +80,44 @@ take_behind k n l h g =
 
 -- A CALL
 
+-- its number does not fit
+pub run_unfit : {t t' : Table} {order order' : Lists.List ℕ} {c : Call} {log : Lists.List ℕ} {used : ℕ} → Turnsᵘ t order c log used t' order' None
+    → (buffer : Lists.List ℕ) → RunsCall t c log used t' buffer None
+run_unfit g buffer = record { fits = g.fits; ran = tt }
+
 module _ {t t' : Table} {order order' : Lists.List ℕ} {c : Call} {log : Lists.List ℕ} {used : ℕ} {r : NumberedTurn}
-    (g : Turnsᵘ t order c log used t' order' r) where
-  -- its number does not fit
-  pub run_unfit : (buffer : Lists.List ℕ) → r.fits ≡ false → RunsCall t c log used t' buffer (record { fits = false; used = used; written = 0 })
-  run_unfit buffer e = record {
-    fits = sym e ∙ g.fits;
-    state = λ y. absurd (tf y refl);
-    numbers = λ y. absurd (tf y refl);
-    bytes = λ y. absurd (tf y refl);
-    nothing = λ _. (refl, refl);
+    (g : Turnsᵘ t order c log used t' order' (Some r)) (count : t'.count ≡ t.count) where
+  -- it is refused, and writes nothing
+  pub run_refused : (e : Refusal) → r.handed ≡ Err e → (buffer : Lists.List ℕ) → RunsCall t c log used t' buffer (Some (record { used = r.used; written = 0 }))
+  unfolding report_lines
+  run_refused e q buffer = record {
+    fits = g.fits;
+    ran = record {
+      count = count;
+      state = g.served.state;
+      numbers = (g.served.counted, g.served.enough);
+      bytes = (sym (g.served.report ∙ ap (λ h. report_lines c.line 1 (entries_told h t'.results)) q), omega arith);
+    };
   }
 
-  -- it fits, and what is written is k bytes at the front of a buffer
-  pub run_fits : r.fits ≡ true → (k : ℕ) (buffer buffer' : Lists.List ℕ) → k ≡ r.handed.entries * 29
-      → buffer' ≡ over (report_lines c.line 1 (entries_in r.handed.entries (get_or t'.results r.handed.place []))) buffer
-      → RunsCall t c log used t' buffer' (record { fits = true; used = r.used; written = k })
-  run_fits e k buffer buffer' w o =
-      let rows = get_or t'.results r.handed.place [] in
-      let l = report_lines c.line 1 (entries_in r.handed.entries rows) in record {
-        fits = sym e ∙ g.fits;
-        state = λ _. (g.served e).state;
-        numbers = λ _. ((g.served e).counted, (g.served e).enough);
-        bytes = λ _. (
-          ap (take k) o ∙ take_at l (drop (length l) buffer) k (result_length c.line r.handed.entries rows ∙ sym w) ∙ sym (g.served e).report,
-          omega (arith, w, (g.served e).few),
-        );
-        nothing = λ y. absurd (tf refl y);
+  -- it is accepted, and what is written is k bytes at the front of a buffer
+  pub run_fits : (h : Handed) → r.handed ≡ Ok h → h.entries ≤ 32 → (k : ℕ) (buffer buffer' : Lists.List ℕ) → k ≡ h.entries * 29
+      → buffer' ≡ over (report_lines c.line 1 (entries_in h.entries (get_or t'.results h.place []))) buffer
+      → RunsCall t c log used t' buffer' (Some (record { used = r.used; written = k }))
+  run_fits h q few k buffer buffer' w o =
+      let rows = get_or t'.results h.place [] in
+      let l = report_lines c.line 1 (entries_in h.entries rows) in record {
+        fits = g.fits;
+        ran = record {
+          count = count;
+          state = g.served.state;
+          numbers = (g.served.counted, g.served.enough);
+          bytes = (
+            ap (take k) o ∙ take_at l (drop (length l) buffer) k (result_length c.line h.entries rows ∙ sym w)
+            ∙ sym (g.served.report ∙ ap (λ x. report_lines c.line 1 (entries_told x t'.results)) q),
+            omega (arith, w, few),
+          );
+        };
       }
 
 -- THE LOOP over a part of the report, from the check c₀: `read` bytes of it are used up, and what is told of the log is what is told from here on by the rest
@@ -135,12 +150,6 @@ sofar_start {c} {t} {file} {list} {buffer} {part} e = record {
 pub checking_here : {c : Progress} (b : Bool) {t : Table} {order file list buffer : Lists.List ℕ} → Checking c t order file list buffer
     → Checking (here c b) t order file list buffer
 checking_here b g = record { runnable = g.runnable; numbers = g.numbers; place = g.place; bytes = g.bytes; room = g.room }
-
--- the check that is handed back, by another name
-abbrev pub FedTo : Progress → Table → Lists.List ℕ → Lists.List ℕ → Lists.List ℕ → Lists.List ℕ → Rows → Rows → Rows → Planes → Lists.List ℕ → Lists.List ℕ
-    → Progress → Type 0
-FedTo c₀ t₀ file list buffer₀ part v j k s order buffer c = FeedsReport c₀ t₀ file list buffer₀ part c (table c.stations v j k s) buffer
-    × Checking c (table c.stations v j k s) order file list buffer
 
 module _ {c₀ : Progress} {t₀ : Table} {file list buffer₀ part : Lists.List ℕ} {c : Progress} {t : Table} {order buffer : Lists.List ℕ} {read : ℕ}
     (f : Sofar c₀ t₀ file list buffer₀ part c t buffer read) (g : Checking c t order file list buffer) where
@@ -254,7 +263,7 @@ module _ {c₀ : Progress} {t₀ : Table} {file list buffer₀ part : Lists.List
             ∙ and-false (eqb (length (numbers_left c list)) 0))
 
     -- a step
-    module _ {q : Request} (s : StepAt c.lines file c.at q) {t' : Table} {buffer' : Lists.List ℕ} {r : Ran}
+    module _ {q : Request} (s : StepAt c.lines file c.at q) {t' : Table} {buffer' : Lists.List ℕ} {r : Option Ran}
         (u : RunsCall t (call_of q (Buffer 928)) (take c.count list) c.used t' buffer' r) where
       abbrev call : Call
       call = call_of q (Buffer 928)
@@ -276,36 +285,43 @@ module _ {c₀ : Progress} {t₀ : Table} {file list buffer₀ part : Lists.List
       unfolding right
       step_first report = ap (right original t.count (stateᵘ t) (numbers_left c list) report) (calls_step c.lines file c.at g.place.0 s).0
 
-      pub sofar_unfit : {c' : Progress} → c'.right ≡ false → r.fits ≡ false → {t' : Table} {buffer' : Lists.List ℕ}
+      pub sofar_unfit : {c' : Progress} → c'.right ≡ false → r ≡ None → {t' : Table} {buffer' : Lists.List ℕ}
           → FeedsReport c₀ t₀ file list buffer₀ part c' t' buffer'
-      sofar_unfit e d = wrong e (λ more. steps_only more ∙ step_first (rest ++ more) ∙ rw (sym u.fits ∙ d) refl)
+      sofar_unfit e d = wrong e (λ more. steps_only more ∙ step_first (rest ++ more) ∙ rw (sym u.fits ∙ ap is_some d) refl)
 
-      module _ (d : r.fits ≡ true) (n : t'.count ≡ t.count) where
+    module _ {q : Request} (s : StepAt c.lines file c.at q) {t' : Table} {buffer' : Lists.List ℕ} {r : Ran}
+        (u : RunsCall t (call_of q (Buffer 928)) (take c.count list) c.used t' buffer' (Some r)) where
         abbrev then : Progress
         then = placed_at c true r.used (c.lines + 1) (c.at + 18) r.written 0
 
-        written : pending then buffer' ≡ bytes
-        written = let all : r.written - 0 ≡ r.written = omega arith in ap (λ i. take i buffer') all ∙ (u.bytes d).0
+        abbrev this_call : Call
+        this_call = call_of q (Buffer 928)
+
+        abbrev written_bytes : Lists.List ℕ
+        written_bytes = writes t this_call (numbers_left c list)
+
+        written : pending then buffer' ≡ written_bytes
+        written = let all : r.written - 0 ≡ r.written = omega arith in ap (λ i. take i buffer') all ∙ u.ran.bytes.0
 
         pub sofar_step : Sofar c₀ t₀ file list buffer₀ part then t' buffer' read
         sofar_step = record {
           within = f.within;
           going = refl;
           same = λ more.
-              let ns = drop-drop (snaps_of original t.count (stateᵘ t) call) c.used (take c.count list)
-              ∙ ap (λ i. drop i (take c.count list)) (sym (u.numbers d).0) in
-              from_here more ∙ steps_only more ∙ step_first (rest ++ more) ∙ rw (sym u.fits ∙ d) refl
+              let ns = drop-drop (snaps_of original t.count (stateᵘ t) this_call) c.used (take c.count list)
+              ∙ ap (λ i. drop i (take c.count list)) (sym u.ran.numbers.0) in
+              from_here more ∙ steps_only more ∙ step_first s u (rest ++ more) ∙ rw (sym u.fits) refl
               ∙ (λ i. at_front (sym written i) (rest ++ more)
-              && right original (sym n i) (sym (u.state d) i) (ns i) (drop (length (sym written i)) (rest ++ more)) calls);
-          less = omega (arith, f.less, (u.bytes d).1, s.within);
+              && right original (sym u.ran.count i) (sym u.ran.state i) (ns i) (drop (length (sym written i)) (rest ++ more)) (calls_from (c.lines + 1) file (c.at + 18)));
+          less = omega (arith, f.less, u.ran.bytes.1, s.within);
         }
 
         pub step_checking : {order' : Lists.List ℕ} → Runnableᵘ t' order' → length buffer' ≡ 928 → Checking then t' order' file list buffer'
         step_checking o l = record {
           runnable = o;
-          numbers = (omega (arith, (u.numbers d).1, length-take c.count list), g.numbers.1);
+          numbers = (omega (arith, u.ran.numbers.1, length-take c.count list), g.numbers.1);
           place = (s.within, omega (arith, s.few));
-          bytes = (omega arith, (u.bytes d).1);
+          bytes = (omega arith, u.ran.bytes.1);
           room = l;
         }
 

@@ -2,7 +2,7 @@
 use Prim.Native.Nat.{ℕ, ◌≤◌, ◌<◌}
 use native.Mathlib.Omega.{arith}
 use mathlib.Core.Path.{◌≡◌, refl, sym, ap, subst, ◌∙◌}
-use mathlib.Core.Logic.{◌≢◌, ◌↔◌}
+use mathlib.Core.Logic.{◌↔◌}
 use mathlib.Core.Bool.{Bool, true, false, ◌&&◌}
 use mathlib.Core.List as Lists
 use mathlib.Core.List.{[], ◌∷◌, append-nil}
@@ -16,9 +16,12 @@ use Rattle.transition.proofs.Logs.{right_exactly}
 use Rattle.number_lines.specs.Lines.{NumbersRead}
 use Rattle.number_lines.proofs.Printing.{length_numbers}
 use Rattle.number_lines.proofs.Reading.{read_whole, read_back}
-use Rattle.moves.specs.Moves.{refusal_number}
+use Rattle.std.specs.Prelude.{Option, Some, None, Result, Ok, Err}
+use Rattle.moves.specs.Moves.{refusal_number, final_number}
+use Rattle.moves.proofs.MoveLaws.{positive}
+use Rattle.arrays.specs.declared.Parts.{Parts}
+use Rattle.arrays.specs.declared.OrderedTable.{OrderedTable}
 use Rattle.moves.specs.declared.Refusal.{Refusal}
-use Rattle.moves.specs.declared.Refusal.TheVariants.{Accepted}
 use Rattle.schedule.specs.Lines.{header_read}
 use Rattle.schedule.specs.Files.{lines_of}
 use Rattle.schedule.specs.Demand.{step_calls, file_calls}
@@ -28,41 +31,36 @@ use Rattle.schedule.proofs.Cuts.{joined}
 use Rattle.schedule.proofs.Logs.{log_bounds}
 use Rattle.schedule.proofs.Surveys.{surveyed_header, header_told, calls_told, final_told, steps_told}
 use Rattle.schedule.specs.declared.Survey.{Survey}
-use Rattle.schedule.specs.declared.Header.{Header}
-use Rattle.schedule.specs.declared.Header.TheVariants as Headers
-use Rattle.schedule.specs.declared.Header.TheVariants.{Stations}
 use Rattle.arrays.specs.Arrays.{Rows, Planes}
-use Rattle.unbounded.specs.Tables.{Table, table, stateᵘ, Runnableᵘ}
+use Rattle.unbounded.specs.Tables.{Table, numbers_in, stateᵘ, Runnableᵘ}
 use Rattle.logs.specs.Files.{ChecksLog, RightFile}
 use Rattle.logs.specs.Clauses.{ahead_log, Checking, Drained, FeedsReport, Finishes, StartsCheck, Begins, BeginsFile}
-use Rattle.logs.specs.declared.Begun.{Begun}
-use Rattle.logs.specs.declared.Begun.TheVariants.{Refused, Running}
 use Rattle.logs.specs.declared.Progress.{Progress}
 
 -- the stations that a header tells
-abbrev told_by : Header → ℕ
-told_by (Headers.Refused r) = 0
-told_by (Stations n) = n
+abbrev told_by : Result ℕ Refusal → ℕ
+told_by (Err r) = 0
+told_by (Ok n) = n
 
 -- THE START
 
 -- a header that refuses the file
-pub header_refuses : (bs : Lists.List ℕ) {l : Lists.List ℕ} → l ≡ take 18 bs → {r : Refusal} → header_read original l ≡ Headers.Refused r
-    → (r ≡ reading_refusal bs) × (refusal_number r ≢ 0)
+pub header_refuses : (bs : Lists.List ℕ) {l : Lists.List ℕ} → l ≡ take 18 bs → {r : Refusal} → header_read original l ≡ Err r
+    → Some r ≡ reading_refusal bs
 unfolding reading_refusal
-header_refuses bs p e = let h = surveyed_header bs p e (length (file_calls original bs)) Accepted in (sym h.0, h.1)
+header_refuses bs p e = sym (surveyed_header bs p e (length (file_calls original bs)) None)
 
 -- behind an accepted one
-module _ (bs : Lists.List ℕ) {l : Lists.List ℕ} (p : l ≡ take 18 bs) {n : ℕ} (e : header_read original l ≡ Stations n) {rest : Lists.List ℕ}
-    (q : rest ≡ drop (length l) bs) {s : Survey} (f : Surveys 1 rest s) {r : Refusal} (g : r ≡ surveyed s.refusal s.steps Accepted) where
+module _ (bs : Lists.List ℕ) {l : Lists.List ℕ} (p : l ≡ take 18 bs) {n : ℕ} (e : header_read original l ≡ Ok n) {rest : Lists.List ℕ}
+    (q : rest ≡ drop (length l) bs) {s : Survey} (f : Surveys 1 rest s) {r : Option Refusal} (g : r ≡ surveyed s.refusal s.steps None) where
   pub lines_told : r ≡ reading_refusal bs
   unfolding reading_refusal
-  lines_told = g ∙ (λ i. surveyed (final_told bs p e q f i) (steps_told bs p e q f i) Accepted)
+  lines_told = g ∙ (λ i. surveyed (final_told bs p e q f i) (steps_told bs p e q f i) None)
 
   -- from the fresh table, with some numbers of a list
-  module _ (z : refusal_number r ≡ 0) (list : Lists.List ℕ) (count : ℕ) (whole : Bool) where
+  module _ (z : final_number r ≡ 0) (list : Lists.List ℕ) (count : ℕ) (whole : Bool) where
     abbrev begun : Progress
-    begun = record { right = whole; stations = n; count = count; used = 0; lines = 1; at = length l; written = 0; shown = 0 }
+    begun = record { right = whole; count = count; used = 0; lines = 1; at = length l; written = 0; shown = 0 }
 
     abbrev ns : Lists.List ℕ
     ns = take count list
@@ -71,7 +69,7 @@ module _ (bs : Lists.List ℕ) {l : Lists.List ℕ} (p : l ≡ take 18 bs) {n : 
         → StartsCheck bs (λ report. (whole ≡ true) × RightLog bs ns report) begun t order list buffer
     unfolding at_front
     lines_begun {t} {order} buffer c h o k m b = record {
-      accepted = ap refusal_number (sym lines_told) ∙ z;
+      accepted = ap final_number (sym lines_told) ∙ z;
       exactly = λ report.
           let exact = right_exactly original n (file_calls original bs) ns report in
           let same : ahead_log begun t bs list buffer report ≡ (whole && right original n (fresh 0) ns report (file_calls original bs))
@@ -98,7 +96,7 @@ module _ (bs : Lists.List ℕ) {l : Lists.List ℕ} (p : l ≡ take 18 bs) {n : 
 -- more numbers than that
 module _ (bs : Lists.List ℕ) {numbers list list' : Lists.List ℕ} {whole : Bool} {count : ℕ} (f : NumbersRead numbers list whole count list')
     (size : length list ≡ 4096) where
-  right_file : refusal_number (reading_refusal bs) ≡ 0 → (report : Lists.List ℕ)
+  right_file : final_number (reading_refusal bs) ≡ 0 → (report : Lists.List ℕ)
       → ((whole ≡ true) × RightLog bs (take count list') report) ↔ RightFile bs numbers report
   right_file z report = (
     (λ h. record { given = take count list'; lines = read_whole f h.0; log = h.1 }),
@@ -107,22 +105,22 @@ module _ (bs : Lists.List ℕ) {numbers list list' : Lists.List ℕ} {whole : Bo
         (back.0, subst (λ ns. RightLog bs ns report) (sym back.2) R.log)),
   )
 
-  pub begins_file : {given : Lists.List ℕ} → given ≡ take count list' → (v j k : Rows) (s : Planes) (order buffer : Lists.List ℕ) (b : Begun)
-      → Begins bs given whole v j k s order list' buffer b → BeginsFile bs numbers v j k s order list' buffer b
-  begins_file e v j k s order buffer (Refused r) h = h
-  begins_file e v j k s order buffer (Running c) h = record {
-    accepted = h.accepted;
-    exactly = λ report.
-        let a = subst (λ ns. (ahead_log c (table c.stations v j k s) bs list' buffer report ≡ true) ↔ ((whole ≡ true) × RightLog bs ns report)) e
-        (h.exactly report) in
-        let b = right_file h.accepted report in
-        ((λ y. b.0 (a.0 y)), λ R. a.1 (b.1 R));
-    checking = h.checking;
-  }
+  pub begins_file : {given : Lists.List ℕ} → given ≡ take count list' → (b : Result (Progress × OrderedTable (Parts Rows Rows Rows Planes)) Refusal)
+      → Begins bs given whole list' b → BeginsFile bs numbers list' b
+  begins_file e (Err r) h = h
+  begins_file e (Ok c) h = λ buffer long.
+      let s = h buffer long in record {
+        accepted = s.accepted;
+        exactly = λ report.
+            let a = subst (λ ns. (ahead_log c.0 (numbers_in c.1) bs list' buffer report ≡ true) ↔ ((whole ≡ true) × RightLog bs ns report)) e (s.exactly report) in
+            let b = right_file s.accepted report in
+            ((λ y. b.0 (a.0 y)), λ R. a.1 (b.1 R));
+        checking = s.checking;
+      }
 
 -- more bytes than 4,096 lines have are not those of a right log of a file that is served: where a file of numbers is longer, nothing is lost by reading 49,153
 -- of them, which are no lines either
-pub numbers_long : {bs numbers report : Lists.List ℕ} → refusal_number (reading_refusal bs) ≡ 0 → 49152 < length numbers → RightFile bs numbers report → ⊥
+pub numbers_long : {bs numbers report : Lists.List ℕ} → final_number (reading_refusal bs) ≡ 0 → 49152 < length numbers → RightFile bs numbers report → ⊥
 numbers_long {bs} {numbers} z h R =
     omega (arith, (log_bounds R.log z).0, ap length R.lines.lines ∙ length_numbers R.given, h)
 
@@ -174,5 +172,5 @@ log_checked {bs} {list} {report} {c} {t} {buffer = buffer} {c'} {t'} {buffer' = 
     }
 
 -- a refused schedule
-pub log_refused : {bs ns report : Lists.List ℕ} {r : Refusal} → (r ≡ reading_refusal bs) × (refusal_number r ≢ 0) → ChecksLog bs ns report (refusal_number r) false
-log_refused h = record { number = ap refusal_number h.0; refused = λ _. refl; exactly = λ z. absurd (h.1 z) }
+pub log_refused : {bs ns report : Lists.List ℕ} {r : Refusal} → Some r ≡ reading_refusal bs → ChecksLog bs ns report (refusal_number r) false
+log_refused {r = r} h = record { number = ap final_number h; refused = λ _. refl; exactly = λ z. absurd (positive r z) }

@@ -1,35 +1,40 @@
 -- What the contracts of the parts of a check say.
-use Rattle.std.specs.Prelude.{ℕ, ◌+◌, ◌-◌, ◌*◌, ◌≤◌, ◌≡◌, ◌≢◌, ◌↔◌, Bool, true, false, ◌&&◌, [], ◌++◌, length, take, drop}
+use Rattle.std.specs.Prelude.{ℕ, ◌+◌, ◌-◌, ◌*◌, ◌≤◌, ◌≡◌, ◌≢◌, ◌↔◌, Bool, true, false, ◌&&◌, [], ◌++◌, length, take, drop, Option, Some, is_some, IfSome, Result, Ok, Err}
 use mathlib.Core.List as Lists
 use Rattle.simulation.specs.Calls.{Call, judge, bytes_of, original}
 use Rattle.simulation.specs.Machine.{label_step, snaps_of}
 use Rattle.transition.specs.Logs.{fits_next, at_front, right}
-use Rattle.moves.specs.Moves.{refusal_number}
+use Rattle.moves.specs.Moves.{final_number}
+use Rattle.moves.specs.declared.Refusal.{Refusal}
+use Rattle.arrays.specs.declared.Parts.{Parts}
+use Rattle.arrays.specs.declared.OrderedTable.{OrderedTable}
 use Rattle.arrays.specs.Arrays.{Rows, Planes}
 use Rattle.arrays.specs.Planes.{beside}
 use Rattle.schedule.specs.Files.{lines_of}
 use Rattle.schedule.specs.Demand.{step_calls}
 use Rattle.schedule.specs.Numbers.{reading_refusal}
 use Rattle.schedule.specs.Logs.{RightLog}
-use Rattle.unbounded.specs.Tables.{Table, table, restᵘ, stateᵘ, answeredᵘ, Runnableᵘ}
+use Rattle.unbounded.specs.Tables.{Table, numbers_in, restᵘ, stateᵘ, answeredᵘ, Runnableᵘ}
 use Rattle.logs.specs.Files.{RightFile}
 use Rattle.logs.specs.declared.Ran.{Ran}
 use Rattle.logs.specs.declared.Progress.{Progress}
-use Rattle.logs.specs.declared.Begun.{Begun}
-use Rattle.logs.specs.declared.Begun.TheVariants.{Refused, Running}
 
 -- what the unbounded table writes for a call with the first of the numbers left
 abbrev pub writes : Table → Call → Lists.List ℕ → Lists.List ℕ
 writes t c ns = bytes_of (answeredᵘ t c ns).report
 
--- the call c, where the first `used` numbers are used up: whether the next number fits it. If it does, the table left holds the state that the machine comes
--- to, it is told how many numbers are used up, and what the call writes is at the front of the buffer; if not, nothing is used up or written.
-pub record RunsCall (t : Table) (c : Call) (log : Lists.List ℕ) (used : ℕ) (t' : Table) (buffer : Lists.List ℕ) (r : Ran) : Type 0 where
-  pub fits : r.fits ≡ fits_next t.count (beside t.numbers) (label_step (judge original t.count (restᵘ t) c)) (drop used log)
-  pub state : r.fits ≡ true → stateᵘ t' ≡ (answeredᵘ t c (drop used log)).state
-  pub numbers : r.fits ≡ true → (r.used ≡ used + snaps_of original t.count (stateᵘ t) c) × (r.used ≤ length log)
-  pub bytes : r.fits ≡ true → (take r.written buffer ≡ writes t c (drop used log)) × (r.written ≤ 928)
-  pub nothing : r.fits ≡ false → (r.used ≡ used) × (r.written ≡ 0)
+-- the call c, where the first `used` numbers are used up and the next one fits: the table left holds the state that the machine comes to, it is told how many
+-- numbers are used up, and what the call writes is at the front of the buffer
+pub record RanTo (t : Table) (c : Call) (log : Lists.List ℕ) (used : ℕ) (t' : Table) (buffer : Lists.List ℕ) (r : Ran) : Type 0 where
+  pub count : t'.count ≡ t.count
+  pub state : stateᵘ t' ≡ (answeredᵘ t c (drop used log)).state
+  pub numbers : (r.used ≡ used + snaps_of original t.count (stateᵘ t) c) × (r.used ≤ length log)
+  pub bytes : (take r.written buffer ≡ writes t c (drop used log)) × (r.written ≤ 928)
+
+-- and whether it fits
+pub record RunsCall (t : Table) (c : Call) (log : Lists.List ℕ) (used : ℕ) (t' : Table) (buffer : Lists.List ℕ) (r : Option Ran) : Type 0 where
+  pub fits : is_some r ≡ fits_next t.count (beside t.numbers) (label_step (judge original t.count (restᵘ t) c)) (drop used log)
+  pub ran : IfSome r (RanTo t c log used t' buffer)
 
 -- A CHECK that goes on: the numbers left of its list, the bytes that the last step wrote and that the report is still to show, and the steps left of the
 -- schedule
@@ -52,7 +57,6 @@ ahead_log c t file list buffer report =
 abbrev pub placed_at : Progress → Bool → ℕ → ℕ → ℕ → ℕ → ℕ → Progress
 placed_at c right used lines at written shown = record {
   right = right;
-  stations = c.stations;
   count = c.count;
   used = used;
   lines = lines;
@@ -88,20 +92,20 @@ pub record Finishes (c : Progress) (yes : Bool) : Type 0 where
   pub told : (t : Table) (order file list buffer : Lists.List ℕ) → Checking c t order file list buffer → Drained c file
       → yes ≡ ahead_log c t file list buffer []
 
--- THE START of the log of a file, from the table of n stations that the header tells. The refusal is the file's, or, if there is none, what is told of the log
--- is yes exactly if `Right` holds of its report.
+-- THE START of the log of a file, from the table of n stations that the header tells, with any buffer of 928 bytes. The refusal is the file's, or, if there is
+-- none, what is told of the log is yes exactly if `Right` holds of its report.
 pub record StartsCheck (bs : Lists.List ℕ) (Right : Lists.List ℕ → Type 0) (c : Progress) (t : Table) (order list buffer : Lists.List ℕ) : Type 0 where
-  pub accepted : refusal_number (reading_refusal bs) ≡ 0
+  pub accepted : final_number (reading_refusal bs) ≡ 0
   pub exactly : (report : Lists.List ℕ) → (ahead_log c t bs list buffer report ≡ true) ↔ Right report
   pub checking : Checking c t order bs list buffer
 
-abbrev pub StartsBy : Lists.List ℕ → (Lists.List ℕ → Type 0) → Rows → Rows → Rows → Planes → Lists.List ℕ → Lists.List ℕ → Lists.List ℕ → Begun → Type 0
-StartsBy bs Right v j k s order list buffer (Refused r) = (r ≡ reading_refusal bs) × (refusal_number r ≢ 0)
-StartsBy bs Right v j k s order list buffer (Running c) = StartsCheck bs Right c (table c.stations v j k s) order list buffer
+abbrev pub StartsBy : Lists.List ℕ → (Lists.List ℕ → Type 0) → Lists.List ℕ → Result (Progress × OrderedTable (Parts Rows Rows Rows Planes)) Refusal → Type 0
+StartsBy bs Right list (Err r) = Some r ≡ reading_refusal bs
+StartsBy bs Right list (Ok s) = (buffer : Lists.List ℕ) → length buffer ≡ 928 → StartsCheck bs Right s.0 (numbers_in s.1) s.1.order list buffer
 
 -- with these numbers, which are all that there are, or not; and with those of a file
-abbrev pub Begins : Lists.List ℕ → Lists.List ℕ → Bool → Rows → Rows → Rows → Planes → Lists.List ℕ → Lists.List ℕ → Lists.List ℕ → Begun → Type 0
+abbrev pub Begins : Lists.List ℕ → Lists.List ℕ → Bool → Lists.List ℕ → Result (Progress × OrderedTable (Parts Rows Rows Rows Planes)) Refusal → Type 0
 Begins bs ns whole = StartsBy bs (λ report. (whole ≡ true) × RightLog bs ns report)
 
-abbrev pub BeginsFile : Lists.List ℕ → Lists.List ℕ → Rows → Rows → Rows → Planes → Lists.List ℕ → Lists.List ℕ → Lists.List ℕ → Begun → Type 0
+abbrev pub BeginsFile : Lists.List ℕ → Lists.List ℕ → Lists.List ℕ → Result (Progress × OrderedTable (Parts Rows Rows Rows Planes)) Refusal → Type 0
 BeginsFile bs numbers = StartsBy bs (RightFile bs numbers)

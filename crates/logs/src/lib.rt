@@ -2,20 +2,19 @@
 // The report comes part by part.
 #![tactic(auto)]
 
-ghost use Rattle.std.specs.Prelude.{◌≡◌, ◌≤◌, min, length, take, drop};
+ghost use Rattle.std.specs.Prelude.{◌≡◌, ◌≤◌, length, take, drop};
 ghost use Rattle.simulation.specs.Calls.{Buffer};
 ghost use Rattle.transition.specs.Forms.{over};
 ghost use Rattle.transition.specs.Logs.{at_front};
-ghost use Rattle.moves.specs.Moves.{refusal_number, call_of};
+ghost use Rattle.moves.specs.Moves.{told_number, call_of};
 ghost use Rattle.schedule.specs.Files.{printed};
-ghost use Rattle.unbounded.specs.Tables.{table, Runnableᵘ};
+ghost use Rattle.unbounded.specs.Tables.{numbers_in, Runnableᵘ};
 ghost use Rattle.logs.specs.Clauses.{RunsCall, placed_at, Checking, FeedsReport, Finishes, Begins, BeginsFile};
-ghost use Rattle.logs.specs.Files.{ChecksLog, answer_bytes};
+ghost use Rattle.logs.specs.Files.{ChecksLog, told_yes, answer_bytes};
 
-use arrays::{Control, Jobs, Results};
+use arrays::OrderedTable;
 use moves::{Refusal, Request};
-use schedule::{Header, Next};
-use unbounded::Numbers;
+use unbounded::NumberParts;
 
 // The most bytes that a step writes: 32 report lines of 29.
 pub const ROOM: usize = 928;
@@ -30,69 +29,50 @@ fn comes_next(part: &[u8], at: usize, bytes: &[u8]) -> bool
         return false;
     }
     let mut same = true;
-    let mut i = 0;
-    while i < k {
-        same = same & (bytes[i] == part[at + i]);
-        i += 1;
+    for i in 0..k {
+        same &= bytes[i] == part[at + i];
     }
     same
 }
 
-// Whether the number of a step line fits; and then how many numbers are used up, and how many bytes the line writes.
+// What a step line comes to whose number fits: how many numbers are used up then, and how many bytes the line writes.
 #[derive(Clone, Copy)]
 struct Ran {
-    fits: bool,
     used: usize,
     written: usize,
 }
 
-// Serves a step line on the unbounded table with the next number of the log, and writes its report lines to the front of a buffer.
+// Serves a step line on the unbounded table with the next number of the log, if that fits, and writes its report lines to the front of a buffer.
 fn run_line(
-    n: usize,
     request: Request,
     log: &[u64],
     used: usize,
-    order: &mut [usize; 32],
-    numbers: &mut Numbers,
-    jobs: &mut Jobs,
-    control: &mut Control,
-    results: &mut Results,
+    table: &mut OrderedTable<NumberParts>,
     lines: &mut [u8],
-) -> Ran
-    requires fact { Runnableᵘ (table n numbers.old jobs.old control.old results.old) order.old }
+) -> Option<Ran>
+    requires fact { Runnableᵘ (numbers_in table.old) table.old.order }
     requires used_in_bounds { used ≤ length log.now }
     requires lines_len { length lines.old ≡ 928 }
-    ensures runs_call { RunsCall (table n numbers.old jobs.old control.old results.old)
-        (call_of request (Buffer 928)) log.now used
-        (table n numbers.new jobs.new control.new results.new) lines.new result }
-    ensures fact_2 { Runnableᵘ (table n numbers.new jobs.new control.new results.new) order.new }
+    ensures runs_call { RunsCall (numbers_in table.old) (call_of request (Buffer 928)) log.now used (numbers_in table.new) lines.new result }
+    ensures fact_2 { Runnableᵘ (numbers_in table.new) table.new.order }
 {
-    let t = unbounded::take_turn(
-        n, request, log, used, order, numbers, jobs, control, results,
-    );
-    if !t.fits {
-        return Ran {
-            fits: false,
-            used,
-            written: 0,
-        };
-    }
-    let handed = t.handed;
-    let place = handed.place;
-    let written = engine::write_result(&results[place], handed.entries, request.line, lines);
-    Ran {
-        fits: true,
-        used: t.used,
-        written,
+    let turn = unbounded::take_turn(request, log, used, table)?;
+    let used = turn.used;
+    match turn.handed {
+        Err(_) => Some(Ran { used, written: 0 }),
+        Ok(handed) => {
+            let rows = &table.parts.results[handed.place];
+            let written = engine::write_result(rows, handed.entries, request.line, lines);
+            Some(Ran { used, written })
+        }
     }
 }
 
-// How far the check of a log is, beside the table that is run: whether all is right so far; how many stations and numbers there are, and how many numbers are
-// used up; the place in the schedule, behind so many lines; and how many bytes the last step wrote to a buffer, and how many of these the report has shown.
+// How far the check of a log is, beside the table that is run: whether all is right so far; how many numbers there are, and how many of them are used up; the
+// place in the schedule, behind so many lines; and how many bytes the last step wrote to a buffer, and how many of these the report has shown.
 #[derive(Clone, Copy)]
 pub struct Progress {
     pub right: bool,
-    pub stations: usize,
     pub count: usize,
     pub used: usize,
     pub lines: u32,
@@ -115,20 +95,13 @@ fn place(
 {
     Progress {
         right,
-        stations: check.stations,
-        count: check.count,
         used,
         lines,
         at,
         written,
         shown,
+        ..check
     }
-}
-
-fn least(a: usize, b: usize) -> usize
-    ensures { result ≡ min a b }
-{
-    if a < b { a } else { b }
 }
 
 // Holds the next part of the report against what the steps write: those of the schedule are run as far as the part shows what they write, and on to the next
@@ -138,27 +111,17 @@ pub fn feed(
     file: &[u8],
     list: &[u64],
     part: &[u8],
-    order: &mut [usize; 32],
-    numbers: &mut Numbers,
-    jobs: &mut Jobs,
-    control: &mut Control,
-    results: &mut Results,
+    table: &mut OrderedTable<NumberParts>,
     lines: &mut [u8],
 ) -> Progress
-    requires { Checking check (table check.stations numbers.old jobs.old control.old results.old) order.old
-        file.now list.now lines.old }
-    ensures feeds_report { FeedsReport check (table check.stations numbers.old jobs.old control.old results.old)
-        file.now list.now lines.old part.now
-        result (table result.stations numbers.new jobs.new control.new results.new) lines.new }
-    ensures checking { Checking result (table result.stations numbers.new jobs.new control.new results.new) order.new
-        file.now list.now lines.new }
+    requires { Checking check (numbers_in table.old) table.old.order file.now list.now lines.old }
+    ensures feeds_report { FeedsReport check (numbers_in table.old) file.now list.now lines.old part.now result (numbers_in table.new) lines.new }
+    ensures checking { Checking result (numbers_in table.new) table.new.order file.now list.now lines.new }
 {
     if !check.right {
         return check;
     }
-    let n = check.stations;
-    let count = check.count;
-    let log = &list[..count];
+    let log = &list[..check.count];
     let mut used = check.used;
     let mut counted = check.lines;
     let mut at = check.at;
@@ -167,7 +130,7 @@ pub fn feed(
     let mut read = 0;
     loop {
         if shown < written {
-            let k = least(written - shown, part.len() - read);
+            let k = (written - shown).min(part.len() - read);
             if k == 0 {
                 return place(check, true, used, counted, at, written, shown);
             }
@@ -178,27 +141,24 @@ pub fn feed(
             read += k;
         } else {
             match schedule::next_call(counted, file, at) {
-                Next::End => {
+                Ok(None) => {
                     let all = read == part.len();
                     return place(check, all, used, counted, at, written, shown);
                 }
-                Next::Refused(_) => {
+                Err(_) => {
                     let all = read == part.len();
                     return place(check, all, used, counted, at, written, shown);
                 }
-                Next::Call(request) => {
-                    let r = run_line(
-                        n, request, log, used, order, numbers, jobs, control, results, lines,
-                    );
-                    if !r.fits {
-                        return place(check, false, used, counted, at, written, shown);
+                Ok(Some(request)) => match run_line(request, log, used, table, lines) {
+                    None => return place(check, false, used, counted, at, written, shown),
+                    Some(ran) => {
+                        used = ran.used;
+                        counted += 1;
+                        at += 18;
+                        written = ran.written;
+                        shown = 0;
                     }
-                    used = r.used;
-                    counted += 1;
-                    at += 18;
-                    written = r.written;
-                    shown = 0;
-                }
+                },
             }
         }
     }
@@ -211,53 +171,33 @@ pub fn finish(check: Progress) -> bool
     check.right & (check.used == check.count) & (check.shown == check.written)
 }
 
-// The start of a check: the schedule is refused, before any step is run, or the report can come.
-#[derive(Clone, Copy)]
-pub enum Begun {
-    Refused(Refusal),
-    Running(Progress),
-}
-
-// Starts the check of the log of a schedule file with the first `count` numbers of a list; if they are not whole, the log is not right.
+// Starts the check of the log of a schedule file with the first `count` numbers of a list; if they are not whole, the log is not right. The schedule is refused
+// before any step is run.
 fn begin(
     file: &[u8],
     list: &[u64],
     count: usize,
     whole: bool,
-    order: &mut [usize; 32],
-    numbers: &mut Numbers,
-    jobs: &mut Jobs,
-    control: &mut Control,
-    results: &mut Results,
-    lines: &mut [u8],
-) -> Begun
-    requires count_in_bounds { count ≤ length list.now }
-    requires lines_len { length lines.old ≡ 928 }
-    ensures { Begins file.now (take count list.now) whole
-        numbers.new jobs.new control.new results.new order.new list.now lines.new result }
+) -> Result<(Progress, OrderedTable<NumberParts>), Refusal>
+    requires { count ≤ length list.now }
+    ensures { Begins file.now (take count list.now) whole list.now result }
 {
     let header = schedule::line_at(file, 0);
-    match schedule::read_header(header) {
-        Header::Refused(refusal) => Begun::Refused(refusal),
-        Header::Stations(n) => {
-            let rest = schedule::from(file, header.len());
-            let refusal = schedule::refusal_of(schedule::survey_lines(1, rest));
-            if refusal.refuses() {
-                return Begun::Refused(refusal);
-            }
-            unbounded::refresh(n, order, numbers, jobs, control, results);
-            Begun::Running(Progress {
-                right: whole,
-                stations: n,
-                count,
-                used: 0,
-                lines: 1,
-                at: header.len(),
-                written: 0,
-                shown: 0,
-            })
-        }
+    let n = schedule::read_header(header)?;
+    let rest = schedule::from(file, header.len());
+    if let Some(refusal) = schedule::refusal_of(schedule::survey_lines(1, rest)) {
+        return Err(refusal);
     }
+    let check = Progress {
+        right: whole,
+        count,
+        used: 0,
+        lines: 1,
+        at: header.len(),
+        written: 0,
+        shown: 0,
+    };
+    Ok((check, unbounded::fresh(n)))
 }
 
 // Starts the check of a log in files: a schedule, and numbers that are printed each on a line of its own.
@@ -265,96 +205,39 @@ pub fn start(
     file: &[u8],
     bytes: &[u8],
     list: &mut [u64; 4096],
-    order: &mut [usize; 32],
-    numbers: &mut Numbers,
-    jobs: &mut Jobs,
-    control: &mut Control,
-    results: &mut Results,
-    lines: &mut [u8],
-) -> Begun
-    requires { length lines.old ≡ 928 }
-    ensures { BeginsFile file.now bytes.now
-        numbers.new jobs.new control.new results.new order.new list.new lines.new result }
+) -> Result<(Progress, OrderedTable<NumberParts>), Refusal>
+    ensures { BeginsFile file.now bytes.now list.new result }
 {
-    let read = number_lines::read_numbers(bytes, list);
-    begin(
-        file, list, read.count, read.whole, order, numbers, jobs, control, results, lines,
-    )
+    let count = number_lines::read_numbers(bytes, list);
+    begin(file, list, count, count * 12 == bytes.len())
 }
 
-// What is told of a log: the refusal of its schedule, and, if there is none, whether it is right.
-#[derive(Clone, Copy)]
-pub struct Verdict {
-    pub refusal: Refusal,
-    pub right: bool,
-}
-
-// Checks the log of a schedule file: its numbers, one for each accepted snap for a label, and its report. What is refused is refused before any step is run.
-pub fn check(file: &[u8], log: &[u64], report: &[u8]) -> Verdict
-    ensures { ChecksLog file.now log.now report.now (refusal_number result.refusal) result.right }
+// Checks the log of a schedule file: its numbers, one for each accepted snap for a label, and its report. What is refused is refused before any step is run;
+// else the answer is whether the log is right.
+pub fn check(file: &[u8], log: &[u64], report: &[u8]) -> Result<bool, Refusal>
+    ensures { ChecksLog file.now log.now report.now (told_number result) (told_yes result) }
 {
-    let mut order = [0usize; 32];
-    let mut numbers = [[0u32; 32]; 2];
-    let mut jobs = [[0u32; 32]; 2];
-    let mut control = [[0u8; 32]; 2];
-    let mut results = [[[0u32; 32]; 2]; 32];
+    let (check, mut table) = begin(file, log, log.len(), true)?;
     let mut lines = [0u8; ROOM];
-    match begin(
-        file,
-        log,
-        log.len(),
-        true,
-        &mut order,
-        &mut numbers,
-        &mut jobs,
-        &mut control,
-        &mut results,
-        &mut lines,
-    ) {
-        Begun::Refused(refusal) => Verdict {
-            refusal,
-            right: false,
-        },
-        Begun::Running(c) => {
-            let last = feed(
-                c,
-                file,
-                log,
-                report,
-                &mut order,
-                &mut numbers,
-                &mut jobs,
-                &mut control,
-                &mut results,
-                &mut lines,
-            );
-            Verdict {
-                refusal: Refusal::Accepted,
-                right: finish(last),
-            }
-        }
-    }
+    let last = feed(check, file, log, report, &mut table, &mut lines);
+    Ok(finish(last))
 }
 
 // Writes what is printed of a log to the front of `out`: yes or no on a line, or the refusal of its schedule; hands back its bytes.
-pub fn print_verdict(verdict: Verdict, out: &mut [u8]) -> usize
+pub fn print_verdict(verdict: Result<bool, Refusal>, out: &mut [u8]) -> usize
     requires { 29 ≤ length out.old }
-    ensures value { result ≡ length (printed 0 (refusal_number verdict.refusal) (answer_bytes verdict.right)) }
-    ensures out_after { out.new ≡ over (printed 0 (refusal_number verdict.refusal) (answer_bytes verdict.right)) out.old }
+    ensures value { result ≡ length (printed 0 (told_number verdict) (answer_bytes (told_yes verdict))) }
+    ensures out_after { out.new ≡ over (printed 0 (told_number verdict) (answer_bytes (told_yes verdict))) out.old }
 {
-    let refusal = verdict.refusal;
-    if refusal.refuses() {
-        return file::print_refusal(0, refusal, out);
+    match verdict {
+        Err(refusal) => file::print_refusal(0, Some(refusal), out),
+        Ok(true) => {
+            out[0..4].copy_from_slice(b"yes\n");
+            4
+        }
+        Ok(false) => {
+            out[0..3].copy_from_slice(b"no\n");
+            3
+        }
     }
-    if verdict.right {
-        out[0] = b'y';
-        out[1] = b'e';
-        out[2] = b's';
-        out[3] = 10;
-        return 4;
-    }
-    out[0] = b'n';
-    out[1] = b'o';
-    out[2] = 10;
-    3
 }

@@ -1,12 +1,11 @@
 -- What a judged move tells, and where a station's place is.
-use Prim.Native.Nat.{ℕ, ◌-◌, ◌≤◌, ◌<◌}
+use Prim.Native.Nat.{ℕ, ◌≤◌, ◌<◌}
 use native.Mathlib.Omega.{arith}
-use mathlib.Core.Path.{◌≡◌, refl, sym, ap, ◌∙◌}
+use mathlib.Core.Path.{◌≡◌, sym, ap, ◌∙◌}
 use mathlib.Core.Logic.{◌≢◌}
-use mathlib.Core.Bool.{Bool, true, false, cond}
-use Rattle.std.specs.Prelude.{Option, Some, None, is_some}
-use Rattle.basics.specs.Tests.{within}
-use Rattle.basics.proofs.Facts.{tf, within_true}
+use mathlib.Core.Bool.{true, false}
+use Rattle.std.proofs.lemmas.Bool.Decides.{nat_tests}
+use Rattle.std.specs.Prelude.{Option, None, is_some}
 use Rattle.simulation.specs.Calls as Calls
 use Rattle.simulation.specs.Calls.{original, Call, judge_in}
 use Rattle.simulation.specs.Machine.{stay, label_step}
@@ -30,11 +29,10 @@ by_move P a b c d e f g h ReturnToService = h
 
 -- what a move does to the labels does not depend on its job; and every move but a snap for a label and an update leaves them
 pub step_any : (k job : ℕ) (m : Move) → label_step (move_of k 0 m) ≡ label_step (move_of k job m)
-step_any k job = by_move (λ m. label_step (move_of k 0 m) ≡ label_step (move_of k job m)) refl refl refl refl refl refl refl refl
+step_any k job m = grind arith
 
 pub step_stays : (k job : ℕ) (m : Move) → m ≢ SnapLabel → m ≢ Update → label_step (move_of k job m) ≡ stay
-step_stays k job = by_move (λ m. m ≢ SnapLabel → m ≢ Update → label_step (move_of k job m) ≡ stay)
-    (λ p q. refl) (λ p q. absurd (p refl)) (λ p q. refl) (λ p q. absurd (q refl)) (λ p q. refl) (λ p q. refl) (λ p q. refl) (λ p q. refl)
+step_stays k job m p q = grind arith
 
 -- a label operation that is judged to begin has a job of 32 bits
 pub begun_job : (n : ℕ) (own : Calls.Standing) (c : Call) (k : ℕ) (m : Move) → move_of k c.job m ≡ judge_in original n own c
@@ -43,32 +41,24 @@ begun_job n own c k m h e = begin_fits (verdict original n own c) (sym h ∙ ap 
 
 -- the place of a station that there is, and of one that there is not
 pub place_below : (n station : ℕ) → 2 ≤ n → place_of n station < n
-place_below n station h = go (within 1 n station) refl
-  where
-    go : (b : Bool) → within 1 n station ≡ b → cond b (station - 1) 0 < n
-    go true e = let w = within_true 1 n station e in omega arith
-    go false e = omega arith
+place_below n station h = grind (arith, nat_tests)
 
 -- no refusal has the number 0, so 0 tells of none
 pub positive : (r : Refusal) → refusal_number r ≢ 0
 positive r e = grind arith
 
 pub accepted : (r : Option Refusal) → final_number r ≡ 0 → r ≡ None
-accepted None e = refl
-accepted (Some r) e = absurd (positive r e)
+accepted r e = grind (arith, positive)
 
 -- WHETHER THERE IS A REFUSAL, as the code tells
 pub refuses_yes : (r : Option Refusal) → is_some r ≡ true → final_number r ≢ 0
-refuses_yes None p e = absurd (tf p refl)
-refuses_yes (Some r) p e = positive r e
+refuses_yes r p = grind (arith, positive)
 
 pub refuses_no : (r : Option Refusal) → is_some r ≡ false → final_number r ≡ 0
-refuses_no None p = refl
-refuses_no (Some r) p = absurd (tf refl p)
+refuses_no r p = grind arith
 
 pub some_final : (r : Option Refusal) → final_number r ≢ 0 → is_some r ≡ true
-some_final None d = absurd (d refl)
-some_final (Some r) d = refl
+some_final r d = grind arith
 
 pub none_final : (r : Option Refusal) → final_number r ≡ 0 → is_some r ≡ false
 none_final r e = ap is_some (accepted r e)

@@ -22,8 +22,7 @@ ghost use Rattle.file.specs.Clauses.{Runnable};
 ghost use Rattle.numbering.specs.Clauses.{slot_for, slot_in, renumber_in, Renumbered, Counted, NumbersCall};
 ghost use Rattle.numbering.specs.Files.{refused_by, NumbersFile};
 
-use arrays::{CURRENT, PENDING};
-use file::OrderedTable;
+use arrays::{CURRENT, LabelParts, OrderedTable, PENDING};
 use moves::{Move, Refusal, Request};
 use schedule::Survey;
 
@@ -192,7 +191,7 @@ fn renumber(
 // Serves a step line, and keeps the numbers beside the table; hands back how many are given then.
 fn number_line(
     request: Request,
-    table: &mut OrderedTable,
+    table: &mut OrderedTable<LabelParts>,
     numbers: &mut [[u32; 32]; 2],
     given: &mut [u32],
     count: usize,

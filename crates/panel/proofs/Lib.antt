@@ -1,2 +1,1 @@
 pub mod PanelLaws
-pub mod Types

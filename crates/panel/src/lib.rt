@@ -1,10 +1,10 @@
 // The step calls whose report goes to a panel: a slice of records that is lent, one for each place of a scan result.
 #![tactic(auto)]
 
-ghost use Rattle.std.specs.Prelude.{◌≡◌, ◌≤◌, ◌<◌, min, length, take, drop};
-ghost use Rattle.panel.specs.Panels.{record_at, filled, Shows};
+ghost use Rattle.std.specs.Prelude.{◌≡◌, ◌≤◌, length, take, drop};
+ghost use Rattle.panel.specs.Panels.{filled, Shows};
 
-use engine::Reply;
+use moves::Refusal;
 use step::Outcome;
 use table::{Entry, Table};
 
@@ -16,28 +16,19 @@ pub struct Record {
     pub job: u32,
 }
 
-// The record of entry i.
-fn record_at(entries: [Entry; Table::MAX_STATIONS], i: usize) -> Record
-    requires { i < 32 }
-    ensures { result ≡ record_at entries i }
+// Fills a record for each entry; the others stay.
+#[tactic(auto, using(crate::proofs::PanelLaws::filled_none, crate::proofs::PanelLaws::filled_more))]
+fn fill(panel: &mut [Record], entries: &[Entry])
+    requires few { length entries.now ≤ 32 }
+    requires room { length entries.now ≤ length panel.old }
+    ensures { panel.new ≡ filled entries.now (length entries.now) panel.old }
 {
-    let e = entries[i];
-    Record {
-        place: (i + 1) as u32,
-        station: e.station,
-        job: e.job,
-    }
-}
-
-// Fills the first n records; the others stay.
-fn fill(panel: &mut [Record], entries: [Entry; Table::MAX_STATIONS], n: usize)
-    requires { (n ≤ 32) × (n ≤ length panel.old) }
-    ensures { panel.new ≡ filled entries n panel.old }
-{
-    let mut i: usize = 0;
-    while i < n {
-        panel[i] = record_at(entries, i);
-        i = i + 1;
+    for (i, entry) in entries.iter().enumerate() {
+        panel[i] = Record {
+            place: i as u32 + 1,
+            station: entry.station,
+            job: entry.job,
+        };
     }
 }
 
@@ -45,14 +36,29 @@ fn fill(panel: &mut [Record], entries: [Entry; Table::MAX_STATIONS], n: usize)
 pub fn step(t: Table, code: u64, station: u64, job: u64, panel: &mut [Record]) -> Outcome
     ensures { Shows t code station job panel.old result.table result.reply panel.new }
 {
-    let next = step::with_panel(t, code, station, job, panel.len());
-    let entries = next.entries;
-    fill(panel, entries, next.outcome.reply.written);
-    next.outcome
+    match step::with_panel(t, code, station, job, panel.len()) {
+        Ok(next) => {
+            fill(panel, &next.entries[..next.count]);
+            Outcome {
+                table: next.table,
+                reply: Ok(next.count),
+            }
+        }
+        Err(refusal) => Outcome {
+            table: t,
+            reply: Err(refusal),
+        },
+    }
 }
 
 // A step call on a table that its owner lends.
-pub fn step_lent(t: &mut Table, code: u64, station: u64, job: u64, panel: &mut [Record]) -> Reply
+pub fn step_lent(
+    t: &mut Table,
+    code: u64,
+    station: u64,
+    job: u64,
+    panel: &mut [Record],
+) -> Result<usize, Refusal>
     ensures { Shows t.old code station job panel.old t.new result panel.new }
 {
     let next = step(*t, code, station, job, panel);
@@ -64,19 +70,8 @@ pub fn step_lent(t: &mut Table, code: u64, station: u64, job: u64, panel: &mut [
 #[derive(Clone, Copy)]
 pub struct Shown {
     pub table: Table,
-    pub reply: Reply,
+    pub reply: Result<usize, Refusal>,
     pub panel: [Record; Table::MAX_STATIONS],
-}
-
-// More than 32 counts as 32.
-fn at_most_32(n: usize) -> usize
-    ensures { result ≡ min n 32 }
-{
-    if n < Table::MAX_STATIONS {
-        n
-    } else {
-        Table::MAX_STATIONS
-    }
 }
 
 // The owner of a table and of 32 records lends the table and the first `lent` records, and hands all back: whoever calls this has no reference to either. The
@@ -93,7 +88,7 @@ pub fn step_owned(
 {
     let mut own = t;
     let mut records = panel;
-    let k = at_most_32(lent);
+    let k = lent.min(Table::MAX_STATIONS);
     let reply = step_lent(&mut own, code, station, job, &mut records[..k]);
     Shown {
         table: own,

@@ -1,6 +1,5 @@
 -- CARD 1: a schedule whose every step 2 is directly followed by the step 3 of its station has the scans that it had before. By lines, on tables that are states:
 -- between two lines both boards are in one state, but for a line of code 2 and the line after it.
-use Rattle.std.specs.Prelude.{Some, None, Result, Ok, Err}
 use Prim.Native.Nat.{ℕ, ◌+◌}
 use native.Mathlib.Omega.{arith}
 use mathlib.Core.Path.{◌≡◌, refl, sym, ap, ◌∙◌}
@@ -10,6 +9,8 @@ use mathlib.Core.List as Lists
 use mathlib.Core.List.{[], ◌∷◌, ◌++◌, append-nil}
 use lib.ListN.{take}
 use lib.Dec.{eqb, ltb}
+use Rattle.std.proofs.lemmas.Bool.Decides.{nat_tests}
+use Rattle.std.specs.Prelude.{Some, None, Result, Ok, Err}
 use Rattle.columns.proofs.ColumnLaws.{length_report_line}
 use Rattle.label.specs.Labels as Labels
 use Rattle.simulation.specs.Calls.{Board, original, apart, Call, report_lines, bytes_of}
@@ -49,11 +50,7 @@ shown c a = printed c.line a.refusal (bytes_of a.report)
 
 -- a line that is a step when it follows others is one by itself
 read_step : (lines : ℕ) (l : Lists.List ℕ) (q : Line) → next_line lines l ≡ Ok q → line_read l ≡ Ok q
-read_step lines l q = go (ltb 1000000 lines)
-  where
-    go : (b : Bool) → cond b (Err TooManyLines) (line_read l) ≡ Ok q → line_read l ≡ Ok q
-    go true e = cc
-    go false e = e
+read_step lines l q e = grind (arith, nat_tests)
 
 module _ (n : ℕ) where
   abbrev answered : Bool → State Labels.Label → Call → Machine.Answer Labels.Label

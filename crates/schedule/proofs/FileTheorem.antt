@@ -1,5 +1,4 @@
 -- Schedule files: on any tables a file prints what its calls print; so demand 3 holds of files on tables of every lawful form.
-use Rattle.std.specs.Prelude.{Some, None, Result, Ok, Err}
 use Prim.Native.Nat.{ℕ, ◌+◌, ◌*◌, ◌≤◌}
 use native.Mathlib.Omega.{arith}
 use mathlib.Core.Path.{◌≡◌, refl, sym, ap, ap₂, ◌∙◌}
@@ -9,6 +8,7 @@ use mathlib.Core.List as Lists
 use mathlib.Core.List.{[], ◌∷◌, ◌++◌, map, append-nil, append_assoc}
 use lib.ListN.{length, take}
 use borrow.Author.Tests.{le-leb}
+use Rattle.std.specs.Prelude.{Some, None, Result, Ok, Err}
 use Rattle.basics.specs.Tests.{All}
 use Rattle.basics.proofs.Facts.{tf}
 use Rattle.simulation.specs.Calls.{Board, Call, Buffer, holds, Report, bytes_of}

@@ -1,17 +1,16 @@
 -- The numbers for a file and what its steps write are a right log; and its report without refusals is what they write (02, Card 7).
-use Rattle.std.specs.Prelude.{None, Result, Ok, Err}
 use Prim.Native.Nat.{ℕ, ◌+◌, ◌*◌, ◌≤◌, ◌<◌}
 use native.Mathlib.Omega.{arith}
 use mathlib.Core.Path.{◌≡◌, refl, sym, ap, ap₂, subst, ◌∙◌}
-use mathlib.Core.Logic.{◌≢◌, ⊎_elim}
-use mathlib.Core.Bool.{Bool, true, false, ◌||◌, cond}
+use mathlib.Core.Logic.{◌≢◌}
+use mathlib.Core.Bool.{Bool, true, false, cond}
 use mathlib.Core.List as Lists
 use mathlib.Core.List.{[], ◌∷◌, ◌++◌, map, append-nil}
 use lib.ListN.{length, take}
 use lib.Dec.{eqb}
-use borrow.Author.Tests.{eq-eqb, eqb-true, eqb-false}
-use Rattle.basics.specs.Tests.{within}
-use Rattle.basics.proofs.Facts.{or_cases, within_true}
+use borrow.Author.Tests.{eq-eqb, eqb-false}
+use Rattle.std.proofs.lemmas.Bool.Decides.{nat_tests}
+use Rattle.std.specs.Prelude.{None, Result, Ok, Err}
 use Rattle.simulation.specs.Calls.{Board, original, Call, Entry, Room, Buffer, Panel, report_lines, bytes_of, written}
 use Rattle.simulation.proofs.Simulation.{proper_some}
 use Rattle.simulation.proofs.Judged.{direct}
@@ -83,13 +82,7 @@ nothing_written line (Panel r) = refl
 
 -- the numbers of refusals fit the column
 known_small : (x : ℕ) → direct x ≡ true → x < 1000
-known_small x h = ⊎_elim
-    (λ h. ⊎_elim
-    (λ g. ⊎_elim
-    (λ f. ⊎_elim (λ e. omega (arith, eqb-true x 0 e)) (λ e. omega (arith, (within_true 2 7 x e).1)) (or_cases (eqb x 0) _ f))
-    (λ e. omega (arith, (within_true 10 11 x e).1)) (or_cases (eqb x 0 || within 2 7 x) _ g))
-    (λ e. omega (arith, (within_true 14 15 x e).1)) (or_cases (eqb x 0 || within 2 7 x || within 10 11 x) _ h))
-    (λ e. omega (arith, eqb-true x 18 e)) (or_cases (eqb x 0 || within 2 7 x || within 10 11 x || within 14 15 x) _ h)
+known_small x h = grind (arith, nat_tests)
 
 module _ (F : Form) (L : Lawful F) (n : ℕ) (z : Sized F.board n) where
   -- of what a call prints, the lines of scans are what it writes

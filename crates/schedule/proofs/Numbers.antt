@@ -1,11 +1,11 @@
 -- The numbers for a schedule file, on tables of every lawful form (02, Card 6).
-use Rattle.std.specs.Prelude.{Some, None, Result, Ok, Err}
 use Prim.Native.Nat.{ℕ, ◌+◌}
 use mathlib.Core.Path.{◌≡◌, refl, sym, ap, ◌∙◌}
 use mathlib.Core.List as Lists
 use mathlib.Core.List.{[], ◌∷◌, ◌++◌, map, append-nil}
 use lib.ListN.{take}
 use borrow.Author.Tests.{eq-eqb}
+use Rattle.std.specs.Prelude.{Some, None, Result, Ok, Err}
 use Rattle.simulation.specs.Machine as Machine
 use Rattle.simulation.specs.Calls.{original, Call}
 use Rattle.simulation.proofs.Simulation.{proper_some}

@@ -1,17 +1,18 @@
 -- What a line adds to a run, what a whole file comes to, and what printed bytes leave in a buffer: for the code that serves a file's lines one by one.
-use Rattle.std.specs.Prelude.{Some, None, Ok, Err}
 use Prim.Native.Nat.{ℕ, ◌+◌, ◌*◌, ◌≤◌}
 use native.Mathlib.Omega.{arith}
 use mathlib.Core.Path.{◌≡◌, refl, sym, ap, ◌∙◌}
 use mathlib.Core.Logic.{◌≢◌}
-use mathlib.Core.Bool.{Bool, true, false, cond}
+use mathlib.Core.Bool.{Bool, true, false}
 use mathlib.Core.List as Lists
 use mathlib.Core.List.{[], ◌∷◌, ◌++◌, append_assoc, append-nil}
 use lib.ListN.{length, take, drop, length-append, length-take, length-drop, take-append-drop, drop_of_length-le}
 use lib.Seq.{take_at, drop_at, drop-append-le, drop-drop, length-take-le, take_all}
-use lib.Dec.{eqb, leb}
+use lib.Dec.{leb}
 use borrow.Author.Tests.{eq-eqb, ne_eqb, leb-true, leb-false}
 use borrow.Rule.Slice.PartMut.{mid_of, put_mid}
+use Rattle.std.proofs.lemmas.Bool.Decides.{nat_tests}
+use Rattle.std.specs.Prelude.{Some, None, Ok, Err}
 use Rattle.columns.specs.Columns.{report_line}
 use Rattle.columns.proofs.ColumnLaws.{length_report_line}
 use Rattle.simulation.specs.Calls.{Call, bytes_of}
@@ -137,11 +138,7 @@ printed_refused number refusal n x buffer k d e =
 
 -- a refusal line has 29 bytes
 pub printed_refusal : (number refusal : ℕ) → length (printed number refusal []) ≤ 29
-printed_refusal number refusal = go (eqb refusal 0)
-  where
-    go : (b : Bool) → length (cond b [] (report_line number refusal 0 0 0)) ≤ 29
-    go true = omega arith
-    go false = omega (arith, length_report_line number refusal 0 0 0)
+printed_refusal number refusal = grind (arith, nat_tests, length_report_line number refusal 0 0 0)
 
 -- what is written lies within the buffer
 pub printed_inside : (n : ℕ) (bytes buffer buffer' : Lists.List ℕ) → Printed n bytes buffer buffer' → n ≤ length buffer'

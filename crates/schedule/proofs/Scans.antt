@@ -1,5 +1,4 @@
 -- The lines of a report that are of scans, found part by part.
-use Rattle.std.specs.Prelude.{Some}
 use Prim.Native.Nat.{ℕ, zero, suc, ◌+◌, ◌*◌, ◌/◌, ◌≤◌, ◌<◌}
 use native.Mathlib.Nat.{zero-add}
 use native.Mathlib.Omega.{arith}
@@ -10,6 +9,7 @@ use mathlib.Core.List.{[], ◌∷◌, ◌++◌, append_assoc, append-nil}
 use lib.ListN.{length, take, drop, length-append, length-drop}
 use lib.Seq.{take_all, take-append-le, drop-append-le}
 use lib.Dec.{eqb}
+use Rattle.std.specs.Prelude.{Some}
 use Rattle.columns.specs.Columns.{column, line_head, line_tail, report_line}
 use Rattle.columns.specs.Reading.{column_read}
 use Rattle.columns.proofs.ColumnLaws.{length_report_line, column_iff}

@@ -1,15 +1,13 @@
 -- What a session serves, case by case; the header and the session that it opens; sessions that go on.
-use Rattle.std.specs.Prelude.{Option, Some, None, Result, Ok, Err, is_some, IfOk}
 use Prim.Native.Nat.{ℕ, ◌≤◌}
 use native.Mathlib.Omega.{arith}
 use mathlib.Core.Path.{◌≡◌, refl, ap, subst}
 use mathlib.Core.Logic.{◌≢◌}
-use mathlib.Core.Bool.{Bool, true, false, not, ◌&&◌, cond, true≢false}
+use mathlib.Core.Bool.{true, false, true≢false}
 use mathlib.Core.List as Lists
-use lib.ListN.{length, get_or, take, drop}
-use lib.Dec.{eqb, ltb}
-use borrow.Author.Tests.{eqb-true, ltb-false}
-use Rattle.columns.specs.Reading.{column_read}
+use lib.ListN.{length}
+use Rattle.std.specs.Prelude.{None, Result, Ok, Err, is_some, IfOk}
+use Rattle.std.proofs.lemmas.Bool.Decides.{nat_tests}
 use Rattle.simulation.specs.Calls.{Board, original, sized, Call, Buffer, Bytes, bytes_of}
 use Rattle.transition.specs.Forms.{Form}
 use Rattle.transition.proofs.Written.{Sized, sized_of}
@@ -17,71 +15,28 @@ use Rattle.transition.proofs.Theorem.{Lawful, step_bytes, ReachedTable, table_fr
 use Rattle.moves.specs.Moves.{refusal_number, final_number}
 use Rattle.moves.proofs.MoveLaws.{some_final, none_final}
 use Rattle.moves.specs.declared.Refusal.{Refusal}
-use Rattle.moves.specs.declared.Refusal.TheVariants.{StationCount, IncompleteLine, UnknownStep, JobOutOfRange, TooManyLines}
 use Rattle.schedule.specs.Tables.{Tables, tables}
-use Rattle.schedule.specs.Lines.{step_read, line_read, next_line, header_said, header_read}
+use Rattle.schedule.specs.Lines.{line_read, next_line, header_said, header_read}
 use Rattle.schedule.specs.Sessions.{Session, session, is_final, Served, unmoved, ill_formed, opened_by, header_of, step_line, serve_of, Serves}
 use Rattle.schedule.specs.declared.Line.{Line}
 
--- A LINE THAT IS REFUSED WHEN IT IS READ: by 8, 9 or 12, so what holds of these three holds of its number
-
-module _ (P : ℕ → Type 0) where
-  abbrev pub Says : Result Line Refusal → Type 0
-  Says (Err r) = P (refusal_number r)
-  Says (Ok q) = Unit {0}
-
-  module _ (eight : P 8) (nine : P 9) where
-    read_says : (x y z : Option ℕ) → Says (step_read x y z)
-    read_says None y z = nine
-    read_says (Some a) None z = nine
-    read_says (Some a) (Some b) None = nine
-    read_says (Some a) (Some b) (Some d) = tt
-
-    line_says : (l : Lists.List ℕ) → Says (line_read l)
-    unfolding line_read
-    line_says l = go (eqb (length l) 18 && eqb (get_or l 17 0) 10)
-      where
-        columns : Result Line Refusal
-        columns = step_read (column_read (take 3 l)) (column_read (take 3 (drop 3 l))) (column_read (take 11 (drop 6 l)))
-
-        go : (b : Bool) → Says (cond b columns (Err IncompleteLine))
-        go true = read_says (column_read (take 3 l)) (column_read (take 3 (drop 3 l))) (column_read (take 11 (drop 6 l)))
-        go false = eight
-
-    pub next_says : P 12 → (lines : ℕ) (l : Lists.List ℕ) → Says (next_line lines l)
-    next_says twelve lines l = go (ltb 1000000 lines)
-      where
-        go : (b : Bool) → Says (cond b (Err TooManyLines) (line_read l))
-        go true = twelve
-        go false = line_says l
+-- A LINE THAT IS REFUSED WHEN IT IS READ: by 8, 9 or 12, so not by 7
+pub next_long : (lines : ℕ) (l : Lists.List ℕ) (r : Refusal) → next_line lines l ≡ Err r → refusal_number r ≢ 7
+unfolding line_read
+next_long lines l r e z = grind (arith, nat_tests)
 
 -- a step has 18 bytes
 step_length : (l : Lists.List ℕ) (q : Line) → line_read l ≡ Ok q → length l ≡ 18
 unfolding line_read
-step_length l q = go (eqb (length l) 18) refl
-  where
-    columns : Result Line Refusal
-    columns = step_read (column_read (take 3 l)) (column_read (take 3 (drop 3 l))) (column_read (take 11 (drop 6 l)))
-
-    go : (b : Bool) → eqb (length l) 18 ≡ b → cond (b && eqb (get_or l 17 0) 10) columns (Err IncompleteLine) ≡ Ok q → length l ≡ 18
-    go true e h = eqb-true (length l) 18 e
-    go false e h = cc
+step_length l q e = grind (arith, nat_tests)
 
 module _ (lines : ℕ) (l : Lists.List ℕ) where
   -- a line that is a step is whole, and none too many
   pub next_length : (q : Line) → next_line lines l ≡ Ok q → length l ≡ 18
-  next_length q = go (ltb 1000000 lines)
-    where
-      go : (b : Bool) → cond b (Err TooManyLines) (line_read l) ≡ Ok q → length l ≡ 18
-      go true h = cc
-      go false h = step_length l q h
+  next_length q e = grind (arith, nat_tests, step_length l q)
 
   pub next_within : (q : Line) → next_line lines l ≡ Ok q → lines ≤ 1000000
-  next_within q = go (ltb 1000000 lines) refl
-    where
-      go : (b : Bool) → ltb 1000000 lines ≡ b → cond b (Err TooManyLines) (line_read l) ≡ Ok q → lines ≤ 1000000
-      go true e h = cc
-      go false e h = ltb-false 1000000 lines e
+  next_within q e = grind (arith, nat_tests)
 
 -- THE HEADER
 
@@ -91,17 +46,7 @@ Sound B h = IfOk h (λ n. sized B n ≡ true)
 
 said_sound : (B : Board) (w : Result Line Refusal) → Sound B (header_said B w)
 said_sound B (Err r) = tt
-said_sound B (Ok q) = go (eqb q.code 0) (sized B q.station) refl (eqb q.job 0)
-  where
-    go : (a b : Bool) → sized B q.station ≡ b → (z : Bool) → Sound B
-        (cond (not a) (Err UnknownStep)
-        (cond (not b) (Err StationCount)
-        (cond (not z) (Err JobOutOfRange)
-        (Ok q.station))))
-    go false b e z = tt
-    go true false e z = tt
-    go true true e false = tt
-    go true true e true = e
+said_sound B (Ok q) = grind arith
 
 module _ (B : Board) (l : Lists.List ℕ) where
   header_sound : Sound B (header_read B l)
@@ -114,11 +59,7 @@ module _ (B : Board) (l : Lists.List ℕ) where
   -- and it is a whole line
   pub header_length : (n : ℕ) → header_read B l ≡ Ok n → length l ≡ 18
   unfolding header_read
-  header_length n = go (line_read l) refl
-    where
-      go : (w : Result Line Refusal) → line_read l ≡ w → header_said B w ≡ Ok n → length l ≡ 18
-      go (Err r) e h = cc
-      go (Ok q) e h = step_length l q e
+  header_length n e = grind (arith, step_length l)
 
 -- on the original board, 2 to 32
 pub original_stations : (l : Lists.List ℕ) (n : ℕ) → header_read original l ≡ Ok n → (2 ≤ n) × (n ≤ 32)

@@ -1,5 +1,4 @@
 -- Reading sessions: on any tables the step lines are calls, one after the other; so demand 3 holds of sessions on tables of every lawful form.
-use Rattle.std.specs.Prelude.{Option, Some, None, Result, Ok, Err}
 use Prim.Native.Nat.{ℕ, ◌+◌}
 use native.Mathlib.Omega.{arith}
 use mathlib.Core.Path.{◌≡◌, refl, sym, ap, ap₂, subst, ◌∙◌}
@@ -7,6 +6,7 @@ use mathlib.Core.Logic.{◌≢◌}
 use mathlib.Core.List as Lists
 use mathlib.Core.List.{[], ◌∷◌, map, map-map}
 use lib.ListN.{length, take, drop, take-append-drop}
+use Rattle.std.specs.Prelude.{Option, Some, None, Result, Ok, Err}
 use Rattle.basics.specs.Tests.{All}
 use Rattle.basics.proofs.Facts.{all_append, all_weaken}
 use Rattle.simulation.specs.Calls.{Call, Bytes, bytes_of, size}
@@ -25,7 +25,7 @@ use Rattle.schedule.specs.Lines.{next_line, header_read, line_room, line_call}
 use Rattle.schedule.specs.Sessions.{Session, session, Served, unmoved, ended, opened_by, header_of, step_line, serve_of, Serves}
 use Rattle.schedule.specs.Demand.{call_then, step_calls, end_then, ending, ServedLine, ServedBy}
 use Rattle.schedule.specs.Demand.{session_calls, session_ending, steps, later, replied, left, Stays, SessionDemand}
-use Rattle.schedule.proofs.SessionLaws.{Says, next_says, serves_as, serve_final, header_stations, Lead, lead, Live, fresh_live, live_serve, next_live}
+use Rattle.schedule.proofs.SessionLaws.{next_long, serves_as, serve_final, header_stations, Lead, lead, Live, fresh_live, live_serve, next_live}
 use Rattle.schedule.proofs.FileTheorem.{never_short, lines_roomy}
 use Rattle.schedule.specs.declared.Line.{Line}
 
@@ -113,11 +113,11 @@ all_mapped Q f (x ∷ l) h = (h.0, all_mapped Q f l h.1)
 ending_long : (lines : ℕ) (ls : Lists.List (Lists.List ℕ)) → final_number (ending lines ls) ≢ 7
 unfolding ending
 ending_long lines [] = omega arith
-ending_long lines (l ∷ ls) = go (next_line lines l) (next_says (λ k. k ≢ 7) (omega arith) (omega arith) (omega arith) lines l) (ending_long (lines + 1) ls)
+ending_long lines (l ∷ ls) = go (next_line lines l) refl (ending_long (lines + 1) ls)
   where
-    go : (w : Result Line Refusal) → Says (λ k. k ≢ 7) w → final_number (ending (lines + 1) ls) ≢ 7 → final_number (end_then w (ending (lines + 1) ls)) ≢ 7
-    go (Err r) h ih = h
-    go (Ok q) h ih = ih
+    go : (w : Result Line Refusal) → next_line lines l ≡ w → final_number (ending (lines + 1) ls) ≢ 7 → final_number (end_then w (ending (lines + 1) ls)) ≢ 7
+    go (Err r) e ih = next_long lines l r e
+    go (Ok q) e ih = ih
 
 module _ (F : Form) (L : Lawful F) where
   -- DEMAND 3 OF A SESSION whose header is accepted

@@ -1,18 +1,19 @@
 -- The lines of a part of a file, only read: what is known after some of them.
-use Rattle.std.specs.Prelude.{Option, Some, None, Result, Ok, Err}
 use Prim.Native.Nat.{ℕ, zero, suc, min, ◌+◌, ◌-◌, ◌≤◌, ◌<◌}
 use native.Mathlib.Nat.{add-zero}
 use native.Mathlib.Omega.{arith}
 use mathlib.Core.Path.{◌≡◌, refl, sym, ap, ◌∙◌}
 use mathlib.Core.Logic.{◌≢◌}
-use Rattle.std.proofs.lemmas.List.{nil_from_length}
 use mathlib.Core.Bool.{Bool, true, false, cond}
 use mathlib.Core.List as Lists
 use mathlib.Core.List.{[], ◌∷◌, ◌++◌, append-nil}
 use lib.ListN.{length, take, drop, length-drop}
 use lib.Seq.{take_at, drop_at}
 use lib.Dec.{eqb, ltb}
-use borrow.Author.Tests.{lt-ltb, ltb-false}
+use borrow.Author.Tests.{lt-ltb}
+use Rattle.std.specs.Prelude.{Option, Some, None, Result, Ok, Err}
+use Rattle.std.proofs.lemmas.Bool.Decides.{nat_tests}
+use Rattle.std.proofs.lemmas.List.{nil_from_length}
 use Rattle.basics.specs.Tests.{passing}
 use Rattle.basics.proofs.Passing.{passing_cons}
 use Rattle.simulation.specs.Calls.{original, Call}
@@ -214,30 +215,18 @@ parts_final h ps e w n q = rw (take_at h (joined ps) 18 e, drop_at h (joined ps)
 -- what comes after 16 comes where nothing before it refuses
 pub surveyed_next : (final : Option Refusal) (steps : ℕ) (next : Option Refusal) → surveyed final steps next ≡ first_of (surveyed final steps None) next
 surveyed_next (Some r) steps next = refl
-surveyed_next None steps next = go (ltb 4096 steps)
-  where
-    go : (b : Bool) → cond b (Some TooManySteps) next ≡ first_of (cond b (Some TooManySteps) None) next
-    go true = refl
-    go false = refl
+surveyed_next None steps next = grind (arith, nat_tests)
 
 -- and all of them pass only where none refuses
 pub surveyed_none : (final : Option Refusal) (steps : ℕ) (next : Option Refusal) → final_number (surveyed final steps next) ≡ 0
     → (final_number final ≡ 0) × (final_number next ≡ 0) × (steps ≤ 4096)
 surveyed_none (Some r) steps next z = absurd (positive r z)
-surveyed_none None steps next z = go (ltb 4096 steps) refl z
-  where
-    go : (b : Bool) → ltb 4096 steps ≡ b → final_number (cond b (Some TooManySteps) next) ≡ 0 → (final_number None ≡ 0) × (final_number next ≡ 0) × (steps ≤ 4096)
-    go true f z = absurd (omega arith)
-    go false f z = (refl, z, ltb-false 4096 steps f)
+surveyed_none None steps next z = grind (arith, nat_tests)
 
 pub surveyed_served : (final : Option Refusal) (steps : ℕ) (next : Option Refusal) → final_number (surveyed final steps next) ≡ 0
     → final_number (surveyed final steps None) ≡ 0
 surveyed_served (Some r) steps next z = z
-surveyed_served None steps next z = go (ltb 4096 steps) z
-  where
-    go : (b : Bool) → final_number (cond b (Some TooManySteps) next) ≡ 0 → final_number (cond b (Some TooManySteps) None) ≡ 0
-    go true z = z
-    go false z = refl
+surveyed_served None steps next z = grind (arith, nat_tests)
 
 -- a refused header refuses the file, whatever its lines
 pub surveyed_header : (bs : Lists.List ℕ) {l : Lists.List ℕ} → l ≡ take 18 bs → {r : Refusal} → header_read original l ≡ Err r → (steps : ℕ) (next : Option Refusal)

@@ -13,6 +13,8 @@ use Rattle.arrays.specs.Arrays.{Rows, Planes, rest_in, Holds}
 use Rattle.arrays.specs.Planes.{beside}
 use Rattle.engine.specs.Clauses.{Named, entries_told}
 use Rattle.engine.specs.declared.Handed.{Handed}
+use Rattle.arrays.specs.declared.Parts.{Parts}
+use Rattle.arrays.specs.declared.OrderedTable.{OrderedTable}
 use Rattle.unbounded.specs.Numbers.{order_by}
 use Rattle.unbounded.specs.declared.NumberedTurn.{NumberedTurn}
 
@@ -26,6 +28,10 @@ pub record Table : Type 0 where
 
 abbrev pub table : ℕ → Rows → Rows → Rows → Planes → Table
 table n v j c r = record { count = n; numbers = v; jobs = j; control = c; results = r }
+
+-- that of an ordered table, which has numbers where another has labels
+abbrev pub numbers_in : OrderedTable (Parts Rows Rows Rows Planes) → Table
+numbers_in t = table t.count t.parts.labels t.parts.jobs t.parts.control t.parts.results
 
 -- the state that it holds
 abbrev pub restᵘ : Table → Rest

@@ -9,31 +9,32 @@ ghost use Rattle.simulation.specs.Machine.{fresh};
 ghost use Rattle.moves.specs.declared.Move.TheVariants.{Update};
 ghost use Rattle.moves.specs.Moves.{call_of};
 ghost use Rattle.unbounded.specs.Numbers.{order_by, NumberedBefore};
-ghost use Rattle.unbounded.specs.Tables.{table, stateᵘ, Runnableᵘ, GivenTo, Turnsᵘ};
+ghost use Rattle.unbounded.specs.Tables.{numbers_in, stateᵘ, Runnableᵘ, GivenTo, Turnsᵘ};
 
-use arrays::{CURRENT, Control, Jobs, Results};
+use arrays::{CURRENT, Control, Jobs, OrderedTable, Parts, Results};
 use engine::Handed;
 use moves::{Move, Refusal, Request, Room};
 
 // Current and pending numbers.
 pub type Numbers = [[u32; 32]; 2];
 
-// Writes the fresh table of n stations, and its scan order, over what is lent.
-pub fn refresh(
-    n: usize,
-    order: &mut [usize; 32],
-    numbers: &mut Numbers,
-    jobs: &mut Jobs,
-    control: &mut Control,
-    results: &mut Results,
-)
+// The four arrays of a table of numbers.
+pub type NumberParts = Parts<Numbers, Jobs, Control, Results>;
+
+// The fresh table of n stations, with its scan order.
+pub fn fresh(n: usize) -> OrderedTable<NumberParts>
     requires { (2 ≤ n) × (n ≤ 32) }
-    ensures results_after { stateᵘ (table n numbers.new jobs.new control.new results.new) ≡ fresh 0 }
-    ensures fact { Runnableᵘ (table n numbers.new jobs.new control.new results.new) order.new }
+    ensures count_value { result.count ≡ n }
+    ensures value { stateᵘ (numbers_in result) ≡ fresh 0 }
+    ensures runnable { Runnableᵘ (numbers_in result) result.order }
 {
-    *numbers = [[0; 32]; 2];
-    arrays::refresh_rest(jobs, control, results);
-    *order = numbers::first_order(n);
+    let mut parts = Parts::of([[0; 32]; 2], [[0; 32]; 2], [[0; 32]; 2], [[[0; 32]; 2]; 32]);
+    arrays::refresh_rest(&mut parts.jobs, &mut parts.control, &mut parts.results);
+    OrderedTable {
+        count: n,
+        order: numbers::first_order(n),
+        parts,
+    }
 }
 
 // What a move of the station at a place is given, where `used` of the numbers of the log are used up and z is the newest station: only a snap for a label
@@ -83,25 +84,29 @@ pub struct NumberedTurn {
 // Serves a step call, up to what is written of it, where `used` of the numbers of the log are used up. `None` if the next number does not fit it:
 // nothing changes then.
 pub fn take_turn(
-    n: usize,
     request: Request,
     log: &[u64],
     used: usize,
-    order: &mut [usize; 32],
-    numbers: &mut Numbers,
-    jobs: &mut Jobs,
-    control: &mut Control,
-    results: &mut Results,
+    table: &mut OrderedTable<NumberParts>,
 ) -> Option<NumberedTurn>
-    requires fact { Runnableᵘ (table n numbers.old jobs.old control.old results.old) order.old }
+    requires fact { Runnableᵘ (numbers_in table.old) table.old.order }
     requires used_in_bounds { used ≤ length log.now }
-    ensures fact_2 { Turnsᵘ (table n numbers.old jobs.old control.old results.old) order.old
-        (call_of request (Buffer 928)) log.now used
-        (table n numbers.new jobs.new control.new results.new) order.new result }
-    ensures fact_3 { Runnableᵘ (table n numbers.new jobs.new control.new results.new) order.new }
+    ensures fact_2 { Turnsᵘ (numbers_in table.old) table.old.order (call_of request (Buffer 928)) log.now used
+        (numbers_in table.new) table.new.order result }
+    ensures fact_3 { Runnableᵘ (numbers_in table.new) table.new.order }
+    ensures count_value { table.new.count ≡ table.old.count }
 {
-    let z = order[n - 1];
-    let task = match engine::judge(n, request, control, results, Room::Buffer(928), z) {
+    let n = table.count;
+    let z = table.order[n - 1];
+    let room = Room::Buffer(928);
+    let task = match engine::judge(
+        n,
+        request,
+        &table.parts.control,
+        &table.parts.results,
+        room,
+        z,
+    ) {
         Ok(task) => task,
         Err(refusal) => {
             let handed = Err(refusal);
@@ -110,10 +115,19 @@ pub fn take_turn(
     };
     let m = task.action;
     let place = task.place;
-    let number = given_to(m, place, z, &numbers[CURRENT], log, used)?;
-    let handed = engine::carry_rest(n, Ok(task), order, jobs, control, results);
-    numbers::renumber(m, place, z, number.unwrap_or(0), numbers);
-    refresh_order(m, place, &numbers[CURRENT], n, order);
+    let parts = &table.parts;
+    let number = given_to(m, place, z, &parts.labels[CURRENT], log, used)?;
+    let handed = engine::carry_rest(
+        n,
+        Ok(task),
+        &table.order,
+        &mut table.parts.jobs,
+        &mut table.parts.control,
+        &mut table.parts.results,
+    );
+    numbers::renumber(m, place, z, number.unwrap_or(0), &mut table.parts.labels);
+    let parts = &table.parts;
+    refresh_order(m, place, &parts.labels[CURRENT], n, &mut table.order);
     let used = used + usize::from(number.is_some());
     Some(NumberedTurn { used, handed })
 }

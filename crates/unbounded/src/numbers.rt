@@ -49,6 +49,7 @@ fn position(numbers: &[u32; 32], order: &[usize], m: usize, k: usize) -> usize
 }
 
 // Brings the order of n stations up to date after station k alone got another number: it is taken out, and put in where it stands now.
+// `rows::order::reorder` does this by labels: the two have only the search apart, and what a search tells is the longer part of either contract.
 pub fn reorder(numbers: &[u32; 32], n: usize, order: &mut [usize], k: usize)
     requires k_lt_n { (k < n) × (n ≤ 32) }
     requires numbered_before { NumberedBefore n numbers.now k order.old }

@@ -6,8 +6,8 @@ use Rattle.engine.proofs.carry_out.Goals as goal
 pub relabel-requires : goal.relabel-requires
 relabel-requires c = labels_prepared (rw c.in_ok-accepted.was at c.requires) (c.shaped.ensures _)
 
-pub carry_rest-requires : goal.carry_rest-requires
-carry_rest-requires c = rw c.in_ok-accepted.was (rest_prepared (rw c.in_ok-accepted.was at c.requires) (c.shaped.ensures _))
+pub carry_rest-handed-requires : goal.carry_rest-handed-requires
+carry_rest-handed-requires c = rw c.in_ok-accepted.was (rest_prepared (rw c.in_ok-accepted.was at c.requires) (c.shaped.ensures _))
 
 pub returns-in_err-accepted : goal.returns-in_err-accepted
 returns-in_err-accepted c =
@@ -17,4 +17,4 @@ returns-in_err-accepted c =
 pub returns : goal.returns
 returns c =
     let e = c.in_ok-accepted.was in
-    rw e (carries (rw e at c.requires) (c.shaped.ensures _) c.relabel.ensures (rw e at c.carry_rest.ensures))
+    rw e (carries (rw e at c.requires) (c.shaped.ensures _) c.relabel.ensures (rw e at c.carry_rest-handed.ensures))

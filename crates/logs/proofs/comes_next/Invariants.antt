@@ -9,6 +9,3 @@ use Rattle.logs.proofs.comes_next.Given as goal
 abbrev pub invariant-loop-i : goal.invariant-loop-i
 invariant-loop-i l =
     (l.i ≤ l.k) × (l.k ≡ length l.bytes) × (l.at + l.k ≤ length l.part) × (at_front l.bytes (drop l.at l.part) ≡ (l.same && at_front (drop l.i l.bytes) (drop (l.at + l.i) l.part)))
-
-abbrev pub decreases-loop-i : goal.decreases-loop-i
-decreases-loop-i l = l.k - l.i

@@ -1,5 +1,5 @@
-use Rattle.std.specs.Slice.Iter.{chunks_rest, chunks_size}
 use mathlib.Core.Path.{◌≡◌}
+use Rattle.std.specs.Slice.Iter.{chunks_rest, chunks_size}
 use Rattle.schedule.proofs.Surveys.{Surveyed}
 use Rattle.schedule.proofs.survey_lines.Given as goal
 

@@ -1,20 +1,18 @@
-use mathlib.Core.Path.{sym, ap, ◌∙◌}
-use mathlib.Core.Bool.{Bool, cond}
-use Rattle.schedule.specs.Sessions.{stopped, ill_formed}
+use Rattle.std.proofs.Common.{sym, ap, ◌∙◌, cond}
+use Rattle.schedule.specs.Sessions.{session, refused, stopped, ill_formed}
 use Rattle.schedule.proofs.SessionLaws.{serves_as}
 use Rattle.session.specs.Clauses.{session_of}
+use Rattle.session.proofs.LineLaws.{counted, refuses}
 use Rattle.session.proofs.unread.Goals as goal
 
 pub returns-then-well_formed : goal.returns-then-well_formed
 returns-then-well_formed c =
-    let a = c.args in
-    let s = session_of a.s in
-    λ buffer. serves_as (ap (λ (b : Bool). cond b (stopped s a.r) (ill_formed s)) (sym c.well_formed-2.ensures ∙ c.if-well_formed.true))
-    (c.stop.ensures buffer)
+    let s = session_of c.args.s in
+    λ buffer. serves_as (ap (λ b. cond b (stopped s c.args.r) (ill_formed s)) (sym c.well_formed-2.ensures ∙ c.if-well_formed.true)) refuses
 
 pub returns : goal.returns
 returns c =
-    let a = c.args in
-    let s = session_of a.s in
-    λ buffer. serves_as (ap (λ (b : Bool). cond b (stopped s a.r) (ill_formed s)) (sym c.well_formed-2.ensures ∙ c.if-well_formed.false))
-    (c.turn_away.ensures buffer)
+    let s = session_of c.args.s in
+    λ buffer. serves_as
+    (ap (λ b. cond b (stopped s c.args.r) (ill_formed s)) (sym c.well_formed-2.ensures ∙ c.if-well_formed.false)
+    ∙ ap (λ k. refused (session k s.refusal s.table) 13) (counted _ s.lines _ c.from.ensures)) refuses

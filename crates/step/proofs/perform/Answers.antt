@@ -1,15 +1,17 @@
-use Rattle.moves.proofs.MoveLaws.{refuses_yes, refuses_no}
+use Rattle.std.proofs.lemmas.Result.{err_from_is_err_and}
 use Rattle.table.proofs.Owned.{whole}
 use Rattle.step.proofs.StepLaws.{hands_refused, hands_accepted}
 use Rattle.step.proofs.perform.Goals as goal
 
 -- The engine's step on the table taken apart is the step on the table; the entries are those of the calling station's result.
-pub returns-then-refuses : goal.returns-then-refuses
-returns-then-refuses c =
-    hands_refused _ (whole _ _ c.well_formed.0) _ c.take_apart.ensures c.perform-h.ensures _ c.entries_of-entries.ensures
-    (refuses_yes c.perform-h.result.refusal c.refuses.ensures c.if-refuses.true)
+pub returns-in_err-handed : goal.returns-in_err-handed
+returns-in_err-handed c =
+    let p = err_from_is_err_and c.from_residual.result c.from_residual.ensures.1 in
+    rw (p.1, p.2) (hands_refused _ (whole _ _ c.well_formed.0) _ c.take_apart.ensures c.in_err-handed.ensures)
+
+pub bounds-results-handed : goal.bounds-results-handed
+bounds-results-handed c = c.in_ok-handed.ensures.handed.inside
 
 pub returns : goal.returns
 returns c =
-    hands_accepted _ (whole _ _ c.well_formed.0) _ c.take_apart.ensures c.perform-h.ensures _ c.entries_of-entries.ensures
-    (refuses_no c.perform-h.result.refusal c.refuses.ensures c.if-refuses.false) c.put_together-next.ensures
+    hands_accepted _ (whole _ _ c.well_formed.0) _ c.take_apart.ensures c.in_ok-handed.ensures _ c.entries_of.ensures c.put_together.ensures

@@ -1,5 +1,5 @@
 use Prim.Native.Nat.{◌+◌}
-use mathlib.Core.Path.{ap, ◌∙◌}
+use mathlib.Core.Path.{refl, ap, ◌∙◌}
 use Rattle.std.specs.Option.{unwrap_or}
 use Rattle.unbounded.proofs.TurnLaws.{turn_low, turn_prepared, turn_refused, turn_unfit, turn_before, turn_kept, taken_byte, turn_done, turn_ready}
 use Rattle.unbounded.proofs.take_turn.Goals as goal
@@ -35,5 +35,6 @@ returns c =
     record {
       fact_2 = turn_done f j g k c.renumber.new.numbers _ c.renumber.ensures (λ e. c.unwrap_or.ensures ∙ ap (λ o. unwrap_or o 0) e)
           (ap (λ n. c.args.used + n) (c.from.ensures ∙ taken_byte _ c.is_some.ensures));
+      count_value = refl;
       fact_3 = turn_ready f j g k c.renumber.new.numbers _ c.renumber.ensures c.refresh_order.ensures;
     }
