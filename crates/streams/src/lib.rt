@@ -37,6 +37,7 @@ impl<R: Read + Drop, E: Write + Drop> Stream<'_, R, E> {
         ensures end { IfOk result (λ n. n < length buf.new → IsAtEnd (R.remaining self.new.stream)) }
     {
         let mut count = 0;
+        // A read may give any number of bytes, so no range counts them.
         while count < buf.len() {
             let k = self
                 .stream

@@ -9,6 +9,8 @@ use file::{OrderedTable, Run};
 use std::io::{Read, Write};
 use streams::{Failed, Stream};
 
+// The run and its table are no struct of their own: what joins them, `Underway`, tells of a list of calls, and a ghost field may not.
+
 // Serves a part of the file, and prints its report: whenever the output buffer has no room for another line, and at the end. If there is more to read, since
 // the part is not the last and no line is refused for good, it hands back how many bytes of the part were served.
 fn serve_part<W: Write + Drop, E: Write + Drop>(
