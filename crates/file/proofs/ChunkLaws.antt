@@ -12,10 +12,10 @@ use lib.Seq.{length-take-le}
 use borrow.Rule.Slice.PartMut.{mid_of, put_mid}
 use Rattle.simulation.specs.Calls.{Buffer, Call}
 use Rattle.transition.specs.Forms.{over, step_of}
-use Rattle.moves.specs.Moves.{refusal_number, final_number, call_of}
+use Rattle.moves.specs.Moves.{refusal_number, call_of}
 use Rattle.moves.specs.declared.Request.{Request}
 use Rattle.moves.specs.declared.Refusal.{Refusal}
-use Rattle.std.specs.Prelude.{Option, Some, None, Result, Ok, Err}
+use Rattle.std.specs.Prelude.{Some, None, Ok}
 use Rattle.arrays.specs.Arrays.{Arrays}
 use Rattle.arrays.specs.WellFormed.{well_formed}
 use Rattle.arrays.specs.Form.{lent}

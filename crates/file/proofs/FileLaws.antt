@@ -12,8 +12,8 @@ use lib.Seq.{take_at, drop_at, drop-drop, take-suc, drop-cons, set_at, length-ta
 use lib.Dec.{leb}
 use borrow.Author.Tests.{le-leb, lt-leb}
 use Rattle.transition.specs.Forms.{over, fresh_table}
-use Rattle.moves.specs.Moves.{refusal_number, final_number}
-use Rattle.std.specs.Prelude.{Option, Some, None, Result, Ok, Err}
+use Rattle.moves.specs.Moves.{final_number}
+use Rattle.std.specs.Prelude.{None}
 use Rattle.arrays.specs.Arrays.{Arrays}
 use Rattle.arrays.specs.Form.{lent}
 use Rattle.schedule.specs.Tables.{tables}

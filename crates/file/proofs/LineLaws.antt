@@ -1,7 +1,7 @@
 -- A step line, served on a table that calls leave of the fresh one: carrying out its task is the step call, the table left is such a table again, and its
 -- labels in order are told from those before.
-use Prim.Native.Nat.{ℕ, ◌+◌, ◌-◌, ◌*◌, ◌≤◌, ◌<◌}
-use Rattle.std.specs.Prelude.{Option, Some, None, Result, Ok, Err}
+use Prim.Native.Nat.{ℕ, ◌-◌, ◌*◌, ◌≤◌, ◌<◌}
+use Rattle.std.specs.Prelude.{Result, Ok, Err}
 use native.Mathlib.Omega.{arith}
 use mathlib.Core.Path.{◌≡◌, refl, sym, ap, subst, ◌∙◌}
 use mathlib.Core.Logic.{◌≢◌}
@@ -23,12 +23,12 @@ use Rattle.transition.specs.Forms.{Form, TableAnswer, over, fresh_table, step_of
 use Rattle.transition.proofs.Written.{Sized, original_sized}
 use Rattle.transition.proofs.Theorem.{reached_held, reached_written, reached_next}
 use Rattle.transition.proofs.Theorem.{ReachedTable, table_fresh, table_count, table_passes, table_step, table_after}
-use Rattle.moves.specs.Moves.{refusal_number, move_of, place_of, call_of}
+use Rattle.moves.specs.Moves.{refusal_number, move_of, call_of}
 use Rattle.moves.proofs.MoveLaws.{by_move, positive, place_below}
 use Rattle.moves.specs.declared.Refusal.{Refusal}
 use Rattle.moves.specs.declared.Move.{Move}
 use Rattle.moves.specs.declared.Move.TheVariants.{Update}
-use Rattle.arrays.specs.Arrays.{Arrays, entries_in, state_of, arrays_of}
+use Rattle.arrays.specs.Arrays.{Arrays, entries_in, state_of}
 use Rattle.arrays.specs.WellFormed.{well_formed}
 use Rattle.arrays.specs.Form.{lent}
 use Rattle.arrays.proofs.States.{lent_lawful}

@@ -18,7 +18,7 @@ use Rattle.transition.specs.Forms.{over, fresh_table}
 use Rattle.moves.specs.Moves.{refusal_number, final_number}
 use Rattle.moves.proofs.MoveLaws.{positive, accepted}
 use Rattle.moves.specs.declared.Refusal.{Refusal}
-use Rattle.std.specs.Prelude.{Option, Some, None, Result, Ok, Err}
+use Rattle.std.specs.Prelude.{Some, None, Ok, Err}
 use Rattle.arrays.specs.Arrays.{Arrays}
 use Rattle.arrays.specs.Form.{lent}
 use Rattle.schedule.specs.Tables.{tables}

@@ -254,14 +254,8 @@ fn number_lines(n: usize, rest: &[u8], list: &mut [u32]) -> usize
 fn refusal_of(s: Survey, entries: usize) -> Option<Refusal>
     ensures { result ≡ refused_by s.refusal s.steps s.snaps entries }
 {
-    let refusal = schedule::refusal_of(s);
-    if refusal.is_some() {
-        return refusal;
-    }
-    if entries < s.snaps as usize {
-        return Some(Refusal::ListTooShort);
-    }
-    None
+    let short = (entries < s.snaps as usize).then_some(Refusal::ListTooShort);
+    schedule::refusal_of(s).or(short)
 }
 
 // The numbers of a whole file: one for each accepted snap for a label, in their order, at the front of the list; how many there are is handed back. What is

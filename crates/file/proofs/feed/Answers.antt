@@ -1,7 +1,7 @@
 -- Openings tells what is served of a part by how it starts.
 use mathlib.Core.Path.{refl}
 use Rattle.file.specs.Tables.{arrays_in}
-use Rattle.file.proofs.Openings.{feeds_none, feeds_refused, lines_within, read_within, feeds_lines, underway_lines, underway_refused}
+use Rattle.file.proofs.Openings.{feeds_none, feeds_refused, feeds_lines}
 use Rattle.file.proofs.feed.Goals as goal
 
 pub returns-in-Ok-None-clause-feeds : goal.returns-in-Ok-None-clause-feeds

@@ -1,8 +1,7 @@
 use mathlib.Core.Path.{refl, ap, ◌∙◌}
 use mathlib.Core.Logic.{inl}
-use Prim.Native.Nat.{◌+◌, ◌-◌, ◌<◌}
+use Prim.Native.Nat.{◌+◌, ◌-◌}
 use native.Mathlib.Omega.{arith}
-use lib.ListN.{length}
 use Rattle.std.specs.Prelude.{Ok}
 use Rattle.schedule.proofs.Places.{StepAt, RefusedAt, at_end, at_refused, at_call}
 use Rattle.file.proofs.LineLaws.{run_passes}

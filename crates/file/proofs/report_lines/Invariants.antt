@@ -1,6 +1,6 @@
 use Prim.Native.Nat.{◌-◌}
 use lib.ListN.{length}
-use Rattle.std.specs.Prelude.{Option, Some, None, Result, Ok, Err}
+use Rattle.std.specs.Prelude.{None}
 use Rattle.file.specs.Tables.{arrays_in}
 use Rattle.schedule.specs.Sessions.{session}
 use Rattle.file.specs.Clauses.{Runnable}

@@ -7,14 +7,6 @@ use Rattle.numbering.proofs.Kept.{mapped, mapped_at, mapped_more}
 use borrow.Author.Rules.{rules}
 use Rattle.numbering.proofs.bump.Goals as goal
 
-pub loop-i-init : goal.loop-i-init
-loop-i-init c = (search rules, refl, refl)
-
-pub bumped-requires : goal.bumped-requires
-bumped-requires c =
-    let at = c.loop-i in
-    rw (at.invariant.2, mapped_at (bump c.args.c) c.args.list.now at.i (omega arith)) (c.requires.by_index at.i (search rules))
-
 pub loop-i-preserved : goal.loop-i-preserved
 loop-i-preserved c =
     let a = c.args in
@@ -26,9 +18,3 @@ loop-i-preserved c =
       ap₂ (λ t v. set t at.i v) at.invariant.2 (c.bumped.ensures
           ∙ ap (bump a.c) (ap (λ t. get_or t at.i 0) at.invariant.2 ∙ mapped_at (bump a.c) l at.i h)) ∙ mapped_more (bump a.c) l at.i h,
     )
-
-pub returns : goal.returns
-returns c =
-    let a = c.args in
-    let e : c.loop-i.i ≡ a.n = omega arith in
-    c.loop-i.invariant.2 ∙ ap (λ i. mapped (bump a.c) i a.list.now) e

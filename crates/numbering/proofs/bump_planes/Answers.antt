@@ -6,16 +6,12 @@ use Rattle.simulation.proofs.Numbers.{bump_low}
 use Rattle.numbering.proofs.Kept.{planes_mapped}
 use Rattle.numbering.proofs.bump_planes.Goals as goal
 
-pub bump-requires : goal.bump-requires
-bump-requires c = record {
-  n_in_bounds = omega (arith, c.sized.ensures.each 0 (omega arith));
-  by_index = λ i h. c.requires false i;
-}
+pub bump-requires-clause-by_index : goal.bump-requires-clause-by_index
+bump-requires-clause-by_index c = λ i h. c.requires false i
 
-pub bump-requires-2 : goal.bump-requires-2
-bump-requires-2 c =
-    rw (get_or-set_other c.args.numbers.now 0 1 c.bump.new.list [] (λ e. absurd (omega arith)))
-    (record { n_in_bounds = omega (arith, c.sized.ensures.each 1 (omega arith)); by_index = λ i h. c.requires true i })
+pub bump-requires-2-clause-by_index : goal.bump-requires-2-clause-by_index
+bump-requires-2-clause-by_index c =
+    rw (get_or-set_other c.args.numbers.now 0 1 c.bump.new.list [] (λ e. absurd (omega arith))) (λ i h. c.requires true i)
 
 pub returns : goal.returns
 returns c =

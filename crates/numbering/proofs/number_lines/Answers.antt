@@ -42,16 +42,9 @@ returns-in-Err c =
     let e = sofar_end f (calls_refused _ _ _ f.within (at_refused _ _ _ f.within _ c.next_call.ensures _ c.in-Err.is)).0 in
     record { value = e.0; list_after = e.1 }
 
-pub number_line-count-requires : goal.number_line-count-requires
-number_line-count-requires c =
-    let l = c.loop-request in
-    let room = step_room l.invariant.0 (here (goal.at.number_line-count-requires c).In-Ok-Some) in
-    record {
-      runnable = l.invariant.1;
-      count_in_bounds = room.1;
-      count_in_bounds_2 = (room.0, room.2);
-      counted = l.invariant.0.counted;
-    }
+pub number_line-count-requires-clause-count_in_bounds : goal.number_line-count-requires-clause-count_in_bounds
+number_line-count-requires-clause-count_in_bounds c =
+    (step_room c.loop-request.invariant.0 (here (goal.at.number_line-count-requires-clause-count_in_bounds c).In-Ok-Some)).1
 
 pub loop-request-preserved : goal.loop-request-preserved
 loop-request-preserved c =
@@ -65,20 +58,5 @@ loop-request-preserved c =
       ap (λ (a : Arrays). a.count) g.numbers_call.table ∙ count_after l.invariant.1 _ ∙ l.invariant.2,
     )
 
-pub next_call-requires : goal.next_call-requires
-next_call-requires c = c.loop-request.invariant.0.within
-
-pub overflow_add-lines : goal.overflow_add-lines
-overflow_add-lines c = let f = here (goal.at.overflow_add-lines c).In-Ok-Some in omega (arith, f.few)
-
-pub overflow_add-at : goal.overflow_add-at
-overflow_add-at c = let f = here (goal.at.overflow_add-at c).In-Ok-Some in omega (arith, f.within, c.well_formed.1.0.0)
-
 pub loop-request-smaller : goal.loop-request-smaller
 loop-request-smaller c = let f = here (goal.at.loop-request-smaller c).In-Ok-Some in omega (arith, f.within)
-
-pub shape_of-list-in-Ok-None : goal.shape_of-list-in-Ok-None
-shape_of-list-in-Ok-None c = c.loop-request.invariant.0.same
-
-pub shape_of-list-in-Err : goal.shape_of-list-in-Err
-shape_of-list-in-Err c = c.loop-request.invariant.0.same

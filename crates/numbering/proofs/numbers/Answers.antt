@@ -19,20 +19,12 @@ returns-in_err-n c =
     let p = err_from_is_err_and c.from_residual.result c.from_residual.ensures.1 in
     rw (p.1, p.2) (header_refuses c.args.file.now c.args.list.now c.line_at-header.ensures (sym c.read_header.ensures ∙ c.in_err-n.was))
 
-pub from-rest-requires : goal.from-rest-requires
-from-rest-requires c = header_within c.args.file.now _ c.line_at-header.ensures
-
 pub returns-in-Some : goal.returns-in-Some
 returns-in-Some c =
     lines_refuse c.args.file.now c.args.list.now c.line_at-header.ensures (said (goal.at.returns-in-Some c).In_ok-n) c.from-rest.ensures c.survey_lines-survey.ensures c.in-Some.ensures
 
-pub number_lines-requires : goal.number_lines-requires
-number_lines-requires c =
-    let e = said (goal.at.number_lines-requires c).In_ok-n in
-    record {
-      le_n = original_stations _ _ e;
-      rest_in_bounds = lines_room c.args.file.now c.args.list.now c.line_at-header.ensures e c.from-rest.ensures c.survey_lines-survey.ensures c.in_default.ensures;
-    }
+pub number_lines-requires-clause-le_n : goal.number_lines-requires-clause-le_n
+number_lines-requires-clause-le_n c = original_stations _ _ (said (goal.at.number_lines-requires-clause-le_n c).In_ok-n)
 
 pub returns : goal.returns
 returns c =

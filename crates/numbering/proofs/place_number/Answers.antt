@@ -17,25 +17,6 @@ next : (y : goal.After-put_number-in-After) → let x = y in
     y.put_number-in-After.new.given ≡ set x.bump.new.list x.args.count (x.in-After.c + 1)
 next y = y.put_number-in-After.ensures.given_after
 
-pub overflow_add-v : goal.overflow_add-v
-overflow_add-v c = omega (
-  arith,
-  c.requires.k_bound.2,
-  c.requires.s_bound,
-  ap (λ s. number (slot_for s)) c.in-After.is,
-)
-
-pub bump_planes-requires : goal.bump_planes-requires
-bump_planes-requires c = λ x i. let pre = c.requires in omega (arith, pre.k_bound.2, pre.counted.beside x i)
-
-pub bump-requires : goal.bump-requires
-bump-requires c =
-    let pre = c.requires in
-    record {
-      n_in_bounds = omega (arith, pre.k_bound.1);
-      by_index = λ i h. omega (arith, pre.k_bound.2, pre.counted.given i h);
-    }
-
 pub returns-in-Shared : goal.returns-in-Shared
 returns-in-Shared c =
     shared_given c.requires.k_bound.1 _ _ c.in-Shared.is c.put_number.ensures.numbers_after c.put_number.ensures.given_after
