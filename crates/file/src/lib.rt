@@ -147,6 +147,7 @@ fn report_lines(lines: u32, table: &mut OrderedTable, chunk: &[u8], out: &mut [u
     let mut count = lines;
     let mut written = 0;
     let mut at = 0;
+    // The place is handed back, as the reading may end before any line: for want of room, or with one that is refused.
     loop {
         if out.len() - written < ROOM {
             return Progress {
@@ -251,10 +252,7 @@ pub fn start() -> (Run, OrderedTable)
 fn end_of(len: usize, last: bool) -> usize
     ensures { result ≡ cond last len (18 * (len / 18)) }
 {
-    if last {
-        return len;
-    }
-    len / 18 * 18
+    if last { len } else { len / 18 * 18 }
 }
 
 // What a part leaves whose lines were served from one place up to another.
