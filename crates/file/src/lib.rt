@@ -144,6 +144,7 @@ fn report_lines(
     let mut count = lines;
     let mut written = 0;
     let mut at = 0;
+    // The place is handed back, as the reading may end before any line: for want of room, or with one that is refused.
     loop {
         if out.len() - written < ROOM {
             return Progress {
@@ -236,10 +237,7 @@ pub fn start() -> (Run, OrderedTable<LabelParts>)
 fn end_of(len: usize, last: bool) -> usize
     ensures { result ≡ cond last len (18 * (len / 18)) }
 {
-    if last {
-        return len;
-    }
-    len / 18 * 18
+    if last { len } else { len / 18 * 18 }
 }
 
 // What a part leaves whose lines were served from one place up to another.

@@ -26,7 +26,7 @@ use arrays::{CURRENT, LabelParts, OrderedTable, PENDING};
 use moves::{Move, Refusal, Request};
 use schedule::Survey;
 
-// Where the number of a new label goes among those in use: it is one of them, or it comes right after one.
+// Where the number of a new label goes among those in use: it is one of them, or it comes right after one. Neither is a failure.
 #[derive(Clone, Copy)]
 enum Slot {
     Shared(u32),
@@ -100,6 +100,7 @@ fn bump_planes(numbers: &mut [[u32; 32]; 2], c: u32)
 }
 
 // The pending label of station k gets the number v, which is given behind `count` others.
+// The caller lends the list for all numbers that may come, so the count of those given stands beside it.
 fn put_number(k: usize, v: u32, numbers: &mut [[u32; 32]; 2], given: &mut [u32], count: usize)
     requires { (k < 32) × (count < length given.old) }
     ensures numbers_after { beside numbers.new ≡ put (beside numbers.old) k v }
@@ -237,6 +238,7 @@ fn number_lines(n: usize, rest: &[u8], list: &mut [u32]) -> usize
     let mut count = 0;
     let mut lines: u32 = 1;
     let mut at = 0;
+    // A call stands at a place of the file: the last line may have fewer bytes than 18, and one that is refused ends the reading.
     loop {
         match schedule::next_call(lines, rest, at) {
             Ok(Some(request)) => {
