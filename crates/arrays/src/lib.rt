@@ -1,5 +1,4 @@
-// A table in four arrays, which are lent: their types, the fresh table, and how far a scan result goes. C lends four arrays; and the prover does not cover a
-// struct of them, whose literal would have a field that is an array of arrays.
+// A table in four arrays, which are lent: their types, the fresh table, and how far a scan result goes. C lends four arrays, so functions on its way take four.
 #![tactic(auto)]
 
 ghost use Rattle.std.specs.Prelude.{◌≡◌, ℕ, ◌≤◌};

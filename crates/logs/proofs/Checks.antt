@@ -114,7 +114,7 @@ module _ {t t' : Table} {order order' : Lists.List ℕ} {c : Call} {log : Lists.
           numbers = (g.served.counted, g.served.enough);
           bytes = (
             ap (take k) o ∙ take_at l (drop (length l) buffer) k (result_length c.line h.entries rows ∙ sym w)
-            ∙ sym (g.served.report ∙ ap (λ x. report_lines c.line 1 (entries_told x t'.results)) q),
+                ∙ sym (g.served.report ∙ ap (λ x. report_lines c.line 1 (entries_told x t'.results)) q),
             omega (arith, w, few),
           );
         };
@@ -291,39 +291,39 @@ module _ {c₀ : Progress} {t₀ : Table} {file list buffer₀ part : Lists.List
 
     module _ {q : Request} (s : StepAt c.lines file c.at q) {t' : Table} {buffer' : Lists.List ℕ} {r : Ran}
         (u : RunsCall t (call_of q (Buffer 928)) (take c.count list) c.used t' buffer' (Some r)) where
-        abbrev then : Progress
-        then = placed_at c true r.used (c.lines + 1) (c.at + 18) r.written 0
+      abbrev then : Progress
+      then = placed_at c true r.used (c.lines + 1) (c.at + 18) r.written 0
 
-        abbrev this_call : Call
-        this_call = call_of q (Buffer 928)
+      abbrev this_call : Call
+      this_call = call_of q (Buffer 928)
 
-        abbrev written_bytes : Lists.List ℕ
-        written_bytes = writes t this_call (numbers_left c list)
+      abbrev written_bytes : Lists.List ℕ
+      written_bytes = writes t this_call (numbers_left c list)
 
-        written : pending then buffer' ≡ written_bytes
-        written = let all : r.written - 0 ≡ r.written = omega arith in ap (λ i. take i buffer') all ∙ u.ran.bytes.0
+      written : pending then buffer' ≡ written_bytes
+      written = let all : r.written - 0 ≡ r.written = omega arith in ap (λ i. take i buffer') all ∙ u.ran.bytes.0
 
-        pub sofar_step : Sofar c₀ t₀ file list buffer₀ part then t' buffer' read
-        sofar_step = record {
-          within = f.within;
-          going = refl;
-          same = λ more.
-              let ns = drop-drop (snaps_of original t.count (stateᵘ t) this_call) c.used (take c.count list)
-              ∙ ap (λ i. drop i (take c.count list)) (sym u.ran.numbers.0) in
-              from_here more ∙ steps_only more ∙ step_first s u (rest ++ more) ∙ rw (sym u.fits) refl
-              ∙ (λ i. at_front (sym written i) (rest ++ more)
-              && right original (sym u.ran.count i) (sym u.ran.state i) (ns i) (drop (length (sym written i)) (rest ++ more)) (calls_from (c.lines + 1) file (c.at + 18)));
-          less = omega (arith, f.less, u.ran.bytes.1, s.within);
-        }
+      pub sofar_step : Sofar c₀ t₀ file list buffer₀ part then t' buffer' read
+      sofar_step = record {
+        within = f.within;
+        going = refl;
+        same = λ more.
+            let ns = drop-drop (snaps_of original t.count (stateᵘ t) this_call) c.used (take c.count list)
+            ∙ ap (λ i. drop i (take c.count list)) (sym u.ran.numbers.0) in
+            from_here more ∙ steps_only more ∙ step_first s u (rest ++ more) ∙ rw (sym u.fits) refl
+            ∙ (λ i. at_front (sym written i) (rest ++ more)
+            && right original (sym u.ran.count i) (sym u.ran.state i) (ns i) (drop (length (sym written i)) (rest ++ more)) (calls_from (c.lines + 1) file (c.at + 18)));
+        less = omega (arith, f.less, u.ran.bytes.1, s.within);
+      }
 
-        pub step_checking : {order' : Lists.List ℕ} → Runnableᵘ t' order' → length buffer' ≡ 928 → Checking then t' order' file list buffer'
-        step_checking o l = record {
-          runnable = o;
-          numbers = (omega (arith, u.ran.numbers.1, length-take c.count list), g.numbers.1);
-          place = (s.within, omega (arith, s.few));
-          bytes = (omega arith, u.ran.bytes.1);
-          room = l;
-        }
+      pub step_checking : {order' : Lists.List ℕ} → Runnableᵘ t' order' → length buffer' ≡ 928 → Checking then t' order' file list buffer'
+      step_checking o l = record {
+        runnable = o;
+        numbers = (omega (arith, u.ran.numbers.1, length-take c.count list), g.numbers.1);
+        place = (s.within, omega (arith, s.few));
+        bytes = (omega arith, u.ran.bytes.1);
+        room = l;
+      }
 
 -- THE END of the report: it is right where all is used up
 

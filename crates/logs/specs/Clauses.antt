@@ -1,5 +1,5 @@
 -- What the contracts of the parts of a check say.
-use Rattle.std.specs.Prelude.{ℕ, ◌+◌, ◌-◌, ◌*◌, ◌≤◌, ◌≡◌, ◌≢◌, ◌↔◌, Bool, true, false, ◌&&◌, [], ◌++◌, length, take, drop, Option, Some, is_some, IfSome, Result, Ok, Err}
+use Rattle.std.specs.Prelude.{ℕ, ◌+◌, ◌-◌, ◌*◌, ◌≤◌, ◌≡◌, ◌↔◌, Bool, true, ◌&&◌, [], ◌++◌, length, take, drop, Option, Some, is_some, IfSome, Result, Ok, Err}
 use mathlib.Core.List as Lists
 use Rattle.simulation.specs.Calls.{Call, judge, bytes_of, original}
 use Rattle.simulation.specs.Machine.{label_step, snaps_of}

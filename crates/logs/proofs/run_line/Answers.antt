@@ -1,7 +1,5 @@
 -- The turn is taken, and what it hands out is written.
-use mathlib.Core.Path.{refl}
-use native.Mathlib.Omega.{arith}
-use Rattle.logs.proofs.Checks.{run_unfit, run_refused, run_fits}
+use Rattle.logs.proofs.Checks.{run_refused, run_fits}
 use Rattle.logs.proofs.run_line.Goals as goal
 
 pub returns-in-Err-clause-runs_call : goal.returns-in-Err-clause-runs_call

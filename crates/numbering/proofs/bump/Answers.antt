@@ -1,9 +1,9 @@
 use Prim.Native.Nat.{◌<◌}
 use native.Mathlib.Omega.{arith}
-use mathlib.Core.Path.{◌≡◌, refl, ap, ap₂, ◌∙◌}
+use mathlib.Core.Path.{ap, ap₂, ◌∙◌}
 use lib.ListN.{length, get_or, set, length-set}
 use Rattle.simulation.specs.Numbering.{bump}
-use Rattle.numbering.proofs.Kept.{mapped, mapped_at, mapped_more}
+use Rattle.numbering.proofs.Kept.{mapped_at, mapped_more}
 use borrow.Author.Rules.{rules}
 use Rattle.numbering.proofs.bump.Goals as goal
 

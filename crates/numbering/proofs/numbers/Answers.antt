@@ -1,12 +1,11 @@
 -- The header is read, then the lines after it, and only then they are run.
 use mathlib.Core.Path.{◌≡◌, sym, ◌∙◌}
-use Rattle.std.specs.Prelude.{None, Ok}
+use Rattle.std.specs.Prelude.{Ok}
 use Rattle.std.proofs.lemmas.Result.{err_from_is_err_and}
 use Rattle.simulation.specs.Calls.{original}
 use Rattle.schedule.specs.Lines.{header_read}
 use Rattle.schedule.proofs.SessionLaws.{original_stations}
-use Rattle.schedule.proofs.Runs.{header_within}
-use Rattle.numbering.proofs.Files.{header_refuses, lines_refuse, lines_room, lines_number}
+use Rattle.numbering.proofs.Files.{header_refuses, lines_refuse, lines_number}
 use Rattle.numbering.proofs.numbers.Goals as goal
 use Rattle.numbering.proofs.numbers.Goals.{In_ok-n}
 

@@ -1,9 +1,7 @@
 use Prim.Native.Nat.{◌+◌}
-use native.Mathlib.Omega.{arith}
-use mathlib.Core.Path.{◌≡◌, ap}
+use mathlib.Core.Path.{◌≡◌}
 use lib.ListN.{set}
-use Rattle.simulation.specs.Numbering.{number, bump}
-use Rattle.numbering.specs.Clauses.{slot_for}
+use Rattle.simulation.specs.Numbering.{bump}
 use Rattle.numbering.proofs.Kept.{mapped, shared_given, after_given}
 use Rattle.numbering.proofs.place_number.Goals as goal
 use Rattle.numbering.proofs.place_number.Goals.{After-bump, After-put_number-in-After}

@@ -1,4 +1,4 @@
-use Prim.Native.Nat.{◌-◌, ◌≤◌}
+use Prim.Native.Nat.{◌≤◌}
 use lib.ListN.{get_or}
 use Rattle.numbering.proofs.Slots.{Searched}
 use Rattle.numbering.proofs.slot_of.Given as goal

@@ -9,9 +9,9 @@ returns-in_err-handed c =
     let p = err_from_is_err_and c.from_residual.result c.from_residual.ensures.1 in
     rw (p.1, p.2) (hands_refused _ (whole _ _ c.well_formed.0) _ c.take_apart.ensures c.in_err-handed.ensures)
 
-pub bounds-results-handed : goal.bounds-results-handed
-bounds-results-handed c = c.in_ok-handed.ensures.handed.inside
+pub bounds-parts-handed : goal.bounds-parts-handed
+bounds-parts-handed c = c.in_ok-handed.ensures.handed.inside
 
 pub returns : goal.returns
 returns c =
-    hands_accepted _ (whole _ _ c.well_formed.0) _ c.take_apart.ensures c.in_ok-handed.ensures _ c.entries_of.ensures c.put_together.ensures
+    hands_accepted _ (whole _ _ c.well_formed.0) _ c.take_apart.ensures c.in_ok-handed.ensures _ c.entries_of.ensures c.put_together-left.ensures
