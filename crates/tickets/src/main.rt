@@ -5,7 +5,8 @@ ghost use Rattle.std.specs.Prelude.{◌≡◌, false, ◌+◌, ◌*◌, ◌≤�
 ghost use Rattle.file.specs.Tables.{arrays_in};
 ghost use Rattle.file.specs.Feeds.{Underway};
 
-use file::{OrderedTable, Run};
+use arrays::{LabelParts, OrderedTable};
+use file::Run;
 use std::io::{Read, Write};
 use streams::{Failed, Stream};
 
@@ -16,7 +17,7 @@ use streams::{Failed, Stream};
 fn serve_part<W: Write + Drop, E: Write + Drop>(
     run: &mut Run,
     last: bool,
-    table: &mut OrderedTable,
+    table: &mut OrderedTable<LabelParts>,
     part: &[u8],
     out: &mut [u8],
     output: &mut Stream<'_, W, E>,
@@ -44,7 +45,7 @@ fn serve_part<W: Write + Drop, E: Write + Drop>(
 fn read_part<R: Read + Drop, W: Write + Drop, E: Write + Drop>(
     run: &mut Run,
     kept: usize,
-    table: &mut OrderedTable,
+    table: &mut OrderedTable<LabelParts>,
     buf: &mut [u8],
     out: &mut [u8],
     input: &mut Stream<'_, R, E>,

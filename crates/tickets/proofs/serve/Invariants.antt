@@ -1,4 +1,4 @@
-use Rattle.std.proofs.Common.{◌≡◌, ◌-◌, ◌≤◌, ◌<◌, length}
+use Rattle.std.proofs.Common.{◌≡◌, ◌-◌, ◌<◌, length}
 use Rattle.file.specs.Tables.{arrays_in}
 use Rattle.file.specs.Feeds.{Underway}
 use Rattle.tickets.proofs.serve.Given as goal
