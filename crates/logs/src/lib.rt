@@ -209,7 +209,8 @@ pub fn start(
     ensures { BeginsFile file.now bytes.now list.new result }
 {
     let count = number_lines::read_numbers(bytes, list);
-    begin(file, list, count, count * 12 == bytes.len())
+    let whole = count * 12 == bytes.len();
+    begin(file, list, count, whole)
 }
 
 // Checks the log of a schedule file: its numbers, one for each accepted snap for a label, and its report. What is refused is refused before any step is run;
