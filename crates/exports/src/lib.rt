@@ -98,7 +98,8 @@ pub fn tickets_step_panel(
     engine::step_shown(count, request, labels, jobs, control, results, panel).into()
 }
 
-// What is told of a table: the documents' number, 0 if it is well-formed, and how many stations have the newest's label.
+// What is told of a table: the documents' number, 0 if it is well-formed, and how many stations have the newest's label. The C interface has a struct of its
+// own for it.
 #[repr(C)]
 #[derive(Clone, Copy)]
 pub struct Holders {

@@ -1,4 +1,5 @@
-// The static library: the functions of `exports` for programs in C and Rust, under the same names and with the same promises.
+// The static library: the functions of `exports` for programs in C and Rust, under the same names and with the same promises. A crate is a library or a static
+// library, so that these stand in one of their own.
 #![tactic(auto)]
 
 ghost use Rattle.std.specs.Prelude.{◌≡◌, map, length};

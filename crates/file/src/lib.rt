@@ -46,7 +46,8 @@ pub fn print_refusal(line: u64, refusal: Option<Refusal>, out: &mut [u8]) -> usi
     29
 }
 
-// Brings the scan order up to date after a move of the station at a place. Only an update can change it.
+// Brings the scan order up to date after a move of the station at a place. Only an update can change it. `unbounded` has the same over numbers, where `reorder`
+// is another, as is said there.
 fn refresh_order(m: Move, place: usize, rows: &[[u8; 31]; 32], n: usize, order: &mut [usize; 32])
     requires orderly { Orderly n rows.now }
     requires place_lt_n { place < n }
@@ -363,6 +364,7 @@ fn run_file(file: &[u8], out: &mut [u8]) -> Ending
     let mut scratch = [0u8; 4096];
     let mut length = 0;
     let mut at = 0;
+    // How far a part is served is known only then, so no range counts the places.
     loop {
         let part = schedule::from(file, at);
         let fed = feed(run, true, &mut table, part, &mut scratch);

@@ -94,6 +94,7 @@ fn read_on<R: Read + Drop, E: Write + Drop>(
     ensures told { IfSome (R.remaining input.old.stream) (λ bs. Tells (part.old ++ bs) part.new result) }
 {
     let mut lines = read_part(None, part)?;
+    // It ends with the input, or with a refusal; no range counts the parts.
     loop {
         let k = input.read_full(part)?;
         lines = read_part(lines, &part[..k])?;

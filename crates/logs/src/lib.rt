@@ -70,6 +70,7 @@ fn run_line(
 
 // How far the check of a log is, beside the table that is run: whether all is right so far; how many numbers there are, and how many of them are used up; the
 // place in the schedule, behind so many lines; and how many bytes the last step wrote to a buffer, and how many of these the report has shown.
+// All else is kept true whether the log is right so far or not, so `right` stands beside it.
 #[derive(Clone, Copy)]
 pub struct Progress {
     pub right: bool,
@@ -128,6 +129,7 @@ pub fn feed(
     let mut written = check.written;
     let mut shown = check.shown;
     let mut read = 0;
+    // The steps decide how far each turn goes, so no range counts the places.
     loop {
         if shown < written {
             let k = (written - shown).min(part.len() - read);

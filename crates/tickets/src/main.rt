@@ -29,6 +29,7 @@ fn serve_part<W: Write + Drop, E: Write + Drop>(
         × (18 * run.new.lines ≡ 18 * run.old.lines + count) × (run.new.lines ≤ 1000001))) }
 {
     let mut at = 0;
+    // How far the part is served is known only then, so no range counts the places.
     loop {
         let fed = file::feed(*run, last, table, &part[at..], out);
         *run = fed.run;
