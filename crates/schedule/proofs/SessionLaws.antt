@@ -3,27 +3,63 @@ use Prim.Native.Nat.{ℕ, ◌≤◌}
 use native.Mathlib.Omega.{arith}
 use mathlib.Core.Path.{◌≡◌, refl, ap, subst}
 use mathlib.Core.Logic.{◌≢◌}
-use mathlib.Core.Bool.{true, false, true≢false}
+use mathlib.Core.Bool.{Bool, true, false, ◌&&◌, cond, true≢false}
 use mathlib.Core.List as Lists
-use lib.ListN.{length}
-use Rattle.std.specs.Prelude.{None, Result, Ok, Err, is_some, IfOk}
+use lib.ListN.{length, get_or, take, drop}
+use lib.Dec.{eqb, ltb}
+use Rattle.std.specs.Prelude.{Option, Some, None, Result, Ok, Err, is_some, IfOk, IfErr}
 use Rattle.std.proofs.lemmas.Bool.Decides.{nat_tests}
+use Rattle.columns.specs.Reading.{column_read}
 use Rattle.simulation.specs.Calls.{Board, original, sized, Call, Buffer, Bytes, bytes_of}
 use Rattle.transition.specs.Forms.{Form}
 use Rattle.transition.proofs.Written.{Sized, sized_of}
 use Rattle.transition.proofs.Theorem.{Lawful, step_bytes, ReachedTable, table_fresh, table_passes, table_step}
 use Rattle.moves.specs.Moves.{refusal_number, final_number}
-use Rattle.moves.proofs.MoveLaws.{some_final, none_final}
+use Rattle.moves.proofs.MoveLaws.{positive, some_final, none_final}
 use Rattle.moves.specs.declared.Refusal.{Refusal}
+use Rattle.moves.specs.declared.Refusal.TheVariants.{IncompleteLine, TooManyLines}
 use Rattle.schedule.specs.Tables.{Tables, tables}
-use Rattle.schedule.specs.Lines.{line_read, next_line, header_said, header_read}
+use Rattle.schedule.specs.Lines.{step_read, line_read, next_line, header_said, header_read}
 use Rattle.schedule.specs.Sessions.{Session, session, is_final, Served, unmoved, ill_formed, opened_by, header_of, step_line, serve_of, Serves}
 use Rattle.schedule.specs.declared.Line.{Line}
 
--- A LINE THAT IS REFUSED WHEN IT IS READ: by 8, 9 or 12, so not by 7
+-- A LINE THAT IS REFUSED WHEN IT IS READ: by 8, 9 or 12, so what holds of these three holds of its number
+module _ (P : ℕ → Type 0) where
+  abbrev pub Says : Result Line Refusal → Type 0
+  Says l = IfErr l (λ r. P (refusal_number r))
+
+  module _ (eight : P 8) (nine : P 9) where
+    read_says : (x y z : Option ℕ) → Says (step_read x y z)
+    read_says None y z = nine
+    read_says (Some a) None z = nine
+    read_says (Some a) (Some b) None = nine
+    read_says (Some a) (Some b) (Some d) = tt
+
+    line_says : (l : Lists.List ℕ) → Says (line_read l)
+    unfolding line_read
+    line_says l = go (eqb (length l) 18 && eqb (get_or l 17 0) 10)
+      where
+        columns : Result Line Refusal
+        columns = step_read (column_read (take 3 l)) (column_read (take 3 (drop 3 l))) (column_read (take 11 (drop 6 l)))
+
+        go : (b : Bool) → Says (cond b columns (Err IncompleteLine))
+        go true = read_says (column_read (take 3 l)) (column_read (take 3 (drop 3 l))) (column_read (take 11 (drop 6 l)))
+        go false = eight
+
+    pub next_says : P 12 → (lines : ℕ) (l : Lists.List ℕ) → Says (next_line lines l)
+    next_says twelve lines l = go (ltb 1000000 lines)
+      where
+        go : (b : Bool) → Says (cond b (Err TooManyLines) (line_read l))
+        go true = twelve
+        go false = line_says l
+
+-- it has a number
+abbrev pub Numbered : Result Line Refusal → Type 0
+Numbered = Says (λ k. k ≢ 0)
+
+-- it is not 7
 pub next_long : (lines : ℕ) (l : Lists.List ℕ) (r : Refusal) → next_line lines l ≡ Err r → refusal_number r ≢ 7
-unfolding line_read
-next_long lines l r e z = grind (arith, nat_tests)
+next_long lines l r e = subst (Says (λ k. k ≢ 7)) e (next_says (λ k. k ≢ 7) (omega arith) (omega arith) (omega arith) lines l)
 
 -- a step has 18 bytes
 step_length : (l : Lists.List ℕ) (q : Line) → line_read l ≡ Ok q → length l ≡ 18
@@ -31,6 +67,12 @@ unfolding line_read
 step_length l q e = grind (arith, nat_tests)
 
 module _ (lines : ℕ) (l : Lists.List ℕ) where
+  pub next_numbered : Numbered (next_line lines l)
+  next_numbered = next_says (λ k. k ≢ 0) (omega arith) (omega arith) (omega arith) lines l
+
+  pub next_refused : (r : Refusal) → next_line lines l ≡ Err r → refusal_number r ≢ 0
+  next_refused r e = subst Numbered e next_numbered
+
   -- a line that is a step is whole, and none too many
   pub next_length : (q : Line) → next_line lines l ≡ Ok q → length l ≡ 18
   next_length q e = grind (arith, nat_tests, step_length l q)
@@ -52,6 +94,9 @@ module _ (B : Board) (l : Lists.List ℕ) where
   header_sound : Sound B (header_read B l)
   unfolding header_read
   header_sound = said_sound B (line_read l)
+
+  pub header_refused : (r : Refusal) → header_read B l ≡ Err r → refusal_number r ≢ 0
+  header_refused r e = positive r
 
   pub header_stations : 1 ≤ B.per_station → (n : ℕ) → header_read B l ≡ Ok n → Sized B n
   header_stations some n e = sized_of some (subst (Sound B) e header_sound)

@@ -123,7 +123,13 @@ pub fn take_turn(
         &mut table.parts.control,
         &mut table.parts.results,
     );
-    numbers::renumber(m, place, z, number.unwrap_or(0), &mut table.parts.labels);
+    numbers::renumber(
+        Ok(m),
+        place,
+        z,
+        number.unwrap_or(0),
+        &mut table.parts.labels,
+    );
     let parts = &table.parts;
     refresh_order(m, place, &parts.labels[CURRENT], n, &mut table.order);
     let used = used + usize::from(number.is_some());

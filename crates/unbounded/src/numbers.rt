@@ -2,12 +2,12 @@
 ghost use Rattle.std.specs.Prelude.{◌≡◌, ◌≢◌, true, ◌&&◌, cond, ◌++◌, ℕ, ◌-◌, ◌≤◌, ◌<◌, length, get_or, replicate, eqb, ltb, leb};
 ghost use Rattle.basics.specs.Tests.{ordered};
 ghost use Rattle.simulation.specs.Machine.{number_before, label_step};
-ghost use Rattle.moves.specs.Moves.{move_of};
+ghost use Rattle.moves.specs.Moves.{judged_of};
 ghost use Rattle.arrays.specs.Planes.{beside};
 ghost use Rattle.unbounded.specs.Numbers.{stands_by, order_by, NumberedBefore, stepped_by};
 
 use arrays::{CURRENT, PENDING};
-use moves::Move;
+use moves::{Move, Refusal};
 
 // Whether station i with the number u stands before station j with the number v.
 fn before(u: u32, i: usize, v: u32, j: usize) -> bool
@@ -72,17 +72,24 @@ pub fn fits(numbers: &[u32; 32], z: usize, k: usize, v: u64) -> bool
     u64::from(numbers[z]) < v && v <= 4294967295
 }
 
-// What a move of the station at this place makes of the numbers, where v is the number that a snap is given, unless by station z, the newest.
-pub fn renumber(m: Move, place: usize, z: usize, v: u32, numbers: &mut [[u32; 32]; 2])
+// What a judged call of the station at this place makes of the numbers, where v is the number that a snap is given, unless by station z, the newest. A refused
+// one leaves them.
+pub fn renumber(
+    action: Result<Move, Refusal>,
+    place: usize,
+    z: usize,
+    v: u32,
+    numbers: &mut [[u32; 32]; 2],
+)
     requires { place < 32 }
-    ensures { beside numbers.new ≡ stepped_by z v (beside numbers.old) (label_step (move_of place 0 m)) }
+    ensures { beside numbers.new ≡ stepped_by z v (beside numbers.old) (label_step (judged_of place 0 action)) }
 {
     arrays::sized(*numbers);
-    match m {
-        Move::SnapLabel if place != z => {
+    match action {
+        Ok(Move::SnapLabel) if place != z => {
             numbers[PENDING][place] = v;
         }
-        Move::Update => {
+        Ok(Move::Update) => {
             numbers[CURRENT][place] = numbers[PENDING][place];
         }
         _ => {}
