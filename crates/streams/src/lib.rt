@@ -1,7 +1,7 @@
 // Input and output for programs that end with a line on standard error where one of them fails.
 #![tactic(auto)]
 
-ghost use Rattle.std.specs.Prelude.{◌<◌, take, length, IfOk, IfSome, OnOk};
+ghost use Rattle.std.specs.Prelude.{◌≡◌, ◌<◌, take, length, IfOk, IfSome, OnOk};
 ghost use Rattle.std.specs.Io.KnownBytes.{Appends, Consumes, IsAtEnd};
 ghost use Rattle.streams.specs.Clauses.{Descriptor, IsPrefixLen};
 
@@ -35,6 +35,7 @@ impl<R: Read + Drop, E: Write + Drop> Stream<'_, R, E> {
         ensures prefix_len { IfOk result (λ n. IsPrefixLen n buf.new) }
         ensures bytes { IfOk result (λ n. Consumes (R.remaining self.old.stream) (R.remaining self.new.stream) (take n buf.new)) }
         ensures end { IfOk result (λ n. n < length buf.new → IsAtEnd (R.remaining self.new.stream)) }
+        ensures kept { self.new.complaint ≡ self.old.complaint }
     {
         let mut count = 0;
         // A read may give any number of bytes, so no range counts them.
@@ -55,7 +56,8 @@ impl<R: Read + Drop, E: Write + Drop> Stream<'_, R, E> {
 impl<W: Write + Drop, E: Write + Drop> Stream<'_, W, E> {
     // Writes all bytes; complains if they cannot be written.
     pub fn write_all(&mut self, bytes: &[u8]) -> Result<(), Failed>
-        ensures { OnOk result (Appends (W.contents self.old.stream) (W.contents self.new.stream) bytes.now) }
+        ensures written { OnOk result (Appends (W.contents self.old.stream) (W.contents self.new.stream) bytes.now) }
+        ensures kept { self.new.complaint ≡ self.old.complaint }
     {
         self.stream
             .write_all(bytes)

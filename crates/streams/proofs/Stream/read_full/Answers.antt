@@ -11,4 +11,4 @@ front a k n xs ys within fits = grind (arith, take-append-add, take-append-le, l
 
 pub loop-count-preserved : goal.loop-count-preserved
 loop-count-preserved g c =
-    (search rules, search rules, grind (arith, front, Consumes-trans))
+    (search rules, search rules, grind (arith, front, Consumes-trans), search rules)
