@@ -86,19 +86,20 @@ impl From<Refusal> for Unread {
 }
 
 // Reads on behind a full buffer, part after part, until the input ends or nothing that follows can change what is told.
-fn read_on<R: Read + Drop, E: Write + Drop>(
-    input: &mut Stream<'_, R, E>,
+fn read_on<R: Read, E: Write>(
+    input: &mut R,
     part: &mut [u8],
+    errors: &mut E,
+    complaint: &[u8],
 ) -> Result<usize, Unread>
     requires { length part.old ≡ 73764 }
     ensures taken { Taken part.new result }
-    ensures told { IfSome (R.remaining input.old.stream) (λ bs. Tells (part.old ++ bs) part.new result) }
-    ensures kept { input.new.complaint ≡ input.old.complaint }
+    ensures told { IfSome (R.remaining input.old) (λ bs. Tells (part.old ++ bs) part.new result) }
 {
     let mut lines = read_part(Ok(None), part)?;
     // It ends with the input, or with a refusal; no range counts the parts.
     loop {
-        let k = input.read_full(part)?;
+        let k = streams::read_input(input, part, errors, complaint)?;
         lines = read_part(Ok(lines), &part[..k])?;
         if k < part.len() {
             return Err(told(Ok(lines)).unwrap().into());
@@ -108,7 +109,24 @@ fn read_on<R: Read + Drop, E: Write + Drop>(
 
 // Reads a schedule, and hands back how many bytes at the front of the buffer are all of it. If it is longer than the buffer, it is read no further than the
 // part by which its refusal is known. Complains if it cannot be read.
-pub fn read_schedule<R: Read + Drop, E: Write + Drop>(
+pub fn read_schedule_from<R: Read, E: Write>(
+    input: &mut R,
+    part: &mut [u8; ROOM],
+    errors: &mut E,
+    complaint: &[u8],
+) -> Result<usize, Unread>
+    ensures taken { Taken part.new result }
+    ensures told { IfSome (R.remaining input.old) (λ bs. Tells bs part.new result) }
+{
+    let count = streams::read_input(input, part, errors, complaint)?;
+    if count < part.len() {
+        return Ok(count);
+    }
+    read_on(input, part, errors, complaint)
+}
+
+// `read_schedule_from` the stream.
+pub fn read_schedule<R: Read, E: Write>(
     input: &mut Stream<'_, R, E>,
     part: &mut [u8; ROOM],
 ) -> Result<usize, Unread>
@@ -116,9 +134,5 @@ pub fn read_schedule<R: Read + Drop, E: Write + Drop>(
     ensures told { IfSome (R.remaining input.old.stream) (λ bs. Tells bs part.new result) }
     ensures kept { input.new.complaint ≡ input.old.complaint }
 {
-    let count = input.read_full(part)?;
-    if count < part.len() {
-        return Ok(count);
-    }
-    read_on(input, part)
+    read_schedule_from(&mut input.stream, part, &mut input.errors, input.complaint)
 }
