@@ -125,7 +125,7 @@ pub fn read_schedule_from<R: Read, E: Write>(
     read_on(input, part, errors, complaint)
 }
 
-// `read_schedule_from` the stream.
+// Reads a schedule from the stream as `read_schedule_from` does.
 pub fn read_schedule<R: Read, E: Write>(
     input: &mut Stream<'_, R, E>,
     part: &mut [u8; ROOM],

@@ -69,7 +69,7 @@ pub fn write_output<W: Write, E: Write>(
 }
 
 impl<R: Read, E: Write> Stream<'_, R, E> {
-    // `read_input` from the stream.
+    // Reads from the stream as `read_input` does.
     pub fn read_full(&mut self, buf: &mut [u8]) -> Result<usize, Failed>
         ensures prefix_len { IfOk result (λ n. IsPrefixLen n buf.new) }
         ensures bytes { IfOk result (λ n. Consumes (R.remaining self.old.stream) (R.remaining self.new.stream) (take n buf.new)) }
@@ -81,7 +81,7 @@ impl<R: Read, E: Write> Stream<'_, R, E> {
 }
 
 impl<W: Write, E: Write> Stream<'_, W, E> {
-    // `write_output` to the stream.
+    // Writes to the stream as `write_output` does.
     pub fn write_all(&mut self, bytes: &[u8]) -> Result<(), Failed>
         ensures written { OnOk result (Appends (W.contents self.old.stream) (W.contents self.new.stream) bytes.now) }
         ensures kept { self.new.complaint ≡ self.old.complaint }
