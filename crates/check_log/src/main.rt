@@ -16,7 +16,7 @@ const PART: usize = 32768;
 
 // Checks a log whose schedule is not too long, with the bytes of its numbers: reads the report part by part, until it ends or the log is known not to be
 // right, and answers whether it is right.
-fn check_log<R: Read + Drop, E: Write + Drop>(
+fn check_log<R: Read, E: Write>(
     file: &[u8],
     bytes: &[u8],
     report: &mut Stream<'_, R, E>,
@@ -35,7 +35,7 @@ fn check_log<R: Read + Drop, E: Write + Drop>(
 }
 
 // Reads the schedule, which may be refused, then the numbers, and the report.
-fn check_files<S: Read + Drop, N: Read + Drop, R: Read + Drop, E: Write + Drop>(
+fn check_files<S: Read, N: Read, R: Read, E: Write>(
     schedule: &mut Stream<'_, S, E>,
     numbers: &mut Stream<'_, N, E>,
     report: &mut Stream<'_, R, E>,

@@ -39,12 +39,12 @@ fn read_first(part: &[u8]) -> Result<Option<u32>, Refusal>
 }
 
 // Reads one part more of a file, of which no line is run: whole lines, or all that is left of it. So many lines are read before it and behind it, the header
-// among them, or the header is still to come. An error is what is told of the file, whatever follows.
-pub fn read_part(lines: Option<u32>, part: &[u8]) -> Result<Option<u32>, Refusal>
-    requires { Within (Ok lines) }
-    ensures { ReadsPart (Ok lines) part.now result }
+// among them, or the header is still to come. A refusal is what is told of the file, whatever follows, and stays.
+pub fn read_part(reading: Result<Option<u32>, Refusal>, part: &[u8]) -> Result<Option<u32>, Refusal>
+    requires { Within reading }
+    ensures { ReadsPart reading part.now result }
 {
-    match lines {
+    match reading? {
         None => read_first(part),
         Some(lines) => read_lines(lines, part),
     }
@@ -52,12 +52,13 @@ pub fn read_part(lines: Option<u32>, part: &[u8]) -> Result<Option<u32>, Refusal
 
 // What is told of a file that ends here.
 #[tactic(auto, using(crate::proofs::Parts::told_start, crate::proofs::Parts::told_lines))]
-pub fn told(lines: Option<u32>) -> Option<Refusal>
-    ensures { result ≡ ahead_read (Ok lines) [] }
+pub fn told(reading: Result<Option<u32>, Refusal>) -> Option<Refusal>
+    ensures { result ≡ ahead_read reading [] }
 {
-    match lines {
-        None => Some(Refusal::IncompleteLine),
-        Some(lines) => (4097 < lines).then_some(Refusal::TooManySteps),
+    match reading {
+        Ok(None) => Some(Refusal::IncompleteLine),
+        Ok(Some(lines)) => (4097 < lines).then_some(Refusal::TooManySteps),
+        Err(refusal) => Some(refusal),
     }
 }
 
@@ -85,37 +86,53 @@ impl From<Refusal> for Unread {
 }
 
 // Reads on behind a full buffer, part after part, until the input ends or nothing that follows can change what is told.
-fn read_on<R: Read + Drop, E: Write + Drop>(
-    input: &mut Stream<'_, R, E>,
+fn read_on<R: Read, E: Write>(
+    input: &mut R,
     part: &mut [u8],
+    errors: &mut E,
+    complaint: &[u8],
 ) -> Result<usize, Unread>
     requires { length part.old ≡ 73764 }
     ensures taken { Taken part.new result }
-    ensures told { IfSome (R.remaining input.old.stream) (λ bs. Tells (part.old ++ bs) part.new result) }
+    ensures told { IfSome (R.remaining input.old) (λ bs. Tells (part.old ++ bs) part.new result) }
 {
-    let mut lines = read_part(None, part)?;
+    let mut lines = read_part(Ok(None), part)?;
     // It ends with the input, or with a refusal; no range counts the parts.
     loop {
-        let k = input.read_full(part)?;
-        lines = read_part(lines, &part[..k])?;
+        let k = streams::read_input(input, part, errors, complaint)?;
+        lines = read_part(Ok(lines), &part[..k])?;
         if k < part.len() {
-            return Err(told(lines).unwrap().into());
+            return Err(told(Ok(lines)).unwrap().into());
         }
     }
 }
 
 // Reads a schedule, and hands back how many bytes at the front of the buffer are all of it. If it is longer than the buffer, it is read no further than the
 // part by which its refusal is known. Complains if it cannot be read.
-pub fn read_schedule<R: Read + Drop, E: Write + Drop>(
+pub fn read_schedule_from<R: Read, E: Write>(
+    input: &mut R,
+    part: &mut [u8; ROOM],
+    errors: &mut E,
+    complaint: &[u8],
+) -> Result<usize, Unread>
+    ensures taken { Taken part.new result }
+    ensures told { IfSome (R.remaining input.old) (λ bs. Tells bs part.new result) }
+{
+    let count = streams::read_input(input, part, errors, complaint)?;
+    if count < part.len() {
+        return Ok(count);
+    }
+    read_on(input, part, errors, complaint)
+}
+
+// Reads a schedule from the stream as `read_schedule_from` does.
+pub fn read_schedule<R: Read, E: Write>(
     input: &mut Stream<'_, R, E>,
     part: &mut [u8; ROOM],
 ) -> Result<usize, Unread>
     ensures taken { Taken part.new result }
     ensures told { IfSome (R.remaining input.old.stream) (λ bs. Tells bs part.new result) }
+    ensures kept { input.new.complaint ≡ input.old.complaint }
 {
-    let count = input.read_full(part)?;
-    if count < part.len() {
-        return Ok(count);
-    }
-    read_on(input, part)
+    read_schedule_from(&mut input.stream, part, &mut input.errors, input.complaint)
 }

@@ -26,7 +26,7 @@ fn print_file(file: &[u8], list: &mut [u32], out: &mut [u8]) -> usize
 }
 
 // Reads a schedule file and writes what is printed for it.
-fn answer<R: Read + Drop, W: Write + Drop, E: Write + Drop>(
+fn answer<R: Read, W: Write, E: Write>(
     input: &mut Stream<'_, R, E>,
     output: &mut Stream<'_, W, E>,
 ) -> Result<(), Failed>

@@ -1,7 +1,7 @@
 // Input and output for programs that end with a line on standard error where one of them fails.
 #![tactic(auto)]
 
-ghost use Rattle.std.specs.Prelude.{◌<◌, take, length, IfOk, IfSome, OnOk};
+ghost use Rattle.std.specs.Prelude.{◌≡◌, ◌<◌, take, length, IfOk, IfSome, OnOk};
 ghost use Rattle.std.specs.Io.KnownBytes.{Appends, Consumes, IsAtEnd};
 ghost use Rattle.streams.specs.Clauses.{Descriptor, IsPrefixLen};
 
@@ -17,7 +17,7 @@ pub struct Failed;
 
 // A stream, and what is written to `errors` where it fails.
 #[derive(Drop)]
-pub struct Stream<'a, S: Drop, E: Drop> {
+pub struct Stream<'a, S, E> {
     pub stream: S,
     pub errors: E,
     pub complaint: &'a [u8],
@@ -29,37 +29,64 @@ fn complain<E: Write>(errors: &mut E, complaint: &[u8]) -> Failed {
     Failed
 }
 
-impl<R: Read + Drop, E: Write + Drop> Stream<'_, R, E> {
-    // Reads until `buf` is full or the input ends, and hands back how many bytes were read; complains if it cannot be read.
+// Reads until `buf` is full or the input ends, and hands back how many bytes were read; complains if it cannot be read.
+pub fn read_input<R: Read, E: Write>(
+    input: &mut R,
+    buf: &mut [u8],
+    errors: &mut E,
+    complaint: &[u8],
+) -> Result<usize, Failed>
+    ensures prefix_len { IfOk result (λ n. IsPrefixLen n buf.new) }
+    ensures bytes { IfOk result (λ n. Consumes (R.remaining input.old) (R.remaining input.new) (take n buf.new)) }
+    ensures end { IfOk result (λ n. n < length buf.new → IsAtEnd (R.remaining input.new)) }
+{
+    let mut count = 0;
+    // A read may give any number of bytes, so no range counts them.
+    while count < buf.len() {
+        let k = input
+            .read(&mut buf[count..])
+            .map_err(|_| complain(errors, complaint))?;
+        if k == 0 {
+            return Ok(count);
+        }
+        count += k;
+    }
+    Ok(count)
+}
+
+// Writes all bytes; complains if they cannot be written.
+pub fn write_output<W: Write, E: Write>(
+    output: &mut W,
+    bytes: &[u8],
+    errors: &mut E,
+    complaint: &[u8],
+) -> Result<(), Failed>
+    ensures { OnOk result (Appends (W.contents output.old) (W.contents output.new) bytes.now) }
+{
+    output
+        .write_all(bytes)
+        .map_err(|_| complain(errors, complaint))
+}
+
+impl<R: Read, E: Write> Stream<'_, R, E> {
+    // Reads from the stream as `read_input` does.
     pub fn read_full(&mut self, buf: &mut [u8]) -> Result<usize, Failed>
         ensures prefix_len { IfOk result (λ n. IsPrefixLen n buf.new) }
         ensures bytes { IfOk result (λ n. Consumes (R.remaining self.old.stream) (R.remaining self.new.stream) (take n buf.new)) }
         ensures end { IfOk result (λ n. n < length buf.new → IsAtEnd (R.remaining self.new.stream)) }
+        ensures kept { self.new.complaint ≡ self.old.complaint }
     {
-        let mut count = 0;
-        // A read may give any number of bytes, so no range counts them.
-        while count < buf.len() {
-            let k = self
-                .stream
-                .read(&mut buf[count..])
-                .map_err(|_| complain(&mut self.errors, self.complaint))?;
-            if k == 0 {
-                return Ok(count);
-            }
-            count += k;
-        }
-        Ok(count)
+        read_input(&mut self.stream, buf, &mut self.errors, self.complaint)
     }
 }
 
-impl<W: Write + Drop, E: Write + Drop> Stream<'_, W, E> {
-    // Writes all bytes; complains if they cannot be written.
+impl<W: Write, E: Write> Stream<'_, W, E> {
+    // Writes to the stream as `write_output` does.
     pub fn write_all(&mut self, bytes: &[u8]) -> Result<(), Failed>
-        ensures { OnOk result (Appends (W.contents self.old.stream) (W.contents self.new.stream) bytes.now) }
+        ensures written { OnOk result (Appends (W.contents self.old.stream) (W.contents self.new.stream) bytes.now) }
+        ensures kept { self.new.complaint ≡ self.old.complaint }
     {
-        self.stream
-            .write_all(bytes)
-            .map_err(|_| complain(&mut self.errors, self.complaint))
+        write_output(&mut self.stream, bytes, &mut self.errors, self.complaint)
     }
 }
 

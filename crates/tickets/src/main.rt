@@ -14,7 +14,7 @@ use streams::{Failed, Stream};
 
 // Serves a part of the file, and prints its report: whenever the output buffer has no room for another line, and at the end. If there is more to read, since
 // the part is not the last and no line is refused for good, it hands back how many bytes of the part were served.
-fn serve_part<W: Write + Drop, E: Write + Drop>(
+fn serve_part<W: Write, E: Write>(
     run: &mut Run,
     last: bool,
     table: &mut OrderedTable<LabelParts>,
@@ -43,7 +43,7 @@ fn serve_part<W: Write + Drop, E: Write + Drop>(
 
 // Reads a part of the file behind the bytes that are kept, and serves it. A part that is not full is the last. If there is more to read, it hands back how many
 // bytes are kept at the front of the buffer for the next part.
-fn read_part<R: Read + Drop, W: Write + Drop, E: Write + Drop>(
+fn read_part<R: Read, W: Write, E: Write>(
     run: &mut Run,
     kept: usize,
     table: &mut OrderedTable<LabelParts>,
@@ -69,7 +69,7 @@ fn read_part<R: Read + Drop, W: Write + Drop, E: Write + Drop>(
 }
 
 // Serves part after part. Each that is not the last counts its lines, which end with the 1,000,001st.
-fn serve<R: Read + Drop, W: Write + Drop, E: Write + Drop>(
+fn serve<R: Read, W: Write, E: Write>(
     input: &mut Stream<'_, R, E>,
     output: &mut Stream<'_, W, E>,
 ) -> Result<(), Failed> {

@@ -16,13 +16,13 @@ pub returns-in_err-lines-2-clause-taken : goal.returns-in_err-lines-2-clause-tak
 returns-in_err-lines-2-clause-taken g c =
     let p = err_from_is_err_and c.from_residual-in_err-lines-2.result c.from_residual-in_err-lines-2.ensures.1 in
     rw (p.1, p.2) (next_refused c.loop-k.invariant _ _ c.in_ok-k.ensures.prefix_len.0 c.in_err-lines-2.ensures _ c.in_ok-k.ensures.bytes
-    (c.read_full.auto.buf ∙ c.loop-k.invariant.sofar.full))
+    (c.read_input.auto.buf ∙ c.loop-k.invariant.sofar.full))
 
 pub returns-in_err-lines-2-clause-told : goal.returns-in_err-lines-2-clause-told
 returns-in_err-lines-2-clause-told g c =
     let p = err_from_is_err_and c.from_residual-in_err-lines-2.result c.from_residual-in_err-lines-2.ensures.1 in
     rw (p.1, p.2) (next_told c.loop-k.invariant _ _ c.in_ok-k.ensures.prefix_len.0 c.in_err-lines-2.ensures _ c.in_ok-k.ensures.bytes
-    (c.read_full.auto.buf ∙ c.loop-k.invariant.sofar.full) c.in_ok-k.ensures.end)
+    (c.read_input.auto.buf ∙ c.loop-k.invariant.sofar.full) c.in_ok-k.ensures.end)
 
 pub unwrap-requires : goal.unwrap-requires
 unwrap-requires g c = rw c.told.ensures (sofar_told c.loop-k.invariant.sofar _ _ c.in_ok-k.ensures.prefix_len.0 c.in_ok-lines-2.ensures)
@@ -33,4 +33,4 @@ returns-then-k-part-clause-taken g c = rw c.into.ensures (sofar_ends c.loop-k.in
 pub loop-k-preserved : goal.loop-k-preserved
 loop-k-preserved g c =
     passed_more c.loop-k.invariant _ _ c.in_ok-k.ensures.prefix_len.0 c.in_ok-lines-2.ensures _ c.in_ok-k.ensures.bytes
-    (c.read_full.auto.buf ∙ c.loop-k.invariant.sofar.full) c.if-k-part.false
+    (c.read_input.auto.buf ∙ c.loop-k.invariant.sofar.full) c.if-k-part.false

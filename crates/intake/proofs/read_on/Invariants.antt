@@ -5,7 +5,7 @@ use Rattle.intake.proofs.Parts.{Passed}
 use Rattle.intake.proofs.read_on.Given as goal
 
 abbrev pub invariant-loop-k : goal.invariant-loop-k
-invariant-loop-k g l = Passed (g.R.Read.remaining l.initial.input.stream) (g.R.Read.remaining l.input.stream) l.initial.part l.part (Ok l.lines)
+invariant-loop-k g l = Passed (g.R.Read.remaining l.initial.input) (g.R.Read.remaining l.input) l.initial.part l.part (Ok l.lines)
 
 abbrev pub decreases-loop-k : goal.decreases-loop-k
 decreases-loop-k g l = lines_left (Ok l.lines)

@@ -4,7 +4,7 @@ use Rattle.std.proofs.lemmas.List.{take-append-le}
 use Rattle.std.proofs.Math.Seq.{take-append-add}
 use Rattle.std.proofs.KnownBytes.{Consumes-trans}
 use borrow.Rule.Slice.PartMut.{put_mid}
-use Rattle.streams.proofs.Stream.read_full.Goals as goal
+use Rattle.streams.proofs.read_input.Goals as goal
 
 front : (a k n : ℕ) (xs ys : List ℕ) → a ≤ length xs → n ≤ length ys → take (a + n) (put_mid a k xs ys) ≡ take a xs ++ take n ys
 front a k n xs ys within fits = grind (arith, take-append-add, take-append-le, length-take-le)
