@@ -123,10 +123,10 @@ fn run<C: Calls>(rt: &HostRuntime, file: &[u8]) {
 
 // Reads the input, at most as many bytes as there is room for; what cannot be read ends it.
 fn main(rt: HostRuntime) {
-    let mut file = Cursor::new([0; 262144]);
+    let mut buffer = [0; 262144];
+    let mut file = Cursor::new(&mut buffer[..]);
     let _ = io::copy(&mut rt.stdin().take(262144), &mut file);
     let n = (file.position() as usize).min(262144);
-    let bytes = file.into_inner();
-    run::<ByValue>(&rt, &bytes[..n]);
-    run::<Lent>(&rt, &bytes[..n]);
+    run::<ByValue>(&rt, &buffer[..n]);
+    run::<Lent>(&rt, &buffer[..n]);
 }

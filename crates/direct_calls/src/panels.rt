@@ -7,18 +7,20 @@ const OLD: u32 = 99999;
 
 // Shows a record: a dot if it is as before the call.
 fn show(rt: &HostRuntime, r: Record) {
-    let _ = match r {
+    match r {
         Record {
             place: OLD,
             station: OLD,
             job: OLD,
-        } => print!(rt; "."),
+        } => crate::text(rt, b"."),
         Record {
             place,
             station,
             job,
-        } => print!(rt; " {place}:{station}:{job}"),
-    };
+        } => {
+            let _ = print!(rt; " {place}:{station}:{job}");
+        }
+    }
 }
 
 // Makes a step call that lends so many records, and shows all records, those that were not lent too, and the reply.

@@ -205,6 +205,36 @@ pub struct Fed {
     pub more: bool,
 }
 
+// A table of n stations with nothing in it, to be written over: a value that is all zeros but for this number is made where it stands, and copied nowhere.
+pub fn blank(n: usize) -> OrderedTable<LabelParts>
+    ensures { result.count ≡ n }
+{
+    OrderedTable {
+        count: n,
+        order: [0; 32],
+        parts: arrays::fresh_beside([[[0; 31]; 32]; 2]),
+    }
+}
+
+// Writes the fresh table of n stations, with its scan order, over what is lent.
+pub fn refresh(n: usize, table: &mut OrderedTable<LabelParts>)
+    requires { (2 ≤ n) × (n ≤ 32) }
+    ensures count_value { table.new.count ≡ n }
+    ensures value { arrays_in table.new ≡ fresh_table lent n }
+    ensures runnable { Runnable (arrays_in table.new) table.new.order }
+{
+    let parts = &mut table.parts;
+    arrays::refresh(
+        n,
+        &mut parts.labels,
+        &mut parts.jobs,
+        &mut parts.control,
+        &mut parts.results,
+    );
+    table.order = rows::order::order(&table.parts.labels[CURRENT], n);
+    table.count = n;
+}
+
 // The fresh table of n stations, with its scan order.
 pub fn fresh(n: usize) -> OrderedTable<LabelParts>
     requires { (2 ≤ n) × (n ≤ 32) }
@@ -212,12 +242,21 @@ pub fn fresh(n: usize) -> OrderedTable<LabelParts>
     ensures value { arrays_in result ≡ fresh_table lent n }
     ensures runnable { Runnable (arrays_in result) result.order }
 {
-    let parts = arrays::fresh_parts();
-    let order = rows::order::order(&parts.labels[CURRENT], n);
-    OrderedTable {
-        count: n,
-        order,
-        parts,
+    let mut table = blank(n);
+    refresh(n, &mut table);
+    table
+}
+
+// A run before its first line, for whose table the fresh one of 2 stations is written over what is lent.
+fn start_on(table: &mut OrderedTable<LabelParts>) -> Run
+    ensures run_value { result ≡ record { lines = 0; refusal = None } }
+    ensures table_value { arrays_in table.new ≡ fresh_table lent 2 }
+    ensures underway { Underway result (arrays_in table.new) table.new.order }
+{
+    refresh(2, table);
+    Run {
+        lines: 0,
+        refusal: None,
     }
 }
 
@@ -227,11 +266,9 @@ pub fn start() -> (Run, OrderedTable<LabelParts>)
     ensures table_value { arrays_in result.1 ≡ fresh_table lent 2 }
     ensures underway { Underway result.0 (arrays_in result.1) result.1.order }
 {
-    let run = Run {
-        lines: 0,
-        refusal: None,
-    };
-    (run, fresh(2))
+    let mut table = blank(2);
+    let run = start_on(&mut table);
+    (run, table)
 }
 
 // Where the lines of a part end that can be served: behind the whole ones, and at the end of the last part.
@@ -287,7 +324,7 @@ fn open_part(
         return Ok(None);
     }
     let n = schedule::read_header(schedule::line_at(part, 0))?;
-    *table = fresh(n);
+    refresh(n, table);
     Ok(Some(Opening { lines: 1, at: 18 }))
 }
 
@@ -360,7 +397,8 @@ struct Ending {
 fn run_file(file: &[u8], out: &mut [u8]) -> Ending
     ensures { RunsFile file.now result out.old out.new }
 {
-    let (mut run, mut table) = start();
+    let mut table = blank(2);
+    let mut run = start_on(&mut table);
     let mut scratch = [0u8; 4096];
     let mut length = 0;
     let mut at = 0;

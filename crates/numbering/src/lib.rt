@@ -233,7 +233,8 @@ fn number_lines(n: usize, rest: &[u8], list: &mut [u32]) -> usize
     ensures value { result ≡ length (numbers_of original n (step_calls original 1 (lines_of rest.now))) }
     ensures list_after { list.new ≡ over (numbers_of original n (step_calls original 1 (lines_of rest.now))) list.old }
 {
-    let mut table = file::fresh(n);
+    let mut table = file::blank(n);
+    file::refresh(n, &mut table);
     let mut numbers = [[0u32; 32]; 2];
     let mut count = 0;
     let mut lines: u32 = 1;

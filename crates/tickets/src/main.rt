@@ -57,6 +57,7 @@ fn read_part<R: Read, W: Write, E: Write>(
     requires in_bounds { 928 ≤ length out.old }
     ensures underway_2 { Underway run.new (arrays_in table.new) table.new.order }
     ensures kept_bound_2 { IfOk result (λ more. IfSome more (λ count. (count < 18) × (run.old.lines < run.new.lines) × (run.new.lines ≤ 1000001))) }
+    ensures all_read { IfOk result (λ more. IfSome more (λ count. 18 * run.new.lines + count ≡ 18 * run.old.lines + length buf.old)) }
 {
     let count = input.read_full(&mut buf[kept..])?;
     let end = kept + count;

@@ -22,12 +22,12 @@ returns-then-run-ne0 c =
     let g = going (goal.at.returns-then-run-ne0 c).Else-is_some in
     (opened_steps c.args.run _ c.args.part.now g c.if-run-ne0.true (c.requires.few g), c.requires.runnable)
 
-pub fresh-requires : goal.fresh-requires
-fresh-requires c = original_stations _ _ (said (goal.at.fresh-requires c).In_ok-n)
+pub refresh-requires : goal.refresh-requires
+refresh-requires c = original_stations _ _ (said (goal.at.refresh-requires c).In_ok-n)
 
 pub returns : goal.returns
 returns c =
     let g = going (goal.at.returns c).Else-is_some in (
-      opened_header c.args.run _ c.args.last c.args.part.now g c.if-run-ne0.false c.line_at.ensures (said (goal.at.returns c).In_ok-n) c.fresh.ensures.value,
-      c.fresh.ensures.runnable,
+      opened_header c.args.run _ c.args.last c.args.part.now g c.if-run-ne0.false c.line_at.ensures (said (goal.at.returns c).In_ok-n) c.refresh.ensures.value,
+      c.refresh.ensures.runnable,
     )

@@ -11,7 +11,7 @@ kept : (y : After-feed-fed) → length y.feed-fed.new.out ≡ 4096
 kept y = y.feed-fed.auto.out ∙ y.loop-table.invariant.2
 
 pub loop-table-init : goal.loop-table-init
-loop-table-init c = let started = c.start.ensures in (gathered_start _ _ started.run_value started.table_value, started.underway, search rules)
+loop-table-init c = let started = c.start_on-run.ensures in (gathered_start _ _ started.run_value started.table_value, started.underway, search rules)
 
 pub returns-then-not-fed : goal.returns-then-not-fed
 returns-then-not-fed c =

@@ -27,7 +27,7 @@ pub loop-request-init : goal.loop-request-init
 loop-request-init c =
     let low = c.requires.le_n.0 in
     let high = c.requires.le_n.1 in
-    let fresh = c.fresh-table.ensures in
+    let fresh = c.refresh.ensures in
     (sofar_start c.args.n low high _ _ c.requires.rest_in_bounds fresh.value none_beside, fresh.runnable, fresh.count_value)
 
 pub returns-in-Ok-None : goal.returns-in-Ok-None
