@@ -36,19 +36,9 @@ fn fill(panel: &mut [Record], entries: &[Entry])
 pub fn step(t: Table, code: u64, station: u64, job: u64, panel: &mut [Record]) -> Outcome
     ensures { Shows t code station job panel.old result.table result.reply panel.new }
 {
-    match step::with_panel(t, code, station, job, panel.len()) {
-        Ok(next) => {
-            fill(panel, &next.entries[..next.count]);
-            Outcome {
-                table: next.table,
-                reply: Ok(next.count),
-            }
-        }
-        Err(refusal) => Outcome {
-            table: t,
-            reply: Err(refusal),
-        },
-    }
+    let mut own = t;
+    let reply = step_lent(&mut own, code, station, job, panel);
+    Outcome { table: own, reply }
 }
 
 // A step call on a table that its owner lends.
@@ -61,9 +51,10 @@ pub fn step_lent(
 ) -> Result<usize, Refusal>
     ensures { Shows t.old code station job panel.old t.new result panel.new }
 {
-    let next = step(*t, code, station, job, panel);
+    let next = step::with_panel(*t, code, station, job, panel.len())?;
     *t = next.table;
-    next.reply
+    fill(panel, &next.entries[..next.count]);
+    Ok(next.count)
 }
 
 // What an owner has after a call: the table, the reply and its records.
